@@ -1,0 +1,39 @@
+#!/usr/bin/env bash
+# Time and peak memory of `allocd check` on the largest document, beside those of serde_json alone on the same text.
+# usage: bench/check.sh [RUNS]      (5 where left out; the least processor time of the runs is printed)
+set -eu
+root=$(cd "$(dirname "$0")/.." && pwd)
+runs=${1:-5}
+document=$(mktemp)
+trap 'rm -f "$document" "$document.time"' EXIT
+python3 "$root/bench/dense_document.py" > "$document"
+"$root/allocd" check < "$root/examples/one-of-two.json" > /dev/null
+(cd "$root/crates/json_alone" && rt run < stdin > /dev/null 2>&1)
+
+# least seconds and most kilobytes of the runs of a command on the document
+measure() {
+    python3 - "$document" "$runs" "$@" <<'PY'
+import os, subprocess, sys
+document, runs, command = sys.argv[1], int(sys.argv[2]), sys.argv[3:]
+least, most = None, 0
+for _ in range(runs):
+    with open(document, "rb") as text:
+        process = subprocess.Popen(command, stdin=text, stdout=subprocess.DEVNULL)
+        _, status, usage = os.wait4(process.pid, 0)
+        seconds = usage.ru_utime + usage.ru_stime
+    if os.waitstatus_to_exitcode(status) != 0:
+        sys.exit(f"{command}: status {status}")
+    least = seconds if least is None else min(least, seconds)
+    most = max(most, usage.ru_maxrss)
+print(f"{least:.3f} {most / 1024:.0f}")
+PY
+}
+
+read -r json_seconds json_memory < <(measure "$root/crates/json_alone/out/json_alone")
+read -r check_seconds check_memory < <(measure "$root/crates/allocd/out/allocd" check)
+echo "document: $(stat -c %s "$document") bytes, 16,384 items, 256 bins, 4,194,304 allowed pairs"
+echo "| program | processor seconds | MB at the most |"
+echo "|---|---|---|"
+echo "| serde_json alone | $json_seconds | $json_memory |"
+echo "| allocd check | $check_seconds | $check_memory |"
+python3 -c "print(f'check takes {$check_seconds / $json_seconds:.2f} times as long as serde_json alone')"
