@@ -1,0 +1,41 @@
+-- The form in which a document is written: it has no float and few levels, so its text is known and reads back.
+use Rattle.std.proofs.Common.{◌≡◌, ◌≤◌, ℕ, false, List, [], ◌∷◌, Some, Result, Ok, Err, Vec, Global, IfOk, IsUtf8, refl, sym, ap, subst, ◌∙◌, arith}
+use Rattle.std.proofs.Math.Nat.{max-le}
+use Rattle.std.proofs.lemmas.Bool.{or_from}
+use Rattle.std.specs.declared.alloc.AllocError.{AllocError}
+use Rattle.serde_json.specs.Data.{Data, depth, items_depth}
+use Rattle.serde_json.specs.Read.{read, max_depth}
+use Rattle.serde_json.specs.Written.{has_float, compact_text}
+use Rattle.price_certificate.specs.Problem.{Problem}
+use Rattle.price_certificate.specs.Document.{number_data, pair_data, items_data, list_data, pairs_from, document_data, SpellsInstance, SpellsPlan, IsDocument}
+
+no_float : {A : Type 0} (data_of : A → Data) → ((x : A) → has_float (data_of x) ≡ false) → (xs : List A) → has_float (list_data data_of xs) ≡ false
+no_float data_of each [] = refl
+no_float data_of each (x ∷ xs) = or_from _ _ (each x) (no_float data_of each xs)
+
+pub has_float-document_data : (p : Problem) (pairs : List (ℕ × ℕ)) (item_prices bin_prices : List ℕ) → has_float (document_data p pairs item_prices bin_prices) ≡ false
+has_float-document_data p pairs item_prices bin_prices =
+    let numbers = no_float number_data (λ n. refl) in
+    let both = no_float pair_data (λ q. refl) in
+    or_from _ _ (both (pairs_from 0 p.before)) (or_from _ _ (numbers bin_prices) (or_from _ _ (numbers p.limits) (or_from _ _ (numbers item_prices) (or_from _ _ (both pairs) (or_from _ _ (no_float (list_data number_data) numbers p.rows) refl)))))
+
+levels : {A : Type 0} (data_of : A → Data) (n : ℕ) → ((x : A) → depth (data_of x) ≤ n) → (xs : List A) → items_depth (items_data data_of xs) ≤ n
+levels data_of n each [] = omega arith
+levels data_of n each (x ∷ xs) = max-le (each x) (levels data_of n each xs)
+
+pub depth-document_data : (p : Problem) (pairs : List (ℕ × ℕ)) (item_prices bin_prices : List ℕ) → depth (document_data p pairs item_prices bin_prices) ≤ max_depth
+depth-document_data p pairs item_prices bin_prices =
+    let numbers = levels number_data 0 (λ n. omega arith) in
+    let both = levels pair_data 1 (λ q. omega arith) in
+    let rows = levels (list_data number_data) 1 (λ row. omega (arith, levels number_data 0 (λ n. omega arith) row)) p.rows in
+    omega (arith, both (pairs_from 0 p.before), numbers bin_prices, numbers p.limits, numbers item_prices, both pairs, rows)
+
+-- the text of what has the form
+pub text_of_form : (b : List ℕ) (p : Problem) (pairs : List (ℕ × ℕ)) (item_prices bin_prices : List ℕ) (d : Data) → d ≡ document_data p pairs item_prices bin_prices → (has_float d ≡ false → b ≡ compact_text d) → b ≡ compact_text (document_data p pairs item_prices bin_prices)
+text_of_form b p pairs item_prices bin_prices d form text = text (ap has_float form ∙ has_float-document_data p pairs item_prices bin_prices) ∙ ap compact_text form
+
+pub is_document : (r : Result (Vec ℕ Global) AllocError) (p : Problem) (pairs : List (ℕ × ℕ)) (item_prices bin_prices : List ℕ) (d : Data) → d ≡ document_data p pairs item_prices bin_prices → SpellsInstance d p → SpellsPlan d pairs item_prices bin_prices → IfOk r (λ b. IsUtf8 b.items) → IfOk r (λ b. depth d ≤ max_depth → read b.items ≡ Some d) → IfOk r (λ b. IsDocument b.items p pairs item_prices bin_prices)
+is_document (Ok b) p pairs item_prices bin_prices d form instance plan utf8 back =
+    let shallow : depth d ≤ max_depth = subst (λ (e : Data). depth e ≤ max_depth) (sym form) (depth-document_data p pairs item_prices bin_prices) in
+    record { says = d; json = record { text = utf8; value = back shallow }; instance = instance; plan = plan }
+is_document (Err e) p pairs item_prices bin_prices d form instance plan utf8 back = tt

@@ -1,0 +1,13 @@
+pub mod DocumentLaws
+pub mod DocumentForm
+pub mod DocumentParts
+pub mod DocumentValues
+pub mod Sums
+pub mod Rows
+pub mod Weights
+pub mod Duality
+pub mod Optimal
+pub mod Placing
+pub mod First
+pub mod Finding
+pub mod Verdicts

@@ -1,0 +1,10 @@
+use Rattle.std.proofs.Common.{◌≡◌, Some, take}
+use Rattle.serde_json.specs.View.{items_view}
+use Rattle.price_certificate.specs.Document.{all_in, items_data}
+use Rattle.price_certificate.proofs.document.spelled.values_of.Given as goal
+
+abbrev pub invariant-loop-item : goal.invariant-loop-item
+invariant-loop-item g l = record {
+  form : items_view l.values.items ≡ items_data g.T.Spelled.spelling (take l.item-index l.items);
+  reads_back : all_in g.T.Spelled.spelled (items_view l.values.items) ≡ Some (take l.item-index l.items);
+}

@@ -1,0 +1,6 @@
+pub mod Document
+pub mod Problem
+pub mod Assignment
+pub mod Certificate
+pub mod Faults
+pub mod Lines

@@ -1,0 +1,99 @@
+//! The parts of a document.
+ghost use Rattle.std.specs.Prelude.{◌≡◌, ℕ, List, IfOk, IfSome, IfNone};
+ghost use Rattle.serde_json.specs.View.{view};
+ghost use Rattle.price_certificate.specs.Problem.{Problem};
+ghost use Rattle.price_certificate.specs.Document.{ReadsAs, IsJson, SpellsParts, SpellsPlan, SpellsInstance};
+
+use crate::document::DocumentError;
+use crate::document::spelled::member;
+use crate::instance::Instance;
+use crate::plan::Plan;
+use crate::shape::InstanceError;
+use lists::List;
+use serde_json::Value;
+use std::alloc::{AllocError, Global};
+
+/// The limits, the rows and the pairs before of an instance.
+#[derive(Drop)]
+struct Parts {
+    limits: List<u32>,
+    rows: List<List<u32>>,
+    before: List<(u32, u32)>,
+}
+
+/// The value of a JSON text.
+pub(crate) fn json_in(alloc: Global, bytes: &[u8]) -> Result<Value, DocumentError>
+    ensures ok { IfOk result (λ v. ReadsAs bytes.now (view v)) }
+    ensures not_json { result ≡ Err DocumentError.NotJson → ¬ IsJson bytes.now }
+    ensures others { ¬ (result ≡ Err DocumentError.Shape) }
+{
+    match Value::from_slice(alloc, bytes) {
+        Ok(value) => Ok(value),
+        Err(error) if error.is_memory() => Err(DocumentError::Memory),
+        Err(_) => Err(DocumentError::NotJson),
+    }
+}
+
+/// The instance that a document spells.
+pub(crate) fn instance_in(alloc: Global, value: &Value) -> Result<Option<Instance>, AllocError>
+    ensures some { IfOk result (λ o. IfSome o (λ i. SpellsInstance (view value.now) i)) }
+    ensures none { IfOk result (λ o. IfNone o ((p : Problem) → ¬ SpellsInstance (view value.now) p)) }
+{
+    let Some(parts) = parts_in(alloc, value)? else {
+        return Ok(None);
+    };
+    match Instance::new(alloc, parts.limits, parts.rows, parts.before) {
+        Ok(instance) => Ok(Some(instance)),
+        Err(InstanceError::Shape) => Ok(None),
+        Err(InstanceError::Memory) => Err(AllocError),
+    }
+}
+
+fn parts_in(alloc: Global, value: &Value) -> Result<Option<Parts>, AllocError>
+    ensures some { IfOk result (λ o. IfSome o (λ s. SpellsParts (view value.now) s.limits s.rows s.before)) }
+    ensures none { IfOk result
+        (λ o. IfNone o ((limits : List ℕ) (rows : List (List ℕ)) (before : List (ℕ × ℕ))
+        → ¬ SpellsParts (view value.now) limits rows before)) }
+{
+    if member(alloc, value, "version")? != Some(1u32) {
+        return Ok(None);
+    }
+    let Some(limits) = member(alloc, value, "bins")? else {
+        return Ok(None);
+    };
+    let Some(rows) = member(alloc, value, "reach")? else {
+        return Ok(None);
+    };
+    let Some(before) = member(alloc, value, "before")? else {
+        return Ok(None);
+    };
+    Ok(Some(Parts {
+        limits,
+        rows,
+        before,
+    }))
+}
+
+/// The plan that a document spells.
+pub(crate) fn plan_in(alloc: Global, value: &Value) -> Result<Option<Plan>, AllocError>
+    ensures some { IfOk result
+        (λ o. IfSome o (λ p. SpellsPlan (view value.now) p.pairs p.item_prices p.bin_prices)) }
+    ensures none { IfOk result
+        (λ o. IfNone o ((pairs : List (ℕ × ℕ)) (item_prices bin_prices : List ℕ)
+        → ¬ SpellsPlan (view value.now) pairs item_prices bin_prices)) }
+{
+    let Some(pairs) = member(alloc, value, "pairs")? else {
+        return Ok(None);
+    };
+    let Some(item_prices) = member(alloc, value, "item_prices")? else {
+        return Ok(None);
+    };
+    let Some(bin_prices) = member(alloc, value, "bin_prices")? else {
+        return Ok(None);
+    };
+    Ok(Some(Plan {
+        pairs,
+        item_prices,
+        bin_prices,
+    }))
+}

@@ -1,0 +1,139 @@
+//! What JSON values spell: whole numbers, pairs of them, and lists of what can be spelled.
+ghost use Rattle.std.specs.Prelude.{◌≡◌, Option, Some, IfOk};
+ghost use Rattle.serde_json.specs.Data.{Data};
+ghost use Rattle.serde_json.specs.View.{view, items_view};
+ghost use Rattle.price_certificate.specs.Document.{number_in, pair_in, list_in, all_in, member_in, number_data, pair_data, items_data, list_data};
+
+use lists::List;
+use serde_json::Value;
+use std::alloc::{AllocError, Global};
+
+/// What a JSON value can spell.
+pub(crate) trait Spelled: Sized {
+    ghost spelled: { Data → Option Self };
+
+    /// What the value spells, if it is such a thing.
+    fn read(alloc: Global, value: &Value) -> Result<Option<Self>, AllocError>
+        ensures { IfOk result (λ o. o ≡ spelled (view value.now)) };
+
+    ghost spelling: { Self → Data };
+
+    /// The value that spells this.
+    fn write(&self, alloc: Global) -> Result<Value, AllocError>
+        ensures form { IfOk result (λ v. view v ≡ spelling self.now) }
+        ensures reads_back { IfOk result (λ v. spelled (view v) ≡ Some self.now) };
+}
+
+impl Spelled for u32 {
+    ghost spelled = { number_in };
+
+    fn read(_alloc: Global, value: &Value) -> Result<Option<u32>, AllocError> {
+        Ok(number(value))
+    }
+
+    ghost spelling = { number_data };
+
+    fn write(&self, _alloc: Global) -> Result<Value, AllocError> {
+        let number = *self;
+        Ok(Value::from(number))
+    }
+}
+
+impl Spelled for (u32, u32) {
+    ghost spelled = { pair_in };
+
+    fn read(_alloc: Global, value: &Value) -> Result<Option<(u32, u32)>, AllocError> {
+        Ok(pair(value))
+    }
+
+    ghost spelling = { pair_data };
+
+    fn write(&self, alloc: Global) -> Result<Value, AllocError> {
+        let (first, second) = *self;
+        let mut both = Vec::with_capacity(alloc, 2)?;
+        both.push(Value::from(first))?;
+        both.push(Value::from(second))?;
+        Ok(Value::Array(both))
+    }
+}
+
+impl<T: Spelled + Drop> Spelled for List<T> {
+    ghost spelled = { list_in T.spelled };
+
+    fn read(alloc: Global, value: &Value) -> Result<Option<List<T>>, AllocError> {
+        match value.as_array() {
+            Some(items) => all(alloc, items.as_slice()),
+            None => Ok(None),
+        }
+    }
+
+    ghost spelling = { list_data T.spelling };
+
+    fn write(&self, alloc: Global) -> Result<Value, AllocError> {
+        array_of(alloc, self.as_slice())
+    }
+}
+
+/// What a member of an object spells.
+pub(crate) fn member<T: Spelled>(
+    alloc: Global,
+    value: &Value,
+    name: &str,
+) -> Result<Option<T>, AllocError>
+    ensures { IfOk result (λ o. o ≡ member_in T.spelled name.now (view value.now)) }
+{
+    match value.get(name) {
+        Some(found) => T::read(alloc, found),
+        None => Ok(None),
+    }
+}
+
+fn number(value: &Value) -> Option<u32>
+    ensures { result ≡ number_in (view value.now) }
+{
+    match value.as_u64() {
+        Some(n) if n < 1 << 32 => Some(n as u32),
+        _ => None,
+    }
+}
+
+fn pair(value: &Value) -> Option<(u32, u32)>
+    ensures { result ≡ pair_in (view value.now) }
+{
+    match value.as_array()?.as_slice() {
+        [first, second] => Some((number(first)?, number(second)?)),
+        _ => None,
+    }
+}
+
+fn all<T: Spelled + Drop>(alloc: Global, values: &[Value]) -> Result<Option<List<T>>, AllocError>
+    ensures { IfOk result (λ o. o ≡ all_in T.spelled (items_view values.now)) }
+{
+    let mut items = Vec::with_capacity(alloc, values.len())?;
+    for value in values {
+        match T::read(alloc, value)? {
+            Some(item) => items.push(item)?,
+            None => return Ok(None),
+        }
+    }
+    Ok(Some(List::from_vec(items)))
+}
+
+/// The array that spells all of these.
+pub(crate) fn array_of<T: Spelled>(alloc: Global, items: &[T]) -> Result<Value, AllocError>
+    ensures form { IfOk result (λ v. view v ≡ list_data T.spelling items.now) }
+    ensures reads_back { IfOk result (λ v. list_in T.spelled (view v) ≡ Some items.now) }
+{
+    Ok(Value::Array(values_of(alloc, items)?))
+}
+
+fn values_of<T: Spelled>(alloc: Global, items: &[T]) -> Result<Vec<Value>, AllocError>
+    ensures form { IfOk result (λ vs. items_view vs.items ≡ items_data T.spelling items.now) }
+    ensures reads_back { IfOk result (λ vs. all_in T.spelled (items_view vs.items) ≡ Some items.now) }
+{
+    let mut values = Vec::with_capacity(alloc, items.len())?;
+    for item in items {
+        values.push(item.write(alloc)?)?;
+    }
+    Ok(values)
+}

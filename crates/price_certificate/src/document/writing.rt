@@ -1,0 +1,112 @@
+//! The parts of a document that is written.
+ghost use Rattle.std.specs.Prelude.{◌≡◌, Some, IfOk};
+ghost use Rattle.serde_json.specs.View.{view};
+ghost use Rattle.price_certificate.specs.Document.{number_in, pair_in, list_in, number_data, pair_data, list_data, pairs_from, object_of as object_data, document_data, SpellsInstance, SpellsPlan};
+
+use crate::document::spelled::{Spelled, array_of};
+use crate::instance::Instance;
+use crate::plan::Plan;
+use serde_json::{Map, Value, put};
+use std::alloc::{AllocError, Global};
+
+/// The values of a document's members.
+#[derive(Drop)]
+struct Members {
+    before: Value,
+    bin_prices: Value,
+    bins: Value,
+    item_prices: Value,
+    pairs: Value,
+    reach: Value,
+}
+
+/// The value that spells an instance and a plan.
+pub(crate) fn value_of(alloc: Global, instance: &Instance, plan: &Plan) -> Result<Value, AllocError>
+    ensures form { IfOk result (λ v. view v ≡ document_data instance.now plan.now.pairs plan.now.item_prices plan.now.bin_prices) }
+    ensures instance { IfOk result (λ v. SpellsInstance (view v) instance.now) }
+    ensures plan { IfOk result (λ v. SpellsPlan (view v) plan.now.pairs plan.now.item_prices plan.now.bin_prices) }
+{
+    instance.is_problem();
+    let members = Members {
+        before: before_of(alloc, instance)?,
+        bin_prices: plan.bin_prices.write(alloc)?,
+        bins: bins_of(alloc, instance)?,
+        item_prices: plan.item_prices.write(alloc)?,
+        pairs: plan.pairs.write(alloc)?,
+        reach: reach_of(alloc, instance)?,
+    };
+    object_of(alloc, members)
+}
+
+/// The object of these members.
+fn object_of(alloc: Global, members: Members) -> Result<Value, AllocError>
+    ensures { IfOk result (λ v. view v ≡ object_data (view members.before) (view members.bin_prices) (view members.bins) (view members.item_prices) (view members.pairs) (view members.reach)) }
+{
+    let mut map = Map::new(alloc);
+    put(&mut map, alloc, "before", members.before)?;
+    put(&mut map, alloc, "bin_prices", members.bin_prices)?;
+    put(&mut map, alloc, "bins", members.bins)?;
+    put(&mut map, alloc, "item_prices", members.item_prices)?;
+    put(&mut map, alloc, "pairs", members.pairs)?;
+    put(&mut map, alloc, "reach", members.reach)?;
+    put(&mut map, alloc, "version", Value::from(1u32))?;
+    Ok(Value::Object(map))
+}
+
+/// The pairs before, in order of items.
+fn before_of(alloc: Global, instance: &Instance) -> Result<Value, AllocError>
+    ensures form { IfOk result (λ v. view v ≡ list_data pair_data (pairs_from 0 instance.now.before)) }
+    ensures reads_back { IfOk result (λ v. list_in pair_in (view v) ≡ Some (pairs_from 0 instance.now.before)) }
+{
+    let preceding = preceding_of(alloc, instance)?;
+    array_of(alloc, preceding.as_slice())
+}
+
+/// The limits.
+fn bins_of(alloc: Global, instance: &Instance) -> Result<Value, AllocError>
+    ensures form { IfOk result (λ v. view v ≡ list_data number_data instance.now.limits) }
+    ensures reads_back { IfOk result (λ v. list_in number_in (view v) ≡ Some instance.now.limits) }
+{
+    let limits = limits_of(alloc, instance)?;
+    array_of(alloc, limits.as_slice())
+}
+
+/// The limit of each bin.
+fn limits_of(alloc: Global, instance: &Instance) -> Result<Vec<u32>, AllocError>
+    ensures { IfOk result (λ v. v.items ≡ instance.now.limits) }
+{
+    let bins = instance.bins();
+    let mut limits = Vec::with_capacity(alloc, bins)?;
+    for bin in 0..bins {
+        limits.push(instance.limit(bin))?;
+    }
+    Ok(limits)
+}
+
+/// Each item that was in a bin, with the bin, in order of items.
+fn preceding_of(alloc: Global, instance: &Instance) -> Result<Vec<(u32, u32)>, AllocError>
+    ensures { IfOk result (λ v. v.items ≡ pairs_from 0 instance.now.before) }
+{
+    let items = instance.items();
+    instance.is_problem();
+    let mut pairs = Vec::new(alloc);
+    for item in 0..items {
+        if let Some(bin) = instance.before(item) {
+            pairs.push((item as u32, bin))?;
+        }
+    }
+    Ok(pairs)
+}
+
+/// For each item the list of its bins.
+fn reach_of(alloc: Global, instance: &Instance) -> Result<Value, AllocError>
+    ensures form { IfOk result (λ v. view v ≡ list_data (list_data number_data) instance.now.rows) }
+    ensures reads_back { IfOk result (λ v. list_in (list_in number_in) (view v) ≡ Some instance.now.rows) }
+{
+    let items = instance.items();
+    let mut rows = Vec::with_capacity(alloc, items)?;
+    for item in 0..items {
+        rows.push(array_of(alloc, instance.row(item))?)?;
+    }
+    Ok(Value::Array(rows))
+}

@@ -1,0 +1,168 @@
+ghost use Rattle.std.specs.Prelude.{◌≡◌, ◌<◌, ◌≤◌, List, ℕ, Some, IsTrue, IfOk, IfErr, slice_index, count_by, is_some};
+ghost use Rattle.price_certificate.specs.Problem.{Problem, IsProblem, IsShaped, IsProblemOf, items_of, bins_of, row_of, before_of, before_count, capacity_by, capacity_of, weight_of, top_weight};
+
+use crate::shape::{InstanceError, has_reach, places};
+use lists::{List, Plain};
+use std::alloc::{AllocError, Global};
+use std::marker::Model;
+
+/// Items, bins with limits, the bins that each item may use, and the bin where each item was.
+#[derive(Debug, Drop)]
+pub struct Instance {
+    limits: List<u32>,
+    rows: List<List<u32>>,
+    before: List<Option<u32>>,
+}
+
+impl Model for Instance {
+    ghost use Rattle.price_certificate.specs.Problem.{Problem, IsProblem};
+
+    ghost Value = { Problem };
+
+    ghost view = { λ i. record { limits = i.limits; rows = i.rows; before = i.before } };
+
+    ghost invariant = { λ i. IsProblem (record { limits = i.limits; rows = i.rows; before = i.before }) };
+}
+
+impl Instance {
+    /// The instance with these limits of bins, where 0 is no limit, these rows, which have for each item the bins that
+    /// it may use in ascending order, and these pairs of the preceding assignment, in any order. There may be 16,384
+    /// items, 16,384 bins and 4,194,304 allowed pairs. A pair of the preceding assignment needs no allowed pair.
+    pub fn new(
+        alloc: Global,
+        limits: List<u32>,
+        rows: List<List<u32>>,
+        before: List<(u32, u32)>,
+    ) -> Result<Instance, InstanceError>
+        ensures ok { IfOk result (λ i. IsShaped limits rows before × IsProblemOf i limits rows before) }
+        ensures shape { result ≡ Err InstanceError.Shape → ¬ IsShaped limits rows before }
+    {
+        if !has_reach(limits.as_slice(), rows.as_slice()) {
+            return Err(InstanceError::Shape);
+        }
+        let before = places(alloc, rows.len(), limits.len(), before.as_slice())?;
+        Ok(Instance {
+            limits,
+            rows,
+            before: List::from_vec(before),
+        })
+    }
+
+    /// How many items there are, at most 16,384.
+    pub fn items(&self) -> usize
+        ensures count { result ≡ items_of self.now }
+        ensures most { result ≤ 16384 }
+    {
+        self.rows.len()
+    }
+
+    /// How many bins there are, at most 16,384.
+    pub fn bins(&self) -> usize
+        ensures count { result ≡ bins_of self.now }
+        ensures most { result ≤ 16384 }
+    {
+        self.limits.len()
+    }
+
+    /// The limit of a bin as it was given, where 0 is no limit; 0 past the last bin.
+    pub fn limit(&self, bin: usize) -> u32
+        ensures { result ≡ slice_index self.now.limits bin }
+    {
+        match self.limits.as_slice().get(bin) {
+            Some(limit) => *limit,
+            None => 0,
+        }
+    }
+
+    /// How many items a bin may have: the lesser of its limit and the number of items, and all where the limit is 0.
+    #[tactic(auto, unfolding(crate::specs::Problem::capacity_by))]
+    pub fn capacity(&self, bin: usize) -> usize
+        ensures value { result ≡ capacity_of self.now bin }
+        ensures most { result ≤ 16384 }
+    {
+        let limit = self.limit(bin) as usize;
+        let items = self.items();
+        if limit == 0 { items } else { limit.min(items) }
+    }
+
+    /// The bins that an item may use, in ascending order; none past the last item.
+    #[tactic(auto, unfolding(crate::specs::Problem::row_of))]
+    pub fn row(&self, item: usize) -> &[u32]
+        ensures { result.now ≡ row_of self.now item }
+    {
+        match self.rows.as_slice().get(item) {
+            Some(row) => row.as_slice(),
+            None => &[],
+        }
+    }
+
+    /// The bin where an item was; none past the last item.
+    pub fn before(&self, item: usize) -> Option<u32>
+        ensures { result ≡ before_of self.now item }
+    {
+        match self.before.as_slice().get(item) {
+            Some(bin) => *bin,
+            None => None,
+        }
+    }
+
+    /// How many pairs the preceding assignment has.
+    pub fn before_count(&self) -> usize
+        ensures { result ≡ before_count self.now }
+    {
+        count_some(self.before.as_slice())
+    }
+
+    /// What the pair of an item and a bin is worth.
+    #[tactic(auto, unfolding(crate::specs::Problem::weight_of))]
+    pub fn weight(&self, item: usize, bin: usize) -> u32
+        ensures { result ≡ weight_of self.now item bin }
+    {
+        let weight = self.items() as u32 + 1;
+        match self.before(item) {
+            Some(home) if home as usize == bin => weight + 1,
+            _ => weight,
+        }
+    }
+
+    /// The greatest weight that a pair can have.
+    #[tactic(auto, unfolding(crate::specs::Problem::top_weight))]
+    pub fn top_weight(&self) -> u32
+        ensures { result ≡ top_weight self.now }
+    {
+        self.items() as u32 + 2
+    }
+
+    /// What every instance keeps.
+    pub fn is_problem(&self)
+        ensures { IsProblem self.now }
+    {
+        let _ = &self.limits;
+    }
+}
+
+impl Plain for Instance {
+    fn copy(&self) -> Result<Instance, AllocError> {
+        let limits = self.limits.copy()?;
+        let rows = self.rows.copy()?;
+        let before = self.before.copy()?;
+        Ok(Instance {
+            limits,
+            rows,
+            before,
+        })
+    }
+
+    fn same(&self, other: &Instance) -> bool {
+        self.limits.same(&other.limits)
+            && self.rows.same(&other.rows)
+            && self.before.same(&other.before)
+    }
+}
+
+/// How many bins there are.
+fn count_some(bins: &[Option<u32>]) -> usize
+    ensures { result ≡ count_by is_some bins.now }
+{
+    bins.iter().filter(|bin| bin.is_some()).count()
+}

@@ -1,0 +1,116 @@
+ghost use Rattle.std.specs.Prelude.{◌≡◌, ◌↔◌, ◌≤◌, ◌<◌, ◌==◌, ℕ, List, Option, None, replicate, All, IsTrue, IfOk, length, sum_by, slice_index_or, count_by, is_some, if◌then◌else◌};
+ghost use Rattle.price_certificate.specs.Problem.{IsRow, IsReach, IsPreceding, IsPlaced};
+ghost use Rattle.price_certificate.specs.declared.shape.InstanceError.TheVariants.{Memory};
+
+use lists::List;
+use std::alloc::{AllocError, Global};
+use thiserror::Error;
+
+/// Why there is no instance.
+#[derive(Debug, Drop, Error)]
+pub enum InstanceError {
+    /// The parts do not fit together, or pass a limit.
+    #[error("the parts make no instance")]
+    Shape,
+    #[error("no memory")]
+    Memory,
+}
+
+impl From<AllocError> for InstanceError {
+    ghost from_gives = { λ _ e. e ≡ Memory };
+
+    fn from(_error: AllocError) -> InstanceError {
+        InstanceError::Memory
+    }
+}
+
+const MOST_ITEMS: usize = 16384;
+
+const MOST_BINS: usize = 16384;
+
+const MOST_PAIRS: usize = 4194304;
+
+/// Whether the limits and the rows are those of an instance.
+pub(crate) fn has_reach(limits: &[u32], rows: &[List<u32>]) -> bool
+    ensures { IsTrue result ↔ IsReach limits.now rows.now }
+{
+    if rows.len() > MOST_ITEMS || limits.len() > MOST_BINS {
+        return false;
+    }
+    if !has_few_pairs(rows) {
+        return false;
+    }
+    are_rows(limits.len(), rows)
+}
+
+/// Whether the rows have no more than the most pairs.
+fn has_few_pairs(rows: &[List<u32>]) -> bool
+    ensures { IsTrue result ↔ (sum_by length rows.now ≤ 4194304) }
+{
+    let mut left = MOST_PAIRS;
+    for row in rows {
+        if row.len() > left {
+            return false;
+        }
+        left -= row.len();
+    }
+    true
+}
+
+/// Whether each row is one of an instance with so many bins.
+fn are_rows(bins: usize, rows: &[List<u32>]) -> bool
+    ensures { IsTrue result ↔ All (IsRow bins) rows.now }
+{
+    for row in rows {
+        if !is_row(bins, row.as_slice()) {
+            return false;
+        }
+    }
+    true
+}
+
+/// Whether the bins ascend and are below the number of bins.
+fn is_row(bins: usize, row: &[u32]) -> bool
+    ensures { IsTrue result ↔ IsRow bins row.now }
+{
+    for i in 0..row.len() {
+        if row[i] as usize >= bins {
+            return false;
+        }
+        if i > 0 && row[i] <= row[i - 1] {
+            return false;
+        }
+    }
+    true
+}
+
+/// For each item the bin beside it.
+pub(crate) fn places(
+    alloc: Global,
+    items: usize,
+    bins: usize,
+    pairs: &[(u32, u32)],
+) -> Result<Vec<Option<u32>>, InstanceError>
+    ensures ok { IfOk result (λ v. IsPreceding items bins pairs.now × IsPlaced items pairs.now v.items) }
+    ensures shape { result ≡ Err InstanceError.Shape → ¬ IsPreceding items bins pairs.now }
+{
+    let mut places = nowhere(alloc, items)?;
+    for i in 0..pairs.len() {
+        let (item, bin) = pairs[i];
+        if item as usize >= items || bin as usize >= bins {
+            return Err(InstanceError::Shape);
+        }
+        if places[item as usize].is_some() {
+            return Err(InstanceError::Shape);
+        }
+        places[item as usize] = Some(bin);
+    }
+    Ok(places)
+}
+
+/// No bin for any item.
+fn nowhere(alloc: Global, items: usize) -> Result<Vec<Option<u32>>, AllocError>
+    ensures { IfOk result (λ v. v.items ≡ replicate items None) }
+{
+    vec![in alloc; None; items]
+}
