@@ -1,0 +1,5 @@
+pub mod Places
+pub mod Kept
+pub mod LawProofs
+pub mod Objects
+pub mod Identity

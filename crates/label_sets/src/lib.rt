@@ -1,0 +1,24 @@
+//! Label names, label sets and final targets, after the data model of Prometheus.
+//!
+//! Contracts see a label name as its bytes, and a label set as the list of its names and texts in byte
+//! order of the names.
+#![tactic(auto)]
+
+mod error;
+mod finishing;
+mod group;
+mod labels;
+mod laws;
+mod name;
+mod place;
+mod target;
+#[cfg(test)]
+mod tests;
+mod texts;
+
+pub use error::LabelError;
+pub use finishing::{Finished, finish};
+pub use labels::Labels;
+pub use laws::{map_laws, text_decides};
+pub use name::LabelName;
+pub use target::Target;

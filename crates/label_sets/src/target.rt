@@ -1,0 +1,88 @@
+ghost use Rattle.std.specs.Prelude.{◌≡◌, IfOk, IsTrue};
+ghost use Rattle.label_sets.specs.Target.{target_label, target_text};
+
+use crate::labels::Labels;
+use crate::texts::text_of_target;
+use lists::{Plain, Text};
+use std::alloc::{AllocError, Global};
+use std::convert::AsStr;
+use std::marker::Model;
+
+/// A final target. Contracts see its address and the labels of its group's text.
+#[derive(Debug, Drop)]
+pub struct Target {
+    labels: Labels,
+    address: Text,
+    text: Text,
+}
+
+impl Model for Target {
+    ghost use Rattle.std.specs.Prelude.{◌≡◌};
+    ghost use Rattle.label_sets.specs.Target.{FinalTarget, target_text};
+
+    ghost Value = { FinalTarget };
+
+    ghost view = { λ t. record { address = t.address; labels = t.labels } };
+
+    ghost invariant = { λ t. t.text ≡ target_text (record { address = t.address; labels = t.labels }) };
+}
+
+impl Target {
+    /// The target of an address and the labels of its group.
+    pub(crate) fn of_parts(
+        alloc: Global,
+        labels: Labels,
+        address: Text,
+    ) -> Result<Target, AllocError>
+        ensures { IfOk result (λ t. t ≡ record { address = address; labels = labels }) }
+    {
+        let text = text_of_target(alloc, labels.entries(), address.as_str())?;
+        Ok(Target {
+            labels,
+            address,
+            text,
+        })
+    }
+
+    /// The labels of the group's text.
+    pub fn labels(&self) -> &Labels
+        ensures { result.now ≡ self.now.labels }
+    {
+        &self.labels
+    }
+
+    /// The group's text, which is the target's identity within a job.
+    pub fn text(&self) -> &str
+        ensures { result.now ≡ target_text self.now }
+    {
+        self.text.as_str()
+    }
+
+    /// The text of a label of the group or of `__address__`, and else the empty text.
+    pub fn get<N: AsStr + Drop>(&self, name: N) -> &str
+        ensures { result.now ≡ target_label self.now (N.text name) }
+    {
+        if name.as_str() == "__address__" {
+            self.address.as_str()
+        } else {
+            self.labels.get(name)
+        }
+    }
+}
+
+impl Plain for Target {
+    fn copy(&self) -> Result<Target, AllocError> {
+        let labels = self.labels.copy()?;
+        let address = self.address.copy()?;
+        let text = self.text.copy()?;
+        Ok(Target {
+            labels,
+            address,
+            text,
+        })
+    }
+
+    fn same(&self, other: &Target) -> bool {
+        self.text.same(&other.text)
+    }
+}
