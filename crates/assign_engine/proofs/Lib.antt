@@ -1,0 +1,14 @@
+pub mod Certify
+pub mod Pricing
+pub mod Walking
+pub mod Frontiers
+pub mod Changing
+pub mod Relaxing
+pub mod Nearest
+pub mod Cheapest
+pub mod Searching
+pub mod Repricing
+pub mod Inserting
+pub mod Starting
+pub mod Ordered
+pub mod Rolling

@@ -1,0 +1,9 @@
+pub mod Usable
+pub mod Seats
+pub mod Roll
+pub mod Labels
+pub mod Changed
+pub mod Searched
+pub mod Pending
+pub mod Searching
+pub mod Repriced

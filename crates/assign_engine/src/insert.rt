@@ -1,0 +1,78 @@
+ghost use Rattle.std.specs.Prelude.{◌≡◌, ◌<◌, ◌≤◌, ◌≢◌, ℕ, None, slice_index, OnOk};
+ghost use Rattle.price_certificate.specs.Problem.{items_of, bins_of};
+ghost use Rattle.assign_engine.specs.Seats.{seat, IsSound, IsWaiting};
+ghost use Rattle.assign_engine.specs.Labels.{HasBins};
+ghost use Rattle.assign_engine.specs.Searched.{HasTrail, IsInserted};
+ghost use Rattle.assign_engine.specs.Searching.{EndsAt, EndFree};
+
+use crate::ends::End;
+use crate::labels::Labels;
+use crate::matching::Matching;
+use crate::reprice::reprice;
+use crate::search::search;
+use price_certificate::Instance;
+use std::alloc::AllocError;
+
+/// Finds the nearest end from the new item, and does the price step.
+fn improve(
+    instance: &Instance,
+    matching: &mut Matching,
+    item: usize,
+    labels: &mut Labels,
+) -> Result<(), AllocError>
+    requires item { item < items_of instance.now }
+    requires sound { IsSound instance.now matching.old.seating.seats matching.old.item_prices.items matching.old.bin_prices.items }
+    requires new { seat matching.old.seating.seats item ≡ None }
+    requires tables { HasBins (bins_of instance.now) labels.old }
+    ensures seating { OnOk result (matching.new.seating ≡ matching.old.seating) }
+    ensures sound { OnOk result (IsSound instance.now matching.old.seating.seats matching.new.item_prices.items matching.new.bin_prices.items) }
+    ensures trail { OnOk result (HasTrail instance.now matching.old.seating.seats matching.new.item_prices.items matching.new.bin_prices.items item labels.new.distances labels.new.vias labels.new.ranks labels.new.cost (slice_index matching.old.item_prices.items item)) }
+    ensures waiting { OnOk result ((t : ℕ) → t ≢ item → IsWaiting matching.old.seating.seats matching.new.item_prices.items t → IsWaiting matching.old.seating.seats matching.old.item_prices.items t) }
+    ensures ends { OnOk result (EndsAt instance.now matching.old.seating.seats matching.old.item_prices.items item labels.new.distances labels.new.cost labels.new.end) }
+    ensures free { OnOk result (EndFree matching.new.item_prices.items item labels.new.end) }
+    ensures tables { OnOk result (HasBins (bins_of instance.now) labels.new) }
+    ensures settled { OnOk result (labels.new.settled ≤ bins_of instance.now) }
+{
+    instance.is_problem();
+    search(instance, matching, item, labels)?;
+    reprice(instance, matching, item, labels);
+    Ok(())
+}
+
+/// Inserts one item: along the way to the nearest end each item moves on to the next bin.
+pub fn insert(
+    instance: &Instance,
+    matching: &mut Matching,
+    item: usize,
+    labels: &mut Labels,
+) -> Result<(), AllocError>
+    requires item { item < items_of instance.now }
+    requires sound { IsSound instance.now matching.old.seating.seats matching.old.item_prices.items matching.old.bin_prices.items }
+    requires new { seat matching.old.seating.seats item ≡ None }
+    requires bins { matching.old.seating.bins ≡ bins_of instance.now }
+    requires tables { HasBins (bins_of instance.now) labels.old }
+    ensures inserted { OnOk result (IsInserted instance.now matching.old.seating.seats matching.old.item_prices.items item matching.new.seating.seats matching.new.item_prices.items matching.new.bin_prices.items) }
+    ensures bins { OnOk result (matching.new.seating.bins ≡ bins_of instance.now) }
+    ensures tables { OnOk result (HasBins (bins_of instance.now) labels.new) }
+    ensures settled { OnOk result (labels.new.settled ≤ bins_of instance.now) }
+{
+    instance.is_problem();
+    improve(instance, matching, item, labels)?;
+    let mut hole = match labels.end() {
+        End::Leave => return Ok(()),
+        End::Room(bin) => bin,
+        End::Uncover(other, bin) => {
+            matching.seating.take_out(other);
+            bin
+        }
+    };
+    'trail: loop {
+        let via = labels.via(hole);
+        let from = matching.seating.bin_of(via);
+        matching.seating.put(via, hole)?;
+        match from {
+            Some(bin) => hole = bin,
+            None => return Ok(()),
+        }
+    }
+}

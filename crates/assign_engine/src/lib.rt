@@ -1,0 +1,17 @@
+//! The engine: it finds an optimal assignment together with the prices that prove it.
+#![tactic(auto)]
+
+mod ends;
+mod engine;
+mod frontier;
+mod insert;
+mod labels;
+mod matching;
+mod reprice;
+mod search;
+mod seating;
+mod start;
+#[cfg(test)]
+mod tests;
+
+pub use engine::{Work, solve};
