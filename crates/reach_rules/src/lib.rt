@@ -1,0 +1,17 @@
+//! Who reaches what: the names of collectors, and the rules by which a collector reaches a target.
+//!
+//! Contracts see a collector's name as its bytes, and a reach as the list of its rules.
+#![tactic(auto)]
+
+mod error;
+mod name;
+mod reach;
+mod read;
+mod rule;
+#[cfg(test)]
+mod tests;
+
+pub use error::{NameError, ReachError};
+pub use name::CollectorName;
+pub use reach::Reach;
+pub use rule::{ReachRule, ReachTest};
