@@ -1,0 +1,207 @@
+-- The configuration, in the JSON spelling of Prometheus's configuration file: an object whose member `scrape_configs`
+-- is the list of scrape configs. Where it is absent the list is empty. Here null is a value of another kind, and no
+-- absent member.
+use Rattle.std.specs.Prelude.{ℕ, ◌+◌, ◌^◌, List, [], ◌∷◌, ◌++◌, length, map, Bool, true, not, ◌&&◌, nat_le, nat_lt, nat_eq, Option, Some, None, option_and_then, unwrap_or, Result, Ok, Err, is_some, codes, if◌then◌else◌}
+use Rattle.std.specs.Option.{ok_or, option_map_or}
+use Rattle.std.specs.Str.{bytes_eq}
+use Rattle.std.specs.List.{ends_with, list_any}
+use Rattle.serde_json.specs.Data.{Data, object, Items, no_items, item, Members, no_members, member, put}
+use Rattle.serde_json.specs.Find.{get, as_str, as_number, as_u64, as_array, as_object}
+use Rattle.serde_json.specs.Written.{has_float}
+use Rattle.serde_json.specs.Events.{items_len}
+use Rattle.serde_json.specs.View.{view, items_view}
+use Rattle.sd_documents.specs.declared.error.DocumentError.{DocumentError}
+use Rattle.sd_documents.specs.declared.error.DocumentError.TheVariants.{Shape, RepeatedJob, UnsupportedDiscovery, TooMany}
+use Rattle.sd_documents.specs.declared.error.Member.TheVariants.{ScrapeConfigs, JobName, Number, MetricsPath, Scheme, TargetLimit, Params, StaticConfigs, HttpSdConfigs, RelabelConfigs}
+use Rattle.sd_documents.specs.declared.error.Member.{Member}
+use Rattle.sd_documents.specs.declared.error.Limit.TheVariants.{Jobs, Sources, Rules}
+use Rattle.sd_documents.specs.declared.group.Group.{Group}
+use Rattle.sd_documents.specs.declared.config.Config.{Config}
+use Rattle.sd_documents.specs.declared.config.Job.{Job}
+use Rattle.sd_documents.specs.declared.config.Param.{Param}
+use Rattle.sd_documents.specs.Reading.{◌>>=◌, each_said, text_said, texts_said}
+use Rattle.sd_documents.specs.Groups.{groups_said}
+
+-- the first members of a scrape config
+pub record SettingsData : Type 0 where
+  pub name : List ℕ
+  pub metrics_path : List ℕ
+  pub scheme : List ℕ
+  pub target_limit : ℕ
+
+-- its other members
+pub record PartsData : Type 0 where
+  pub params : List Param
+  pub static_groups : List Group
+  pub http_urls : List (List ℕ)
+  pub rules : Items
+
+pub record JobData : Type 0 where
+  pub settings : SettingsData
+  pub parts : PartsData
+
+-- the jobs, and the object from job name to scrape config
+pub record ConfigData : Type 0 where
+  pub jobs : List JobData
+  pub kept : Data
+
+-- a job, its rules seen as the data that they are
+abbrev pub job_data : Job → JobData
+job_data job = record {
+  settings = record { name = job.name; metrics_path = job.metrics_path; scheme = job.scheme; target_limit = job.target_limit };
+  parts = record { params = job.params; static_groups = job.static_groups; http_urls = job.http_urls; rules = items_view job.rules };
+}
+
+abbrev pub config_data : Config → ConfigData
+config_data config = record { jobs = map job_data config.jobs; kept = view config.kept }
+
+-- ---- the members of a scrape config
+
+-- a text that is not empty
+abbrev pub name_said : ℕ → Option Data → Result (List ℕ) DocumentError
+name_said place found =
+    ok_or (option_and_then as_str found) (Shape place JobName) >>= λ name.
+    if bytes_eq name [] then Err (Shape place JobName) else Ok name
+
+-- a text, or the default where it is absent
+abbrev pub text_or : List ℕ → ℕ → Member → Option Data → Result (List ℕ) DocumentError
+text_or default place part None = Ok default
+text_or default place part (Some d) = text_said place part d
+
+-- a whole number of at most 32 bits: no fraction, no exponent, no minus sign
+abbrev pub of_32_bits : ℕ → Option ℕ
+of_32_bits n = if nat_lt n (2 ^ 32) then Some n else None
+
+abbrev pub number_in : Data → Option ℕ
+number_in d = option_and_then of_32_bits (option_and_then as_u64 (as_number d))
+
+abbrev pub limit_said : ℕ → Option Data → Result ℕ DocumentError
+limit_said place None = Ok 0
+limit_said place (Some d) = ok_or (number_in d) (Shape place TargetLimit)
+
+abbrev pub params_from : ℕ → Members → Result (List Param) DocumentError
+params_from place no_members = Ok []
+params_from place (member name d ms) =
+    texts_said place Params d >>= λ values. params_from place ms >>= λ others. Ok (record { name = name; values = values } ∷ others)
+
+-- an object from names to lists of texts
+abbrev pub params_said : ℕ → Option Data → Result (List Param) DocumentError
+params_said place None = Ok []
+params_said place (Some d) = ok_or (as_object d) (Shape place Params) >>= params_from place
+
+abbrev pub static_said : ℕ → Option Data → Result (List Group) DocumentError
+static_said place None = Ok []
+static_said place (Some d) = groups_said place StaticConfigs d
+
+-- an object with the member `url`, a text
+abbrev pub url_said : ℕ → Data → Result (List ℕ) DocumentError
+url_said place d = ok_or (option_and_then as_str (get (codes "url") d)) (Shape place HttpSdConfigs)
+
+abbrev pub few_urls : List (List ℕ) → Result (List (List ℕ)) DocumentError
+few_urls urls = if nat_le (length urls) 64 then Ok urls else Err (TooMany Sources)
+
+abbrev pub urls_said : ℕ → Option Data → Result (List (List ℕ)) DocumentError
+urls_said place None = Ok []
+urls_said place (Some d) = ok_or (as_array d) (Shape place HttpSdConfigs) >>= each_said (url_said place) >>= few_urls
+
+abbrev pub all_objects : Items → Bool
+all_objects no_items = true
+all_objects (item d ds) = is_some (as_object d) && all_objects ds
+
+abbrev pub few_rules : Items → Result Items DocumentError
+few_rules ds = if nat_le (items_len ds) 256 then Ok ds else Err (TooMany Rules)
+
+-- a list of objects, which are read with the rules
+abbrev pub rules_said : ℕ → Option Data → Result Items DocumentError
+rules_said place None = Ok no_items
+rules_said place (Some d) =
+    ok_or (as_array d) (Shape place RelabelConfigs) >>= λ ds.
+    if all_objects ds then few_rules ds else Err (Shape place RelabelConfigs)
+
+-- a service discovery other than by HTTP
+abbrev pub is_unsupported : List ℕ → Bool
+is_unsupported name = ends_with nat_eq name (codes "_sd_configs") && not (bytes_eq name (codes "http_sd_configs"))
+
+-- the first such name in byte order
+abbrev pub unsupported_in : Members → Option (List ℕ)
+unsupported_in no_members = None
+unsupported_in (member name d ms) = if is_unsupported name then Some name else unsupported_in ms
+
+-- ---- scrape configs
+
+unfoldable pub settings_said : ℕ → Data → Result SettingsData DocumentError
+settings_said place d =
+    name_said place (get (codes "job_name") d) >>= λ name.
+    text_or (codes "/metrics") place MetricsPath (get (codes "metrics_path") d) >>= λ metrics_path.
+    text_or (codes "http") place Scheme (get (codes "scheme") d) >>= λ scheme.
+    limit_said place (get (codes "target_limit") d) >>= λ target_limit.
+    Ok (record { name = name; metrics_path = metrics_path; scheme = scheme; target_limit = target_limit })
+
+unfoldable pub parts_said : ℕ → Data → Result PartsData DocumentError
+parts_said place d =
+    params_said place (get (codes "params") d) >>= λ params.
+    static_said place (get (codes "static_configs") d) >>= λ static_groups.
+    urls_said place (get (codes "http_sd_configs") d) >>= λ http_urls.
+    rules_said place (get (codes "relabel_configs") d) >>= λ rules.
+    Ok (record { params = params; static_groups = static_groups; http_urls = http_urls; rules = rules })
+
+-- the job, where no member is for another service discovery
+abbrev pub supported : Data → JobData → Result JobData DocumentError
+supported d job = option_map_or (λ name. Err (UnsupportedDiscovery name)) (option_and_then unsupported_in (as_object d)) (Ok job)
+
+unfoldable pub members_said : ℕ → Data → Result JobData DocumentError
+members_said place d =
+    settings_said place d >>= λ settings.
+    parts_said place d >>= λ parts.
+    supported d (record { settings = settings; parts = parts })
+
+-- An object without a number that is no integer of 64 bits, at any depth.
+unfoldable pub job_said : ℕ → Data → Result JobData DocumentError
+job_said place d =
+    if is_some (as_object d) then (if has_float d then Err (Shape place Number) else members_said place d) else Err (Shape place JobName)
+
+-- ---- the configuration
+
+-- an earlier job has the name
+abbrev pub is_taken : List JobData → List ℕ → Bool
+is_taken jobs name = list_any (λ (job : JobData). bytes_eq job.settings.name name) jobs
+
+abbrev pub next_job : ℕ → List JobData → JobData → Result (List JobData) DocumentError
+next_job place jobs job = if is_taken jobs job.settings.name then Err (RepeatedJob place) else Ok (jobs ++ job ∷ [])
+
+-- the jobs before this place, and that of the entry there
+abbrev pub with_job : ℕ → List JobData → Data → Result (List JobData) DocumentError
+with_job place jobs d = job_said place d >>= next_job place jobs
+
+-- the jobs before this place, and those of the entries from there on
+abbrev pub jobs_from : ℕ → List JobData → Items → Result (List JobData) DocumentError
+jobs_from place jobs no_items = Ok jobs
+jobs_from place jobs (item d ds) = with_job place jobs d >>= λ more. jobs_from (place + 1) more ds
+
+abbrev pub entries_in : Option Data → Result Items DocumentError
+entries_in None = Ok no_items
+entries_in (Some d) = ok_or (as_array d) (Shape 0 ScrapeConfigs)
+
+abbrev pub entries_said : Data → Result Items DocumentError
+entries_said d = if is_some (as_object d) then entries_in (get (codes "scrape_configs") d) else Err (Shape 0 ScrapeConfigs)
+
+abbrev pub few_entries : Items → Result Items DocumentError
+few_entries entries = if nat_le (items_len entries) 1024 then Ok entries else Err (TooMany Jobs)
+
+-- at most 1,024 scrape configs
+abbrev pub listed_entries : Data → Result Items DocumentError
+listed_entries d = entries_said d >>= few_entries
+
+abbrev pub name_of : Data → List ℕ
+name_of d = unwrap_or (option_and_then as_str (get (codes "job_name") d)) []
+
+-- each entry under its name
+abbrev pub kept_from : Members → Items → Members
+kept_from kept no_items = kept
+kept_from kept (item d ds) = kept_from (put (name_of d) d kept) ds
+
+unfoldable pub config_said : Data → Result ConfigData DocumentError
+config_said d =
+    listed_entries d >>= λ entries.
+    jobs_from 0 [] entries >>= λ jobs.
+    Ok (record { jobs = jobs; kept = object (kept_from no_members entries) })

@@ -1,0 +1,10 @@
+pub mod Refused
+pub mod Reading
+pub mod Groups
+pub mod Media
+pub mod Written
+pub mod Config
+pub mod Seen
+pub mod FirstLabels
+pub mod Limits
+pub mod Names

@@ -1,0 +1,42 @@
+-- Reading JSON documents (RFC 8259, as `serde_json` reads them): what the data says, or its first fault.
+use Rattle.std.specs.Prelude.{◌≡◌, ◌≢◌, ℕ, List, [], ◌∷◌, Some, Result, Ok, Err, IsUtf8}
+use Rattle.std.specs.Option.{ok_or}
+use Rattle.serde_json.specs.Data.{Data, Items, no_items, item}
+use Rattle.serde_json.specs.Find.{as_str, as_array}
+use Rattle.serde_json.specs.Read.{read}
+use Rattle.sd_documents.specs.declared.error.DocumentError.{DocumentError}
+use Rattle.sd_documents.specs.declared.error.DocumentError.TheVariants.{Shape, Memory}
+use Rattle.sd_documents.specs.declared.error.Member.{Member}
+
+-- the bytes are text, and this is the value that they say
+pub record ReadsAs (bytes : List ℕ) (d : Data) : Type 0 where
+  pub text : IsUtf8 bytes
+  pub value : read bytes ≡ Some d
+
+-- the bytes are a JSON text
+abbrev pub IsJson : List ℕ → Type 0
+IsJson bytes = (d : Data) × ReadsAs bytes d
+
+-- one after the other, up to the first fault
+infixl 10 ◌>>=◌
+abbrev pub ◌>>=◌ : {A B : Type 0} → Result A DocumentError → (A → Result B DocumentError) → Result B DocumentError
+(Ok x) >>= f = f x
+(Err e) >>= f = Err e
+
+-- What is returned, seen by the view, is what is said, unless memory ran out.
+abbrev pub Gives : {X Y : Type 0} → (X → Y) → Result X DocumentError → Result Y DocumentError → Type 0
+Gives view (Ok x) said = said ≡ Ok (view x)
+Gives view (Err e) said = e ≢ Memory → said ≡ Err e
+
+-- what each of the items says
+abbrev pub each_said : {A : Type 0} → (Data → Result A DocumentError) → Items → Result (List A) DocumentError
+each_said what no_items = Ok []
+each_said what (item d ds) = what d >>= λ x. each_said what ds >>= λ xs. Ok (x ∷ xs)
+
+-- a text
+abbrev pub text_said : ℕ → Member → Data → Result (List ℕ) DocumentError
+text_said place member d = ok_or (as_str d) (Shape place member)
+
+-- a list of texts
+abbrev pub texts_said : ℕ → Member → Data → Result (List (List ℕ)) DocumentError
+texts_said place member d = ok_or (as_array d) (Shape place member) >>= each_said (text_said place member)

@@ -1,0 +1,12 @@
+-- The list of groups whose texts these are: RFC 8259, section 5.
+use Rattle.std.specs.Prelude.{ℕ, List, [], ◌∷◌, ◌++◌}
+use Rattle.std.specs.List.{join_with_byte}
+
+-- in brackets, joined by commas
+abbrev pub list_text : List (List ℕ) → List ℕ
+list_text texts = 91 ∷ (join_with_byte 44 texts ++ 93 ∷ [])
+
+-- each after a comma
+abbrev pub after_commas : List (List ℕ) → List ℕ
+after_commas [] = []
+after_commas (text ∷ texts) = 44 ∷ (text ++ after_commas texts)

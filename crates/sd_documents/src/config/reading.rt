@@ -1,0 +1,74 @@
+ghost use Rattle.std.specs.Prelude.{◌≡◌, IfOk, false, option_map};
+ghost use Rattle.serde_json.specs.Data.{Data};
+ghost use Rattle.serde_json.specs.View.{view, items_view};
+ghost use Rattle.serde_json.specs.Written.{has_float};
+ghost use Rattle.sd_documents.specs.Reading.{ReadsAs, IsJson, Gives};
+ghost use Rattle.sd_documents.specs.Limits.{AreJobs};
+ghost use Rattle.sd_documents.specs.Config.{config_data, config_said, entries_in as entries_in_data, entries_said, listed_entries};
+
+use crate::config::Config;
+use crate::config::jobs::jobs_in;
+use crate::config::kept::kept_of;
+use crate::config::members::count_of;
+use crate::error::{DocumentError, Limit, Member};
+use crate::json::json_in;
+use serde_json::Value;
+use std::alloc::Global;
+
+/// Reads the document of a configuration.
+pub fn read_config(alloc: Global, bytes: &[u8]) -> Result<Config, DocumentError>
+    ensures json { (d : Data) → ReadsAs bytes.now d → Gives config_data result (config_said d) }
+    ensures no_json { ¬ IsJson bytes.now → Gives config_data result (Err DocumentError.NotJson) }
+    ensures not_json { result ≡ Err DocumentError.NotJson → ¬ IsJson bytes.now }
+    ensures no_float { IfOk result (λ c. has_float (view c.kept) ≡ false) }
+    ensures jobs { IfOk result (λ c. AreJobs c.jobs) }
+{
+    let value = json_in(alloc, bytes)?;
+    config_in(alloc, &value)
+}
+
+#[tactic(auto, using(crate::proofs::NoFloat::no_float_in_kept), unfolding(crate::specs::Config::config_said))]
+fn config_in(alloc: Global, value: &Value) -> Result<Config, DocumentError>
+    ensures said { Gives config_data result (config_said (view value.now)) }
+    ensures no_float { IfOk result (λ c. has_float (view c.kept) ≡ false) }
+    ensures jobs { IfOk result (λ c. AreJobs c.jobs) }
+{
+    let entries = few_entries_in(value)?;
+    let jobs = jobs_in(alloc, entries)?;
+    let kept = kept_of(alloc, entries)?;
+    Ok(Config { jobs, kept })
+}
+
+const MOST_JOBS: usize = 1024;
+
+fn few_entries_in(value: &Value) -> Result<&[Value], DocumentError>
+    ensures { Gives (λ s. items_view s.now) result (listed_entries (view value.now)) }
+{
+    let entries = entries_of(value)?;
+    if count_of(entries) > MOST_JOBS {
+        return Err(DocumentError::TooMany(Limit::Jobs));
+    }
+    Ok(entries)
+}
+
+/// The entries of `scrape_configs`.
+fn entries_of(value: &Value) -> Result<&[Value], DocumentError>
+    ensures { Gives (λ s. items_view s.now) result (entries_said (view value.now)) }
+{
+    if !value.is_object() {
+        return Err(DocumentError::Shape(0, Member::ScrapeConfigs));
+    }
+    entries_in(value.get("scrape_configs"))
+}
+
+fn entries_in(found: Option<&Value>) -> Result<&[Value], DocumentError>
+    ensures { Gives (λ s. items_view s.now) result (entries_in_data (option_map (λ v. view v.now) found.entry)) }
+{
+    let Some(value) = found else {
+        return Ok(&[]);
+    };
+    let entries = value
+        .as_array()
+        .ok_or(DocumentError::Shape(0, Member::ScrapeConfigs))?;
+    Ok(entries.as_slice())
+}

@@ -1,0 +1,168 @@
+//! Lists of target groups, as a discovery answers with them and as a configuration has them.
+ghost use Rattle.std.specs.Prelude.{◌≡◌, List, [], option_map, sum_by, length, nat_le};
+ghost use Rattle.serde_json.specs.Data.{Data};
+ghost use Rattle.serde_json.specs.View.{view, items_view, members_view};
+ghost use Rattle.sd_documents.specs.declared.group.Group.{Group};
+ghost use Rattle.sd_documents.specs.Reading.{ReadsAs, IsJson, Gives, each_said};
+ghost use Rattle.sd_documents.specs.Groups.{filled as filled_data, targets_said, label_said, labels_from, labels_said, parts_said, group_said, groups_said, few_targets};
+
+use crate::error::{DocumentError, Limit, Member};
+use crate::group::Group;
+use crate::json::{json_in, texts_in};
+use label_sets::{LabelName, Labels};
+use lists::{List, Text};
+use serde_json::{Map, Value};
+use std::alloc::Global;
+
+/// Reads the document of a list of target groups.
+pub fn read_groups(alloc: Global, bytes: &[u8]) -> Result<List<Group>, DocumentError>
+    ensures json { (d : Data) → ReadsAs bytes.now d → Gives (λ g. g) result (groups_said 0 Member.Groups d) }
+    ensures no_json { ¬ IsJson bytes.now → Gives (λ (g : List Group). g) result (Err DocumentError.NotJson) }
+    ensures not_json { result ≡ Err DocumentError.NotJson → ¬ IsJson bytes.now }
+{
+    let value = json_in(alloc, bytes)?;
+    groups_in(alloc, 0, Member::Groups, &value)
+}
+
+/// A list of groups that has no more than the most targets.
+pub(crate) fn groups_in(
+    alloc: Global,
+    place: usize,
+    part: Member,
+    value: &Value,
+) -> Result<List<Group>, DocumentError>
+    ensures { Gives (λ g. g) result (groups_said place part (view value.now)) }
+{
+    let values = value.as_array().ok_or(DocumentError::Shape(place, part))?;
+    let groups = each_group(alloc, place, part, values.as_slice())?;
+    few_targets_of(groups)
+}
+
+/// The groups, if they have no more than the most targets.
+fn few_targets_of(groups: List<Group>) -> Result<List<Group>, DocumentError>
+    ensures { Gives (λ g. g) result (few_targets groups) }
+{
+    if !has_few_targets(groups.as_slice()) {
+        return Err(DocumentError::TooMany(Limit::Targets));
+    }
+    Ok(groups)
+}
+
+const MOST_TARGETS: usize = 16384;
+
+/// Whether the groups have no more than the most targets.
+fn has_few_targets(groups: &[Group]) -> bool
+    ensures { result ≡ nat_le (sum_by (λ g. length g.targets) groups.now) 16384 }
+{
+    let mut left = MOST_TARGETS;
+    for group in groups {
+        if group.targets.len() > left {
+            return false;
+        }
+        left -= group.targets.len();
+    }
+    true
+}
+
+fn each_group(
+    alloc: Global,
+    place: usize,
+    part: Member,
+    values: &[Value],
+) -> Result<List<Group>, DocumentError>
+    ensures { Gives (λ g. g) result (each_said (group_said place part) (items_view values.now)) }
+{
+    let mut groups = List::new(alloc);
+    for value in values {
+        let group = group_in(alloc, place, part, value)?;
+        groups.push(group)?;
+    }
+    Ok(groups)
+}
+
+fn group_in(
+    alloc: Global,
+    place: usize,
+    part: Member,
+    value: &Value,
+) -> Result<Group, DocumentError>
+    ensures { Gives (λ g. g) result (group_said place part (view value.now)) }
+{
+    if !value.is_object() {
+        return Err(DocumentError::Shape(place, part));
+    }
+    let targets = targets_in(alloc, place, part, filled(value.get("targets")))?;
+    let labels = labels_in(alloc, place, part, filled(value.get("labels")))?;
+    Ok(Group { targets, labels })
+}
+
+/// A member that is there and not null.
+fn filled(found: Option<&Value>) -> Option<&Value>
+    ensures { option_map (λ v. view v.now) result ≡ filled_data (option_map (λ v. view v.now) found.entry) }
+{
+    match found {
+        Some(value) if !value.is_null() => Some(value),
+        _ => None,
+    }
+}
+
+fn targets_in(
+    alloc: Global,
+    place: usize,
+    part: Member,
+    found: Option<&Value>,
+) -> Result<List<Text>, DocumentError>
+    ensures { Gives (λ t. t) result (targets_said place part (option_map (λ v. view v.now) found.entry)) }
+{
+    match found {
+        Some(value) => texts_in(alloc, place, part, value),
+        None => Ok(List::new(alloc)),
+    }
+}
+
+fn labels_in(
+    alloc: Global,
+    place: usize,
+    part: Member,
+    found: Option<&Value>,
+) -> Result<Labels, DocumentError>
+    ensures { Gives (λ l. l) result (labels_said place part (option_map (λ v. view v.now) found.entry)) }
+{
+    let Some(value) = found else {
+        return Ok(Labels::new(alloc));
+    };
+    let members = value.as_object().ok_or(DocumentError::Shape(place, part))?;
+    each_label(alloc, place, part, members)
+}
+
+fn each_label(
+    alloc: Global,
+    place: usize,
+    part: Member,
+    members: &Map<String, Value>,
+) -> Result<Labels, DocumentError>
+    ensures { Gives (λ l. l) result (labels_from place part [] (members_view members.now.entries)) }
+{
+    let mut labels = Labels::new(alloc);
+    for (name, value) in members.iter() {
+        add_label(alloc, &mut labels, place, part, name.as_str(), value)?;
+    }
+    Ok(labels)
+}
+
+/// Gives the labels one more. The name is looked at before the text.
+fn add_label(
+    alloc: Global,
+    labels: &mut Labels,
+    place: usize,
+    part: Member,
+    name: &str,
+    value: &Value,
+) -> Result<(), DocumentError>
+    ensures { Gives (λ _. labels.new) result (label_said place part labels.old name.now (view value.now)) }
+{
+    let name = LabelName::read(alloc, name)?;
+    let text = value.as_str().ok_or(DocumentError::Shape(place, part))?;
+    labels.set(name, text)?;
+    Ok(())
+}
