@@ -1,0 +1,110 @@
+-- Every published allocation is optimal for its moment.
+use Rattle.std.proofs.Common.{◌≡◌, ℕ, zero, suc, ◌+◌, ◌<◌, ◌≤◌, List, [], ◌∷◌, ◌++◌, Option, Some, None, length, get_or, refl, sym, ap, subst, ◌∙◌, inl, inr, arith, append_assoc, length-append}
+use Rattle.std.specs.Prelude.{map}
+use Rattle.std.proofs.lemmas.List.{length-map, get_or-map, get_or_past, append-nil}
+use Rattle.std.proofs.lemmas.Bool.{cases_lt}
+use Rattle.price_certificate.specs.Problem.{IsProblem}
+use Rattle.price_certificate.specs.Assignment.{IsOptimal}
+use Rattle.price_certificate.proofs.Verdicts.{fault_none}
+use Rattle.price_certificate.proofs.Optimal.{optimal}
+use Rattle.allocation_core.specs.State.{State, first_state, live_of, is_live, current_pairs}
+use Rattle.allocation_core.specs.Instances.{instance_of, allocation_of, limits_for, row_in, beside, bin_before_in}
+use Rattle.allocation_core.specs.Steps.{state_after}
+use Rattle.allocation_core.specs.Runs.{state_of}
+use Rattle.allocation_core.specs.Kept.{IsKept}
+use Rattle.allocation_core.specs.Best.{WasBest, AlwaysBest, IsSound}
+use Rattle.allocation_core.proofs.SoundLemmas.{allocation_live, allocation_once, allocation_reaching}
+use Rattle.allocation_core.proofs.WithinLemmas.{allocation_within}
+use Rattle.allocation_core.specs.declared.event.Event.{Event}
+use Rattle.allocation_core.proofs.LiveLemmas.{length-chosen}
+use Rattle.allocation_core.proofs.Shapes.{parts_shaped, bin_below, length-limits}
+use Rattle.allocation_core.proofs.StepLemmas.{step_kept, start_kept, publishes, Publishes}
+
+none_some : (b : ℕ) → ◌≡◌ {A = Option ℕ} None (Some b) → {X : Type 0} → X
+none_some b e = cc
+
+-- the instance of a moment is one
+pub problem_is : (m : State) → IsKept m → IsProblem (instance_of m)
+unfolding instance_of
+problem_is m kept =
+    let j : ℕ = length m.jobs in
+    let live : List ℕ = live_of m in
+    let few : length live ≤ 16384 = omega (arith, length-chosen (is_live m) (length m.known), kept.few_live) in
+    let shaped = parts_shaped m.jobs m.collectors m.known live [] (limits_for m.jobs m.collectors) (map (row_in j m.collectors m.known) live) _ kept.homes kept.few_bins kept.few_collectors few refl refl refl in
+    let bins = length-limits m.jobs m.collectors in
+    record {
+      reach = shaped.reach;
+      items = length-map live (bin_before_in j m.collectors m.known (current_pairs m)) ∙ sym (length-map live (row_in j m.collectors m.known));
+      before_in_range = λ item bin e. elim (cases_lt item (length live)) [
+        | inl l ↦ bin_below j (length (limits_for m.jobs m.collectors)) bin (get_or live item 0) m.collectors m.known (beside (current_pairs m) (get_or live item 0)) kept.homes (omega (arith, bins))
+            (sym (get_or-map (bin_before_in j m.collectors m.known (current_pairs m)) live item 0 None l) ∙ e)
+        | inr past ↦ none_some bin (sym (get_or_past (map (bin_before_in j m.collectors m.known (current_pairs m)) live) item None (omega (arith, length-map live (bin_before_in j m.collectors m.known (current_pairs m))))) ∙ e)
+      ];
+    }
+
+-- what is published stays
+pub record Grows (old new : List (List (ℕ × ℕ))) : Type 0 where
+  pub more : List (List (ℕ × ℕ))
+  pub is : new ≡ old ++ more
+
+step_grows : (m : State) (e : Event) → Grows m.published (state_after m e).published
+step_grows m e = elim (publishes m e) [
+  | inl same ↦ record { more = []; is = same ∙ sym (append-nil m.published) }
+  | inr p ↦ record { more = allocation_of m p.plan.pairs ∷ []; is = p.grown }
+]
+
+run_grows : (m : State) (es : List Event) → Grows m.published (state_of m es).published
+run_grows m [] = record { more = []; is = sym (append-nil m.published) }
+run_grows m (e ∷ es) =
+    let first = step_grows m e in
+    let rest = run_grows (state_after m e) es in
+    record { more = first.more ++ rest.more; is = rest.is ∙ ap (λ (ps : List (List (ℕ × ℕ))). ps ++ rest.more) first.is ∙ append_assoc m.published first.more rest.more }
+
+get_or-front : (xs ys : List (List (ℕ × ℕ))) (k : ℕ) → k < length xs → get_or (xs ++ ys) k [] ≡ get_or xs k []
+get_or-front [] ys k l = absurd (omega arith)
+get_or-front (x ∷ xs) ys zero l = refl
+get_or-front (x ∷ xs) ys (suc k) l = get_or-front xs ys k (omega arith)
+
+get_or-last : (xs : List (List (ℕ × ℕ))) (x : List (ℕ × ℕ)) (k : ℕ) → k ≡ length xs → get_or (xs ++ x ∷ []) k [] ≡ x
+get_or-last [] x zero e = refl
+get_or-last [] x (suc k) e = absurd (omega arith)
+get_or-last (y ∷ xs) x zero e = absurd (omega arith)
+get_or-last (y ∷ xs) x (suc k) e = get_or-last xs x k (omega arith)
+
+-- the event itself published it
+here_best :
+    (m : State) (e : Event) (es : List Event) (k : ℕ) → IsKept m → length m.published ≤ k → k < length (state_after m e).published → Publishes m e → WasBest m (e ∷ es) (get_or (state_of (state_after m e) es).published k [])
+here_best m e es k kept low high p =
+    let rest = run_grows (state_after m e) es in
+    let size : length (state_after m e).published ≡ length m.published + 1 = omega (arith, ap (λ (ps : List (List (ℕ × ℕ))). length ps) p.grown, length-append m.published (allocation_of m p.plan.pairs ∷ [])) in
+    let problem = problem_is m kept in
+    let best : IsOptimal (instance_of m) p.plan.pairs = optimal (instance_of m) p.plan.pairs p.plan.item_prices p.plan.bin_prices problem (fault_none (instance_of m) p.plan.pairs p.plan.item_prices p.plan.bin_prices problem p.fine) in
+    let is : get_or (state_of (state_after m e) es).published k [] ≡ allocation_of m p.plan.pairs =
+    ap (λ (ps : List (List (ℕ × ℕ))). get_or ps k []) rest.is
+    ∙ get_or-front (state_after m e).published rest.more k high
+    ∙ ap (λ (ps : List (List (ℕ × ℕ))). get_or ps k []) p.grown
+    ∙ get_or-last m.published (allocation_of m p.plan.pairs) k (omega (arith, size)) in
+    record {
+      earlier = [];
+      plan = p.plan;
+      later = es;
+      split = ap (λ (f : Event). f ∷ es) p.is;
+      optimal = best;
+      sound = subst (λ (ps : List (ℕ × ℕ)). IsSound m ps) (sym is) (record { live = allocation_live m p.plan.pairs; once = allocation_once m p.plan.pairs; reaching = allocation_reaching m p.plan.pairs kept best.feasible.allowed; within = allocation_within m p.plan.pairs kept best.feasible });
+      published = is;
+    }
+
+run_best : (m : State) (es : List Event) (k : ℕ) → IsKept m → length m.published ≤ k → k < length (state_of m es).published → WasBest m es (get_or (state_of m es).published k [])
+run_best m [] k kept low high = absurd (omega arith)
+run_best m (e ∷ es) k kept low high = elim (cases_lt k (length (state_after m e).published)) [
+  | inl l ↦ elim (publishes m e) [
+    | inl same ↦ absurd (omega (arith, ap (λ (ps : List (List (ℕ × ℕ))). length ps) same))
+    | inr p ↦ here_best m e es k kept low l p
+  ]
+  | inr g ↦
+      let later = run_best (state_after m e) es k (step_kept m e kept) g high in
+      record { earlier = e ∷ later.earlier; plan = later.plan; later = later.later; split = ap (λ (fs : List Event). e ∷ fs) later.split; optimal = later.optimal; sound = later.sound; published = later.published }
+]
+
+pub always_best : AlwaysBest
+always_best jobs events number less = run_best (first_state jobs) events number (start_kept jobs) (omega arith) less

@@ -1,0 +1,57 @@
+-- What holds at every moment holds in the beginning, and after each event.
+use Rattle.std.proofs.Common.{◌≡◌, ℕ, zero, suc, ◌<◌, ◌≤◌, List, [], ◌∷◌, Bool, true, false, length, refl, arith, cond}
+use Rattle.std.specs.Prelude.{filter, replicate, slice_index_or}
+use Rattle.std.proofs.lemmas.List.{length-map, length-replicate}
+use Rattle.std.proofs.lemmas.List.Elements.{All-filter}
+use Rattle.std.proofs.lemmas.List.Kept.{AllPairs-filter}
+use Rattle.allocation_core.specs.Jobs.{sources_at, nothing_listed}
+use Rattle.allocation_core.specs.State.{State}
+use Rattle.allocation_core.specs.Kept.{IsKept}
+use Rattle.allocation_core.specs.declared.job.JobSpec.{JobSpec}
+use Rattle.allocation_core.specs.declared.job.Collector.{Collector}
+
+each_source_first : (jobs : List JobSpec) (job : ℕ) → length (slice_index_or (nothing_listed jobs) job []) ≡ sources_at jobs job
+each_source_first [] job = refl
+each_source_first (j ∷ jobs) zero = length-replicate j.sources []
+each_source_first (j ∷ jobs) (suc job) = each_source_first jobs job
+
+pub first_kept : (m : State) → m.listed ≡ nothing_listed m.jobs → m.known ≡ [] → m.collectors ≡ [] → m.given ≡ 0 → m.published ≡ [] → IsKept m
+first_kept m listed known collectors given published =
+    record {
+      each_job = rw listed (length-map m.jobs (λ (job : JobSpec). replicate job.sources []));
+      each_source = λ job. rw listed (each_source_first m.jobs job);
+      few_known = rw known (omega arith);
+      homes = rw known (λ k d less. absurd (omega arith));
+      few_live = rw known (omega arith);
+      few_collectors = rw collectors (omega arith);
+      few_bins = rw collectors (omega arith);
+      ascending = rw collectors (λ i j d less in_range. absurd (omega arith));
+      were_given = rw collectors (λ k d less. absurd (omega arith));
+      numbered = rw given (omega arith);
+      few_published = rw published (omega arith);
+    }
+
+filter_le : {X : Type 0} (p : X → Bool) (xs : List X) → length (filter p xs) ≤ length xs
+filter_le p [] = omega arith
+filter_le p (x ∷ xs) = filter_le_by (p x) x (filter p xs) xs (filter_le p xs)
+  where
+    filter_le_by : {X : Type 0} (b : Bool) (x : X) (ys xs : List X) → length ys ≤ length xs → length (cond b (x ∷ ys) ys) ≤ length (x ∷ xs)
+    filter_le_by true x ys xs less = omega arith
+    filter_le_by false x ys xs less = omega arith
+
+pub leave_kept : (m : State) (p : Collector → Bool) → IsKept m → IsKept (record m { collectors = filter p m.collectors })
+leave_kept m p kept =
+    let few = filter_le p m.collectors in
+    record {
+      each_job = kept.each_job;
+      each_source = kept.each_source;
+      few_known = kept.few_known;
+      homes = kept.homes;
+      few_live = kept.few_live;
+      few_collectors = omega (arith, kept.few_collectors);
+      few_bins = grind (arith, kept.few_bins, few);
+      ascending = AllPairs-filter (λ (a b : Collector). a.id < b.id) p m.collectors kept.ascending;
+      were_given = All-filter p (λ (c : Collector). c.id ≤ m.given) m.collectors kept.were_given;
+      numbered = kept.numbered;
+      few_published = kept.few_published;
+    }

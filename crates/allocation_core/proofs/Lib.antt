@@ -1,0 +1,11 @@
+pub mod KeptLemmas
+pub mod Marks
+pub mod Placing
+pub mod Shapes
+pub mod LiveLemmas
+pub mod RunLemmas
+pub mod StepLemmas
+pub mod BestLemmas
+pub mod SoundLemmas
+pub mod WithinLemmas
+pub mod AnswerLemmas

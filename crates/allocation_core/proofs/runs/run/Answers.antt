@@ -1,0 +1,23 @@
+use Rattle.std.proofs.Common.{◌++◌, ◌∷◌, [], ap, sym, ◌∙◌, arith}
+use Rattle.std.proofs.lemmas.Grind.{common_steps}
+use Rattle.allocation_core.specs.State.{State}
+use Rattle.allocation_core.specs.Steps.{answer_of, state_after}
+use Rattle.allocation_core.proofs.RunLemmas.{state_of_push, answers_of_push}
+use Rattle.allocation_core.proofs.runs.run.Goals as goal
+
+pub loop-event-preserved : goal.loop-event-preserved
+loop-event-preserved c =
+    let inv = c.loop-event.invariant in
+    let so_far = c.loop-event.yielded in
+    let event = c.in-Some.event in
+    let m = c.args.core.now in
+    record {
+      answers =
+          c.push_reserved.ensures.items
+          ∙ ((λ i. inv.answers i ++ (c.in-Ok.ensures.answer ∙ ap (λ (s : State). answer_of s event) inv.state) i ∷ [])
+          ∙ sym (answers_of_push m so_far event));
+      state = c.in-Ok.ensures.state ∙ (ap (λ (s : State). state_after s event) inv.state ∙ sym (state_of_push m so_far event));
+      count = grind (arith, common_steps);
+      room = grind (arith, common_steps);
+      rest = grind (arith, common_steps);
+    }

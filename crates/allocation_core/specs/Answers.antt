@@ -1,0 +1,45 @@
+-- Which answers an event can have.
+use Rattle.std.specs.Prelude.{Bool, true, false, IsTrue}
+use Rattle.allocation_core.specs.declared.event.Event.{Event}
+use Rattle.allocation_core.specs.declared.event.Event.TheVariants.{Discover, Join, Leave, Install}
+use Rattle.allocation_core.specs.declared.answer.Answer.{Answer}
+use Rattle.allocation_core.specs.declared.answer.Answer.TheVariants.{Discovered, Joined, Left, Published, Not}
+use Rattle.allocation_core.specs.declared.answer.Refusal.TheVariants.{UnknownJob, UnknownSource, TooManyLive, TooManyKnown, AlreadyJoined, TooManyCollectors, IdsSpent, UnknownCollector, Refused, Unchanged, NumbersSpent}
+
+abbrev pub is_discover_answer : Answer → Bool
+is_discover_answer (Discovered added removed) = true
+is_discover_answer (Not UnknownJob) = true
+is_discover_answer (Not UnknownSource) = true
+is_discover_answer (Not TooManyLive) = true
+is_discover_answer (Not TooManyKnown) = true
+is_discover_answer _ = false
+
+abbrev pub is_join_answer : Answer → Bool
+is_join_answer (Joined id) = true
+is_join_answer (Not (AlreadyJoined id)) = true
+is_join_answer (Not TooManyCollectors) = true
+is_join_answer (Not IdsSpent) = true
+is_join_answer _ = false
+
+abbrev pub is_leave_answer : Answer → Bool
+is_leave_answer Left = true
+is_leave_answer (Not UnknownCollector) = true
+is_leave_answer _ = false
+
+abbrev pub is_install_answer : Answer → Bool
+is_install_answer (Published number) = true
+is_install_answer (Not (Refused fault)) = true
+is_install_answer (Not (Unchanged number)) = true
+is_install_answer (Not NumbersSpent) = true
+is_install_answer _ = false
+
+abbrev pub IsAnswerTo : Event → Answer → Type 0
+IsAnswerTo (Discover job source targets) answer = IsTrue (is_discover_answer answer)
+IsAnswerTo (Join name reach) answer = IsTrue (is_join_answer answer)
+IsAnswerTo (Leave id) answer = IsTrue (is_leave_answer answer)
+IsAnswerTo (Install plan) answer = IsTrue (is_install_answer answer)
+
+-- the event that takes no memory
+abbrev pub is_leave : Event → Bool
+is_leave (Leave id) = true
+is_leave _ = false

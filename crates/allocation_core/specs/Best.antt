@@ -1,0 +1,60 @@
+-- What every published allocation is: an optimal one of its moment.
+use Rattle.std.specs.Prelude.{◌≡◌, ◌≢◌, ◌<◌, ◌≤◌, ◌==◌, ◌&&◌, Bool, false, ℕ, List, [], ◌∷◌, ◌++◌, All, Some, true, count_by, length, slice_get, slice_index_or}
+use Rattle.std.specs.Option.{option_map_or}
+use Rattle.reach_rules.specs.Rules.{reaches}
+use Rattle.allocation_core.specs.declared.job.Known.{Known}
+use Rattle.allocation_core.specs.declared.job.Collector.{Collector}
+use Rattle.price_certificate.specs.Assignment.{IsOptimal}
+use Rattle.price_certificate.specs.declared.plan.Plan.{Plan}
+use Rattle.allocation_core.specs.State.{State, first_state, is_live}
+use Rattle.allocation_core.specs.Instances.{instance_of, allocation_of}
+use Rattle.allocation_core.specs.Runs.{state_of}
+use Rattle.allocation_core.specs.declared.job.JobSpec.{JobSpec}
+use Rattle.allocation_core.specs.declared.event.Event.{Event}
+use Rattle.allocation_core.specs.declared.event.Event.TheVariants.{Install}
+
+-- a live collector of this number reaches the target
+pub record IsReached (m : State) (target collector : ℕ) : Type 0 where
+  pub place : ℕ
+  pub reacher : Collector
+  pub known_as : Known
+  pub is_live_one : slice_get m.collectors place ≡ Some reacher
+  pub number : reacher.id ≡ collector
+  pub is_known : slice_get m.known target ≡ Some known_as
+  pub reached : reaches reacher.reach known_as.target ≡ true
+
+-- the target is of the job
+abbrev pub is_of_job : State → ℕ → ℕ → Bool
+is_of_job m job target = option_map_or (λ (k : Known). k.job == job) (slice_get m.known target) false
+
+-- how many of a job's targets a collector has
+abbrev pub share_of : State → List (ℕ × ℕ) → ℕ → ℕ → ℕ
+share_of m pairs collector job = count_by (λ (q : ℕ × ℕ). (q.1 == collector) && is_of_job m job q.0) pairs
+
+-- the limit of a job, where 0 is no limit
+abbrev pub limit_at : State → ℕ → ℕ
+limit_at m job = option_map_or (λ (j : JobSpec). j.target_limit) (slice_get m.jobs job) 0
+
+-- no collector more of a job's targets than its limit, only live targets, each at most once, and only at collectors that reach them
+pub record IsSound (m : State) (pairs : List (ℕ × ℕ)) : Type 0 where
+  pub live : All (λ (q : ℕ × ℕ). is_live m q.0 ≡ true) pairs
+  pub once : (target : ℕ) → count_by (λ (q : ℕ × ℕ). q.0 == target) pairs ≤ 1
+  pub reaching : All (λ (q : ℕ × ℕ). IsReached m q.0 q.1) pairs
+  pub within : (collector job : ℕ) → limit_at m job ≢ 0 → share_of m pairs collector job ≤ limit_at m job
+
+-- The allocation was published by an Install among the events, and its plan is optimal for the instance of the state just
+-- before that event, among all feasible assignments.
+pub record WasBest (first : State) (events : List Event) (pairs : List (ℕ × ℕ)) : Type 0 where
+  pub earlier : List Event
+  pub plan : Plan
+  pub later : List Event
+  pub split : events ≡ earlier ++ Install plan ∷ later
+  pub optimal : IsOptimal (instance_of (state_of first earlier)) plan.pairs
+  pub sound : IsSound (state_of first earlier) pairs
+  pub published : pairs ≡ allocation_of (state_of first earlier) plan.pairs
+
+-- over every list of jobs and of events
+abbrev pub AlwaysBest : Type 0
+AlwaysBest =
+    (jobs : List JobSpec) (events : List Event) (number : ℕ) → number < length (state_of (first_state jobs) events).published
+    → WasBest (first_state jobs) events (slice_index_or (state_of (first_state jobs) events).published number [])

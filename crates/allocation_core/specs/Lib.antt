@@ -1,0 +1,11 @@
+pub mod Answers
+pub mod Best
+pub mod Instances
+pub mod Jobs
+pub mod Kept
+pub mod Known
+pub mod Lines
+pub mod Live
+pub mod Runs
+pub mod State
+pub mod Steps

@@ -1,0 +1,40 @@
+use crate::job::Known;
+use std::hash::{Hash, Hasher};
+
+impl PartialEq for Known {
+    ghost use Rattle.std.proofs.Common.{rules};
+    ghost use Rattle.std.specs.Cmp.Rules.{comparing};
+    ghost use Rattle.allocation_core.specs.Known.{same_known};
+
+    ghost eq = { same_known };
+
+    ghost laws = { Prim.search (comparing, rules) };
+
+    fn eq(&self, other: &Known) -> bool {
+        self.job == other.job && self.target.text() == other.target.text()
+    }
+}
+
+impl Eq for Known {
+    ghost use Rattle.std.proofs.Common.{rules};
+    ghost use Rattle.std.specs.Cmp.Rules.{comparing};
+
+    ghost laws = { Prim.search (comparing, rules) };
+}
+
+impl Hash for Known {
+    ghost use Rattle.std.specs.Prelude.{◌++◌};
+    ghost use Rattle.std.proofs.Common.{rules};
+    ghost use Rattle.std.specs.Hash as fed;
+    ghost use Rattle.std.specs.Cmp.Rules.{comparing, hashing};
+    ghost use Rattle.label_sets.specs.Target.{target_text};
+
+    ghost hash_input = { λ a. fed.usize a.job ++ fed.str (target_text a.target) };
+
+    ghost respects_eq = { Prim.search (hashing, rules) };
+
+    fn hash<H: Hasher>(&self, state: &mut H) {
+        self.job.hash(state);
+        self.target.text().hash(state);
+    }
+}

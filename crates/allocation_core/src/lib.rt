@@ -1,0 +1,39 @@
+//! The allocator as an event machine: jobs and their targets, collectors, and allocations that are
+//! published only where a certificate proves them the best. It is proved for every list of events.
+//!
+//! Contracts see a `Core` as its state, a record of plain lists, and an event's effect as two functions: its
+//! answer, and the state after it.
+#![tactic(auto)]
+
+mod allocation;
+mod answer;
+mod collectors;
+mod error;
+mod event;
+mod job;
+mod jobs;
+mod known;
+mod laws;
+mod listing;
+mod live;
+mod machine;
+mod pairs;
+mod places;
+mod problem;
+mod runs;
+#[cfg(test)]
+mod tests;
+
+pub use answer::{Answer, Refusal};
+pub use error::OpenError;
+pub use event::Event;
+pub use job::JobSpec;
+pub use laws::{answers_fit, published_are_best};
+pub use machine::Core;
+pub use runs::{Stopped, run};
+
+/// A target's number, from 0 in the order of first appearance.
+pub type TargetId = u32;
+
+/// A collector's number, from 1 in the order of joining.
+pub type CollectorId = u32;

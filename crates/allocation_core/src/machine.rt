@@ -1,0 +1,153 @@
+ghost use Rattle.std.specs.Prelude.{◌≡◌, ◌↔◌, ◌+◌, Some, None, Ok, Err, true, false, slice_get, MatchOption, IfOk, IsOk, OnOk, OnErr};
+ghost use Rattle.allocation_core.specs.State.{first_state, current_of, total_of, held_by, id_named};
+ghost use Rattle.allocation_core.specs.Jobs.{are_jobs};
+ghost use Rattle.allocation_core.specs.Steps.{answer_of, state_after, gained};
+ghost use Rattle.allocation_core.specs.Answers.{is_leave};
+
+mod discovering;
+mod installing;
+mod joining;
+
+use crate::answer::Answer;
+use crate::collectors::id_named;
+use crate::error::OpenError;
+use crate::event::Event;
+use crate::job::{Collector, JobSpec, Known};
+use crate::jobs::{are_jobs, nothing_listed};
+use crate::pairs::{held_in, last_of};
+use crate::problem::{empty_instance, empty_plan};
+use indexmap::IndexSet;
+use label_sets::Target;
+use lists::{List, Plain};
+use price_certificate::{Instance, Plan};
+use std::alloc::{AllocError, Global};
+use std::marker::Model;
+
+/// The allocator. Contracts see it as its state.
+#[derive(Drop)]
+pub struct Core {
+    alloc: Global,
+    jobs: List<JobSpec>,
+    listed: Vec<List<List<usize>>>,
+    known: IndexSet<Known>,
+    collectors: Vec<Collector>,
+    given: u32,
+    published: Vec<List<(u32, u32)>>,
+    instance: Instance,
+    plan: Plan,
+    round: u32,
+}
+
+impl Model for Core {
+    ghost use Rattle.allocation_core.specs.State.{State};
+    ghost use Rattle.allocation_core.specs.Kept.{IsKept};
+
+    ghost Value = { State };
+
+    ghost view = { λ c. record { jobs = c.jobs; listed = c.listed.items; known = c.known.keys; collectors = c.collectors.items; given = c.given; published = c.published.items; problem = c.instance; plan = c.plan; round = c.round } };
+
+    ghost invariant = { λ c. IsKept (record { jobs = c.jobs; listed = c.listed.items; known = c.known.keys; collectors = c.collectors.items; given = c.given; published = c.published.items; problem = c.instance; plan = c.plan; round = c.round }) };
+}
+
+impl Core {
+    /// The allocator of these jobs: nothing is listed, and nobody joined.
+    pub fn open(alloc: Global, jobs: Vec<JobSpec>) -> Result<Core, OpenError>
+        ensures first { IfOk result (λ c. c ≡ first_state jobs.items) }
+        ensures bad { (result ≡ Err OpenError.BadJobs) ↔ (are_jobs jobs.items ≡ false) }
+    {
+        if !are_jobs(jobs.as_slice()) {
+            return Err(OpenError::BadJobs);
+        }
+        let listed = nothing_listed(alloc, jobs.as_slice())?;
+        let instance = empty_instance(alloc)?;
+        Ok(Core {
+            alloc,
+            jobs: List::from_vec(jobs),
+            listed,
+            known: IndexSet::new(alloc),
+            collectors: Vec::new(alloc),
+            given: 0,
+            published: Vec::new(alloc),
+            instance,
+            plan: empty_plan(alloc),
+            round: 1,
+        })
+    }
+
+    /// One step. Without memory nothing changes, and Leave takes none. Join wants it only after all its checks.
+    pub fn apply(&mut self, event: Event) -> Result<Answer, AllocError>
+        ensures answer { IfOk result (λ a. a ≡ answer_of self.old event) }
+        ensures state { OnOk result (self.new ≡ state_after self.old event) }
+        ensures total { IfOk result (λ a. total_of self.new ≡ total_of self.old + gained event a) }
+        ensures err { OnErr result (self.new ≡ self.old) }
+        ensures memory { is_leave event ≡ true → IsOk result }
+    {
+        match event {
+            Event::Discover {
+                job,
+                source,
+                targets,
+            } => self.discover(job, source, targets),
+            Event::Join { name, reach } => self.join(name, reach),
+            Event::Leave(collector) => Ok(self.leave(collector)),
+            Event::Install(plan) => self.install(plan),
+        }
+    }
+
+    /// The number of the current allocation, 0 where none is published.
+    pub fn current(&self) -> u32
+        ensures { result ≡ current_of self.now }
+    {
+        self.published.len() as u32
+    }
+
+    /// The open round.
+    pub fn round(&self) -> u32
+        ensures { result ≡ self.now.round }
+    {
+        self.round
+    }
+
+    /// The samples of all reports: none are booked yet.
+    pub fn total(&self) -> u128
+        ensures { result ≡ total_of self.now }
+    {
+        0
+    }
+
+    /// The number of the live collector of a name.
+    pub fn named(&self, name: &str) -> Option<u32>
+        ensures { result ≡ id_named self.now.collectors name.now }
+    {
+        id_named(self.collectors.as_slice(), name)
+    }
+
+    /// The place of a target's job, and the target.
+    pub fn target(&self, number: u32) -> Option<(usize, &Target)>
+        ensures { MatchOption result (slice_get self.now.known number ≡ None)
+            (λ r. slice_get self.now.known number ≡ Some (record { job = r.0; target = r.1.now })) }
+    {
+        match self.known.get_index(number as usize) {
+            Some(known) => Some((known.job, &known.target)),
+            None => None,
+        }
+    }
+
+    /// The targets that a collector holds in the current allocation, in order of number.
+    pub fn held(&self, collector: u32) -> Result<List<u32>, AllocError>
+        ensures { IfOk result (λ l. l ≡ held_by self.now collector) }
+    {
+        let held = held_in(self.alloc, last_of(self.published.as_slice()), collector)?;
+        Ok(List::from_vec(held))
+    }
+
+    /// The instance and the plan of the last allocation that was published, both empty before the first.
+    pub fn certificate(&self) -> Result<(Instance, Plan), AllocError>
+        ensures instance { IfOk result (λ c. c.0 ≡ self.now.problem) }
+        ensures plan { IfOk result (λ c. c.1 ≡ self.now.plan) }
+    {
+        let instance = self.instance.copy()?;
+        let plan = self.plan.copy()?;
+        Ok((instance, plan))
+    }
+}

@@ -1,0 +1,88 @@
+ghost use Rattle.std.specs.Prelude.{◌≡◌, IfOk, OnOk, OnErr};
+ghost use Rattle.price_certificate.specs.Faults.{fault_of};
+ghost use Rattle.allocation_core.specs.Instances.{instance_of, allocation_of};
+ghost use Rattle.allocation_core.specs.Steps.{answer_of, state_after};
+ghost use Rattle.allocation_core.specs.declared.event.Event.TheVariants.{Install};
+
+use super::Core;
+use crate::allocation::allocation;
+use crate::answer::{Answer, Refusal};
+use crate::live::live_numbers;
+use crate::pairs::{last_of, same_pairs};
+use crate::problem::instance;
+use lists::List;
+use price_certificate::{Fault, Instance, Plan, Verdict, check};
+use std::alloc::{AllocError, Global};
+
+/// The last number of an allocation.
+const LAST_NUMBER: u32 = 4_294_967_295;
+
+impl Core {
+    /// The assignment problem of this moment.
+    #[tactic(auto, unfolding(crate::specs::Instances::instance_of))]
+    pub fn instance(&self) -> Result<Instance, AllocError>
+        ensures { IfOk result (λ i. i ≡ instance_of self.now) }
+    {
+        let live = live_numbers(self.alloc, self.listed.as_slice(), self.known.len())?;
+        let instance = instance(
+            self.alloc,
+            self.jobs.as_slice(),
+            self.collectors.as_slice(),
+            self.known.as_slice(),
+            live.as_slice(),
+            last_of(self.published.as_slice()),
+        )?;
+        Ok(instance)
+    }
+
+    /// A plan's pairs as pairs of a target and a collector, in order of target.
+    #[tactic(auto, unfolding(crate::specs::Instances::allocation_of))]
+    fn allocation(&self, pairs: &[(u32, u32)]) -> Result<List<(u32, u32)>, AllocError>
+        ensures { IfOk result (λ l. l ≡ allocation_of self.now pairs.now) }
+    {
+        let live = live_numbers(self.alloc, self.listed.as_slice(), self.known.len())?;
+        let pairs = allocation(
+            self.alloc,
+            self.jobs.len(),
+            self.collectors.as_slice(),
+            live.as_slice(),
+            pairs,
+        )?;
+        Ok(List::from_vec(pairs))
+    }
+
+    /// A plan is published, where the check against the instance of this moment finds no fault.
+    #[tactic(auto, unfolding(crate::specs::Steps::answer_of, crate::specs::Steps::state_after))]
+    pub(super) fn install(&mut self, plan: Plan) -> Result<Answer, AllocError>
+        ensures answer { IfOk result (λ a. a ≡ answer_of self.old (Install plan)) }
+        ensures state { OnOk result (self.new ≡ state_after self.old (Install plan)) }
+        ensures err { OnErr result (self.new ≡ self.old) }
+    {
+        let instance = self.instance()?;
+        if let Some(fault) = fault_in(self.alloc, &instance, &plan)? {
+            return Ok(Answer::Not(Refusal::Refused(fault)));
+        }
+        let pairs = self.allocation(plan.pairs.as_slice())?;
+        let current = self.current();
+        if same_pairs(pairs.as_slice(), last_of(self.published.as_slice())) {
+            return Ok(Answer::Not(Refusal::Unchanged(current)));
+        }
+        if current >= LAST_NUMBER {
+            return Ok(Answer::Not(Refusal::NumbersSpent));
+        }
+        self.published.push(pairs)?;
+        self.instance = instance;
+        self.plan = plan;
+        Ok(Answer::Published(current + 1))
+    }
+}
+
+/// The first fault of a plan.
+fn fault_in(alloc: Global, instance: &Instance, plan: &Plan) -> Result<Option<Fault>, AllocError>
+    ensures { IfOk result (λ f. f ≡ fault_of instance.now plan.now.pairs plan.now.item_prices plan.now.bin_prices) }
+{
+    match check(alloc, instance, plan)? {
+        Verdict::Refused(fault) => Ok(Some(fault)),
+        Verdict::Best { .. } => Ok(None),
+    }
+}

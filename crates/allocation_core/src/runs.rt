@@ -1,0 +1,31 @@
+ghost use Rattle.std.specs.Prelude.{◌≡◌, IfOk, IfErr, OnOk};
+ghost use Rattle.allocation_core.specs.Runs.{answers_of, state_of, StopsAt};
+
+use crate::answer::Answer;
+use crate::event::Event;
+use crate::machine::Core;
+
+/// A run that stopped for want of memory. The core is as after the events that were answered.
+#[derive(Debug, Drop)]
+pub struct Stopped {
+    pub answers: Vec<Answer>,
+}
+
+/// Applies events in order, and stops at the first want of memory.
+pub fn run(core: &mut Core, events: Vec<Event>) -> Result<Vec<Answer>, Stopped>
+    ensures answers { IfOk result (λ v. v.items ≡ answers_of core.old events.items) }
+    ensures state { OnOk result (core.new ≡ state_of core.old events.items) }
+    ensures stopped { IfErr result (λ s. StopsAt core.old events.items s.answers.items core.new) }
+{
+    let mut answers = Vec::new(*events.allocator());
+    if answers.reserve(events.len()).is_err() {
+        return Err(Stopped { answers });
+    }
+    for event in events {
+        match core.apply(event) {
+            Ok(answer) => answers.push_reserved(answer),
+            Err(_) => return Err(Stopped { answers }),
+        }
+    }
+    Ok(answers)
+}
