@@ -1,0 +1,5 @@
+pub mod Reading
+pub mod Unreadable
+pub mod Check
+pub mod Plan
+pub mod Commands

@@ -1,0 +1,32 @@
+//! Inputs that a command cannot read.
+
+ghost use Rattle.std.specs.Prelude.{◌≡◌, ◌≤◌, ◌≢◌};
+ghost use Rattle.std.specs.Io.KnownBytes.{Appends};
+ghost use Rattle.allocd.specs.Unreadable.{unreadable_line};
+
+use crate::output::write_text;
+use std::io::Write;
+
+/// Why an input is not read.
+#[derive(Clone, Copy, Debug, PartialEq, Eq)]
+pub enum Unreadable {
+    /// It is longer than 67,108,864 bytes.
+    TooLong,
+    /// It is no JSON.
+    NotJson,
+    /// It is JSON of another shape.
+    Shape,
+}
+
+/// Writes the line on an input that is not read, and gives the status.
+pub fn write_unreadable<W: Write>(writer: &mut W, unreadable: Unreadable) -> u8
+    ensures most { result ≤ 3 }
+    ensures status { result ≢ 3 → result ≡ 2 }
+    ensures text { result ≢ 3 → Appends (W.contents writer.old) (W.contents writer.new) (unreadable_line unreadable) }
+{
+    match unreadable {
+        Unreadable::TooLong => write_text(writer, "unreadable TooLong\n", 2),
+        Unreadable::NotJson => write_text(writer, "unreadable NotJson\n", 2),
+        Unreadable::Shape => write_text(writer, "unreadable Shape\n", 2),
+    }
+}
