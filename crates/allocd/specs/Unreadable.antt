@@ -1,6 +1,6 @@
 -- What a program cannot read.
 use Rattle.std.specs.Prelude.{◌<◌, ◌≤◌, ℕ, List, length, codes}
-use Rattle.price_certificate.specs.Document.{IsJson}
+use Rattle.json_values.specs.Texts.{IsJson}
 use Rattle.allocd.specs.Reading.{most_input}
 use Rattle.allocd.specs.declared.unreadable.Unreadable.{Unreadable}
 use Rattle.allocd.specs.declared.unreadable.Unreadable.TheVariants.{TooLong, NotJson, Shape}

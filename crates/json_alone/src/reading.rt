@@ -1,16 +1,12 @@
-ghost use Rattle.std.specs.Prelude.{◌≡◌, ◌↔◌, IfOk, IsTrue};
-ghost use Rattle.price_certificate.specs.Document.{IsJson};
+ghost use Rattle.std.specs.Prelude.{◌≡◌, IfOk, is_some};
+ghost use Rattle.json_values.specs.Texts.{json_of};
 
-use serde_json::Value;
+use json_values::parse;
 use std::alloc::{AllocError, Global};
 
 /// Whether the bytes are a JSON text (RFC 8259), as `serde_json` reads it.
 pub fn is_json(alloc: Global, bytes: &[u8]) -> Result<bool, AllocError>
-    ensures { IfOk result (λ yes. IsTrue yes ↔ IsJson bytes.now) }
+    ensures { IfOk result (λ yes. yes ≡ is_some (json_of bytes.now)) }
 {
-    match Value::from_slice(alloc, bytes) {
-        Ok(_) => Ok(true),
-        Err(error) if error.is_memory() => Err(AllocError),
-        Err(_) => Ok(false),
-    }
+    Ok(parse(alloc, bytes)?.is_some())
 }

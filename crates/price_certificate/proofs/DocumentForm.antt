@@ -6,8 +6,10 @@ use Rattle.std.specs.declared.alloc.AllocError.{AllocError}
 use Rattle.serde_json.specs.Data.{Data, depth, items_depth}
 use Rattle.serde_json.specs.Read.{read, max_depth}
 use Rattle.serde_json.specs.Written.{has_float, compact_text}
+use Rattle.json_values.proofs.Texts.{json_of-text}
 use Rattle.price_certificate.specs.Problem.{Problem}
-use Rattle.price_certificate.specs.Document.{number_data, pair_data, items_data, list_data, pairs_from, document_data, SpellsInstance, SpellsPlan, IsDocument}
+use Rattle.json_values.specs.Spelling.{number_data, pair_data, items_data, list_data}
+use Rattle.price_certificate.specs.Document.{pairs_from, document_data, SpellsInstance, SpellsPlan, IsDocument}
 
 no_float : {A : Type 0} (data_of : A → Data) → ((x : A) → has_float (data_of x) ≡ false) → (xs : List A) → has_float (list_data data_of xs) ≡ false
 no_float data_of each [] = refl
@@ -37,5 +39,5 @@ text_of_form b p pairs item_prices bin_prices d form text = text (ap has_float f
 pub is_document : (r : Result (Vec ℕ Global) AllocError) (p : Problem) (pairs : List (ℕ × ℕ)) (item_prices bin_prices : List ℕ) (d : Data) → d ≡ document_data p pairs item_prices bin_prices → SpellsInstance d p → SpellsPlan d pairs item_prices bin_prices → IfOk r (λ b. IsUtf8 b.items) → IfOk r (λ b. depth d ≤ max_depth → read b.items ≡ Some d) → IfOk r (λ b. IsDocument b.items p pairs item_prices bin_prices)
 is_document (Ok b) p pairs item_prices bin_prices d form instance plan utf8 back =
     let shallow : depth d ≤ max_depth = subst (λ (e : Data). depth e ≤ max_depth) (sym form) (depth-document_data p pairs item_prices bin_prices) in
-    record { says = d; json = record { text = utf8; value = back shallow }; instance = instance; plan = plan }
+    record { says = d; json = json_of-text b.items d utf8 (back shallow); instance = instance; plan = plan }
 is_document (Err e) p pairs item_prices bin_prices d form instance plan utf8 back = tt

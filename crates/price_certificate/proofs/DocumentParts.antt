@@ -5,7 +5,8 @@ use Rattle.std.proofs.lemmas.List.Sums.{sum_by-cons}
 use Rattle.std.proofs.lemmas.Bool.{cases_eq, eq-eqb, ne_eqb}
 use Rattle.serde_json.specs.Data.{Data}
 use Rattle.price_certificate.specs.Problem.{Problem, IsProblem, IsPreceding, bin_in, items_of, bins_of}
-use Rattle.price_certificate.specs.Document.{number_in, pair_in, list_in, pairs_from, object_of, SpellsInstance}
+use Rattle.json_values.specs.Spelling.{number_in, pair_in, list_in}
+use Rattle.price_certificate.specs.Document.{pairs_from, object_of, SpellsInstance}
 
 chosen_not : (b : Bool) (x : ℕ) (rest : Option ℕ) → b ≡ false → cond b (Some x) rest ≡ rest
 chosen_not true x rest e = cc

@@ -2,10 +2,10 @@
 ghost use Rattle.std.specs.Prelude.{◌≡◌, ℕ, List, IfOk};
 ghost use Rattle.serde_json.specs.Written.{compact_text};
 ghost use Rattle.price_certificate.specs.Problem.{Problem};
-ghost use Rattle.price_certificate.specs.Document.{IsJson, IsInstanceDocument, IsDocument, document_data};
+ghost use Rattle.json_values.specs.Texts.{IsJson};
+ghost use Rattle.price_certificate.specs.Document.{IsInstanceDocument, IsDocument, document_data};
 
 mod reading;
-mod spelled;
 #[cfg(test)]
 mod tests;
 mod writing;

@@ -7,6 +7,7 @@ use Rattle.serde_json.specs.Data.{Data, object, Items, no_items, item, Members, 
 use Rattle.serde_json.specs.Find.{get, as_str, as_array, as_object}
 use Rattle.serde_json.specs.Written.{has_float}
 use Rattle.serde_json.specs.Events.{items_len}
+use Rattle.json_values.specs.Spelling.{number_in}
 use Rattle.label_sets.specs.Name.{is_label_name}
 use Rattle.label_sets.specs.Labels.{LabelList, with_label}
 use Rattle.sd_documents.specs.declared.error.DocumentError.{DocumentError}
@@ -19,7 +20,7 @@ use Rattle.sd_documents.specs.declared.config.Param.{Param}
 use Rattle.sd_documents.specs.Reading.{◌>>=◌, Gives, each_said, text_said, texts_said}
 use Rattle.sd_documents.specs.Groups.{filled, targets_said, label_said, labels_from, labels_said, group_said, few_targets, groups_said}
 use Rattle.sd_documents.specs.Groups as group
-use Rattle.sd_documents.specs.Config.{SettingsData, PartsData, JobData, ConfigData, name_said, text_or, number_in, limit_said, params_from, params_said, static_said, url_said, few_urls, urls_said, all_objects, few_rules, rules_said, unsupported_in, settings_said, parts_said, supported, members_said, job_said, is_taken, next_job, with_job, jobs_from, entries_in, entries_said, few_entries, listed_entries, kept_from, config_said}
+use Rattle.sd_documents.specs.Config.{SettingsData, PartsData, JobData, ConfigData, name_said, text_or, limit_said, params_from, params_said, static_said, url_said, few_urls, urls_said, all_objects, few_rules, rules_said, unsupported_in, settings_said, parts_said, supported, members_said, job_said, is_taken, next_job, with_job, jobs_from, entries_in, entries_said, few_entries, listed_entries, kept_from, config_said}
 
 -- it is another answer
 abbrev IsTold : {A : Type 0} → Result A DocumentError → Type 0

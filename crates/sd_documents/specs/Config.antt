@@ -1,15 +1,16 @@
 -- The configuration, in the JSON spelling of Prometheus's configuration file: an object whose member `scrape_configs`
 -- is the list of scrape configs. Where it is absent the list is empty. Here null is a value of another kind, and no
 -- absent member.
-use Rattle.std.specs.Prelude.{ℕ, ◌+◌, ◌^◌, List, [], ◌∷◌, ◌++◌, length, map, Bool, true, not, ◌&&◌, nat_le, nat_lt, nat_eq, Option, Some, None, option_and_then, unwrap_or, Result, Ok, Err, is_some, codes, if◌then◌else◌}
+use Rattle.std.specs.Prelude.{ℕ, ◌+◌, List, [], ◌∷◌, ◌++◌, length, map, Bool, true, not, ◌&&◌, nat_le, nat_eq, Option, Some, None, option_and_then, unwrap_or, Result, Ok, Err, is_some, codes, if◌then◌else◌}
 use Rattle.std.specs.Option.{ok_or, option_map_or}
 use Rattle.std.specs.Str.{bytes_eq}
 use Rattle.std.specs.List.{ends_with, list_any}
 use Rattle.serde_json.specs.Data.{Data, object, Items, no_items, item, Members, no_members, member, put}
-use Rattle.serde_json.specs.Find.{get, as_str, as_number, as_u64, as_array, as_object}
+use Rattle.serde_json.specs.Find.{get, as_str, as_array, as_object}
 use Rattle.serde_json.specs.Written.{has_float}
 use Rattle.serde_json.specs.Events.{items_len}
 use Rattle.serde_json.specs.View.{view, items_view}
+use Rattle.json_values.specs.Spelling.{number_in}
 use Rattle.sd_documents.specs.declared.error.DocumentError.{DocumentError}
 use Rattle.sd_documents.specs.declared.error.DocumentError.TheVariants.{Shape, RepeatedJob, UnsupportedDiscovery, TooMany}
 use Rattle.sd_documents.specs.declared.error.Member.TheVariants.{ScrapeConfigs, JobName, Number, MetricsPath, Scheme, TargetLimit, Params, StaticConfigs, HttpSdConfigs, RelabelConfigs}
@@ -19,7 +20,7 @@ use Rattle.sd_documents.specs.declared.group.Group.{Group}
 use Rattle.sd_documents.specs.declared.config.Config.{Config}
 use Rattle.sd_documents.specs.declared.config.Job.{Job}
 use Rattle.sd_documents.specs.declared.config.Param.{Param}
-use Rattle.sd_documents.specs.Reading.{◌>>=◌, each_said, text_said, texts_said}
+use Rattle.sd_documents.specs.Reading.{◌>>=◌, json_said, each_said, text_said, texts_said}
 use Rattle.sd_documents.specs.Groups.{groups_said}
 
 -- the first members of a scrape config
@@ -67,13 +68,6 @@ name_said place found =
 abbrev pub text_or : List ℕ → ℕ → Member → Option Data → Result (List ℕ) DocumentError
 text_or default place part None = Ok default
 text_or default place part (Some d) = text_said place part d
-
--- a whole number of at most 32 bits: no fraction, no exponent, no minus sign
-abbrev pub of_32_bits : ℕ → Option ℕ
-of_32_bits n = if nat_lt n (2 ^ 32) then Some n else None
-
-abbrev pub number_in : Data → Option ℕ
-number_in d = option_and_then of_32_bits (option_and_then as_u64 (as_number d))
 
 abbrev pub limit_said : ℕ → Option Data → Result ℕ DocumentError
 limit_said place None = Ok 0
@@ -205,3 +199,7 @@ config_said d =
     listed_entries d >>= λ entries.
     jobs_from 0 [] entries >>= λ jobs.
     Ok (record { jobs = jobs; kept = object (kept_from no_members entries) })
+
+-- the document of a configuration
+abbrev pub config_read : List ℕ → Result ConfigData DocumentError
+config_read bytes = json_said bytes >>= config_said

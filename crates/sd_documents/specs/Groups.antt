@@ -9,9 +9,10 @@ use Rattle.label_sets.specs.Labels.{LabelList, with_label}
 use Rattle.sd_documents.specs.declared.error.DocumentError.{DocumentError}
 use Rattle.sd_documents.specs.declared.error.DocumentError.TheVariants.{Shape, BadLabelName, TooMany}
 use Rattle.sd_documents.specs.declared.error.Member.{Member}
+use Rattle.sd_documents.specs.declared.error.Member.TheVariants.{Groups}
 use Rattle.sd_documents.specs.declared.error.Limit.TheVariants.{Targets}
 use Rattle.sd_documents.specs.declared.group.Group.{Group}
-use Rattle.sd_documents.specs.Reading.{◌>>=◌, each_said, text_said, texts_said}
+use Rattle.sd_documents.specs.Reading.{◌>>=◌, json_said, each_said, text_said, texts_said}
 
 -- a member that is there and not null
 abbrev pub filled : Option Data → Option Data
@@ -50,3 +51,7 @@ few_targets groups = if nat_le (sum_by (λ (group : Group). length group.targets
 
 abbrev pub groups_said : ℕ → Member → Data → Result (List Group) DocumentError
 groups_said place part d = ok_or (as_array d) (Shape place part) >>= each_said (group_said place part) >>= few_targets
+
+-- the document of a list of groups
+abbrev pub groups_read : List ℕ → Result (List Group) DocumentError
+groups_read bytes = json_said bytes >>= groups_said 0 Groups

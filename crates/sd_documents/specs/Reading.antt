@@ -1,21 +1,12 @@
 -- Reading JSON documents (RFC 8259, as `serde_json` reads them): what the data says, or its first fault.
-use Rattle.std.specs.Prelude.{◌≡◌, ◌≢◌, ℕ, List, [], ◌∷◌, Some, Result, Ok, Err, IsUtf8}
+use Rattle.std.specs.Prelude.{◌≡◌, ◌≢◌, ℕ, List, [], ◌∷◌, Result, Ok, Err}
 use Rattle.std.specs.Option.{ok_or}
 use Rattle.serde_json.specs.Data.{Data, Items, no_items, item}
 use Rattle.serde_json.specs.Find.{as_str, as_array}
-use Rattle.serde_json.specs.Read.{read}
+use Rattle.json_values.specs.Texts.{json_of}
 use Rattle.sd_documents.specs.declared.error.DocumentError.{DocumentError}
-use Rattle.sd_documents.specs.declared.error.DocumentError.TheVariants.{Shape, Memory}
+use Rattle.sd_documents.specs.declared.error.DocumentError.TheVariants.{NotJson, Shape, Memory}
 use Rattle.sd_documents.specs.declared.error.Member.{Member}
-
--- the bytes are text, and this is the value that they say
-pub record ReadsAs (bytes : List ℕ) (d : Data) : Type 0 where
-  pub text : IsUtf8 bytes
-  pub value : read bytes ≡ Some d
-
--- the bytes are a JSON text
-abbrev pub IsJson : List ℕ → Type 0
-IsJson bytes = (d : Data) × ReadsAs bytes d
 
 -- one after the other, up to the first fault
 infixl 10 ◌>>=◌
@@ -27,6 +18,10 @@ abbrev pub ◌>>=◌ : {A B : Type 0} → Result A DocumentError → (A → Resu
 abbrev pub Gives : {X Y : Type 0} → (X → Y) → Result X DocumentError → Result Y DocumentError → Type 0
 Gives view (Ok x) said = said ≡ Ok (view x)
 Gives view (Err e) said = e ≢ Memory → said ≡ Err e
+
+-- the value of a JSON text
+abbrev pub json_said : List ℕ → Result Data DocumentError
+json_said bytes = ok_or (json_of bytes) NotJson
 
 -- what each of the items says
 abbrev pub each_said : {A : Type 0} → (Data → Result A DocumentError) → Items → Result (List A) DocumentError

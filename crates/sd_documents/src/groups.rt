@@ -1,10 +1,9 @@
 //! Lists of target groups, as a discovery answers with them and as a configuration has them.
-ghost use Rattle.std.specs.Prelude.{◌≡◌, List, [], option_map, sum_by, length, nat_le};
-ghost use Rattle.serde_json.specs.Data.{Data};
+ghost use Rattle.std.specs.Prelude.{◌≡◌, None, [], option_map, sum_by, length, nat_le};
 ghost use Rattle.serde_json.specs.View.{view, items_view, members_view};
-ghost use Rattle.sd_documents.specs.declared.group.Group.{Group};
-ghost use Rattle.sd_documents.specs.Reading.{ReadsAs, IsJson, Gives, each_said};
-ghost use Rattle.sd_documents.specs.Groups.{filled as filled_data, targets_said, label_said, labels_from, labels_said, parts_said, group_said, groups_said, few_targets};
+ghost use Rattle.json_values.specs.Texts.{json_of};
+ghost use Rattle.sd_documents.specs.Reading.{Gives, each_said};
+ghost use Rattle.sd_documents.specs.Groups.{filled as filled_data, targets_said, label_said, labels_from, labels_said, parts_said, group_said, groups_said, groups_read, few_targets};
 
 use crate::error::{DocumentError, Limit, Member};
 use crate::group::Group;
@@ -16,12 +15,18 @@ use std::alloc::Global;
 
 /// Reads the document of a list of target groups.
 pub fn read_groups(alloc: Global, bytes: &[u8]) -> Result<List<Group>, DocumentError>
-    ensures json { (d : Data) → ReadsAs bytes.now d → Gives (λ g. g) result (groups_said 0 Member.Groups d) }
-    ensures no_json { ¬ IsJson bytes.now → Gives (λ (g : List Group). g) result (Err DocumentError.NotJson) }
-    ensures not_json { result ≡ Err DocumentError.NotJson → ¬ IsJson bytes.now }
+    ensures said { Gives (λ g. g) result (groups_read bytes.now) }
+    ensures not_json { result ≡ Err DocumentError.NotJson → json_of bytes.now ≡ None }
 {
     let value = json_in(alloc, bytes)?;
     groups_in(alloc, 0, Member::Groups, &value)
+}
+
+/// Reads one target group.
+pub fn read_group(alloc: Global, value: &Value) -> Result<Group, DocumentError>
+    ensures { Gives (λ g. g) result (group_said 0 Member.Groups (view value.now)) }
+{
+    group_in(alloc, 0, Member::Groups, value)
 }
 
 /// A list of groups that has no more than the most targets.

@@ -1,23 +1,18 @@
 //! JSON texts, and what the parts of every document are made of.
-ghost use Rattle.std.specs.Prelude.{◌≡◌, ◌≢◌, IfOk, IfErr};
 ghost use Rattle.serde_json.specs.View.{view, items_view};
-ghost use Rattle.sd_documents.specs.Reading.{ReadsAs, IsJson, Gives, each_said, text_said, texts_said};
+ghost use Rattle.sd_documents.specs.Reading.{Gives, json_said, each_said, text_said, texts_said};
 
 use crate::error::{DocumentError, Member};
+use json_values::parse;
 use lists::{List, Text};
 use serde_json::Value;
 use std::alloc::Global;
 
 /// The value of a JSON text.
 pub(crate) fn json_in(alloc: Global, bytes: &[u8]) -> Result<Value, DocumentError>
-    ensures ok { IfOk result (λ v. ReadsAs bytes.now (view v)) }
-    ensures refused { IfErr result (λ e. e ≢ DocumentError.Memory → (e ≡ DocumentError.NotJson) × ¬ IsJson bytes.now) }
+    ensures { Gives view result (json_said bytes.now) }
 {
-    match Value::from_slice(alloc, bytes) {
-        Ok(value) => Ok(value),
-        Err(error) if error.is_memory() => Err(DocumentError::Memory),
-        Err(_) => Err(DocumentError::NotJson),
-    }
+    parse(alloc, bytes)?.ok_or(DocumentError::NotJson)
 }
 
 /// A text.

@@ -19,7 +19,7 @@ mod written;
 pub use config::{Config, Job, Param, read_config, scrape_configs_text};
 pub use error::{DocumentError, Limit, Member};
 pub use group::Group;
-pub use groups::read_groups;
+pub use groups::{read_group, read_groups};
 pub use labelling::first_labels;
 pub use media::is_json_media;
 pub use written::write_groups;

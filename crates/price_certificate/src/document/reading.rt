@@ -2,13 +2,14 @@
 ghost use Rattle.std.specs.Prelude.{◌≡◌, ℕ, List, IfOk, IfSome, IfNone};
 ghost use Rattle.serde_json.specs.View.{view};
 ghost use Rattle.price_certificate.specs.Problem.{Problem};
-ghost use Rattle.price_certificate.specs.Document.{ReadsAs, IsJson, SpellsParts, SpellsPlan, SpellsInstance};
+ghost use Rattle.json_values.specs.Texts.{ReadsAs, IsJson};
+ghost use Rattle.price_certificate.specs.Document.{SpellsParts, SpellsPlan, SpellsInstance};
 
 use crate::document::DocumentError;
-use crate::document::spelled::member;
 use crate::instance::Instance;
 use crate::plan::Plan;
 use crate::shape::InstanceError;
+use json_values::{member, parse};
 use lists::List;
 use serde_json::Value;
 use std::alloc::{AllocError, Global};
@@ -27,11 +28,7 @@ pub(crate) fn json_in(alloc: Global, bytes: &[u8]) -> Result<Value, DocumentErro
     ensures not_json { result ≡ Err DocumentError.NotJson → ¬ IsJson bytes.now }
     ensures others { ¬ (result ≡ Err DocumentError.Shape) }
 {
-    match Value::from_slice(alloc, bytes) {
-        Ok(value) => Ok(value),
-        Err(error) if error.is_memory() => Err(DocumentError::Memory),
-        Err(_) => Err(DocumentError::NotJson),
-    }
+    parse(alloc, bytes)?.ok_or(DocumentError::NotJson)
 }
 
 /// The instance that a document spells.

@@ -1,11 +1,12 @@
 //! The parts of a document that is written.
 ghost use Rattle.std.specs.Prelude.{◌≡◌, Some, IfOk};
 ghost use Rattle.serde_json.specs.View.{view};
-ghost use Rattle.price_certificate.specs.Document.{number_in, pair_in, list_in, number_data, pair_data, list_data, pairs_from, object_of as object_data, document_data, SpellsInstance, SpellsPlan};
+ghost use Rattle.json_values.specs.Spelling.{number_in, pair_in, list_in, number_data, pair_data, list_data};
+ghost use Rattle.price_certificate.specs.Document.{pairs_from, object_of as object_data, document_data, SpellsInstance, SpellsPlan};
 
-use crate::document::spelled::{Spelled, array_of};
 use crate::instance::Instance;
 use crate::plan::Plan;
+use json_values::{Spelled, array_of};
 use serde_json::{Map, Value, put};
 use std::alloc::{AllocError, Global};
 

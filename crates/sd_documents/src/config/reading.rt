@@ -1,10 +1,10 @@
-ghost use Rattle.std.specs.Prelude.{◌≡◌, IfOk, false, option_map};
-ghost use Rattle.serde_json.specs.Data.{Data};
+ghost use Rattle.std.specs.Prelude.{◌≡◌, IfOk, None, false, option_map};
+ghost use Rattle.json_values.specs.Texts.{json_of};
 ghost use Rattle.serde_json.specs.View.{view, items_view};
 ghost use Rattle.serde_json.specs.Written.{has_float};
-ghost use Rattle.sd_documents.specs.Reading.{ReadsAs, IsJson, Gives};
+ghost use Rattle.sd_documents.specs.Reading.{Gives};
 ghost use Rattle.sd_documents.specs.Limits.{AreJobs};
-ghost use Rattle.sd_documents.specs.Config.{config_data, config_said, entries_in as entries_in_data, entries_said, listed_entries};
+ghost use Rattle.sd_documents.specs.Config.{config_data, config_said, config_read, entries_in as entries_in_data, entries_said, listed_entries};
 
 use crate::config::Config;
 use crate::config::jobs::jobs_in;
@@ -17,9 +17,8 @@ use std::alloc::Global;
 
 /// Reads the document of a configuration.
 pub fn read_config(alloc: Global, bytes: &[u8]) -> Result<Config, DocumentError>
-    ensures json { (d : Data) → ReadsAs bytes.now d → Gives config_data result (config_said d) }
-    ensures no_json { ¬ IsJson bytes.now → Gives config_data result (Err DocumentError.NotJson) }
-    ensures not_json { result ≡ Err DocumentError.NotJson → ¬ IsJson bytes.now }
+    ensures said { Gives config_data result (config_read bytes.now) }
+    ensures not_json { result ≡ Err DocumentError.NotJson → json_of bytes.now ≡ None }
     ensures no_float { IfOk result (λ c. has_float (view c.kept) ≡ false) }
     ensures jobs { IfOk result (λ c. AreJobs c.jobs) }
 {

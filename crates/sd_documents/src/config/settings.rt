@@ -2,11 +2,12 @@
 ghost use Rattle.std.specs.Prelude.{◌≡◌, option_map};
 ghost use Rattle.serde_json.specs.View.{view};
 ghost use Rattle.sd_documents.specs.Reading.{Gives};
-ghost use Rattle.sd_documents.specs.Config.{name_said, text_or as text_or_data, limit_said, number_in as number_in_data, settings_said};
+ghost use Rattle.sd_documents.specs.Config.{name_said, text_or as text_or_data, limit_said, settings_said};
 ghost use Rattle.sd_documents.specs.Seen.{settings_data};
 
 use crate::error::{DocumentError, Member};
 use crate::json::text_in;
+use json_values::number;
 use lists::Text;
 use serde_json::Value;
 use std::alloc::Global;
@@ -78,16 +79,7 @@ fn limit_in(place: usize, found: Option<&Value>) -> Result<u32, DocumentError>
     ensures { Gives (λ n. n) result (limit_said place (option_map (λ v. view v.now) found.entry)) }
 {
     match found {
-        Some(value) => number_in(value).ok_or(DocumentError::Shape(place, Member::TargetLimit)),
+        Some(value) => number(value).ok_or(DocumentError::Shape(place, Member::TargetLimit)),
         None => Ok(0),
-    }
-}
-
-fn number_in(value: &Value) -> Option<u32>
-    ensures { result ≡ number_in_data (view value.now) }
-{
-    match value.as_u64() {
-        Some(n) if n < 1 << 32 => Some(n as u32),
-        _ => None,
     }
 }

@@ -9,4 +9,4 @@ use Rattle.sd_documents.proofs.groups.read_groups.Goals as goal
 pub returns-clause-not_json : goal.returns-clause-not_json
 returns-clause-not_json c =
     let d = view c.in_ok-value.value in
-    λ is json. given_is_told (λ (g : List Group). g) c.groups_in.result (groups_said 0 Groups d) c.groups_in.ensures (groups_told 0 Groups d) is
+    λ is. absurd (given_is_told (λ (g : List Group). g) c.groups_in.result (groups_said 0 Groups d) c.groups_in.ensures (groups_told 0 Groups d) is)

@@ -3,8 +3,8 @@ use Rattle.std.proofs.lemmas.List.{get_or_default, take_all}
 use Rattle.serde_json.proofs.Views.{view-Array}
 use Rattle.serde_json.specs.Data.{array}
 use Rattle.price_certificate.specs.Problem.{row_of}
-use Rattle.price_certificate.specs.Document.{number_in, list_in, number_data, list_data, items_data}
-use Rattle.price_certificate.proofs.DocumentValues.{items_data_more, all_in_more}
+use Rattle.json_values.specs.Spelling.{number_in, list_in, number_data, list_data, items_data}
+use Rattle.json_values.proofs.Lists.{items_data_more, all_in_more}
 use Rattle.price_certificate.proofs.document.writing.reach_of.Goals as goal
 
 pub loop-item-preserved : goal.loop-item-preserved

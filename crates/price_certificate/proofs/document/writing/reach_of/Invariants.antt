@@ -1,6 +1,6 @@
 use Rattle.std.proofs.Common.{◌≡◌, Some, take}
 use Rattle.serde_json.specs.View.{items_view}
-use Rattle.price_certificate.specs.Document.{number_in, list_in, all_in, number_data, list_data, items_data}
+use Rattle.json_values.specs.Spelling.{number_in, list_in, all_in, number_data, list_data, items_data}
 use Rattle.price_certificate.proofs.document.writing.reach_of.Given as goal
 
 abbrev pub invariant-loop-item : goal.invariant-loop-item

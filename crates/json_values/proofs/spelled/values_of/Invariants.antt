@@ -1,7 +1,7 @@
 use Rattle.std.proofs.Common.{◌≡◌, Some, take}
 use Rattle.serde_json.specs.View.{items_view}
-use Rattle.price_certificate.specs.Document.{all_in, items_data}
-use Rattle.price_certificate.proofs.document.spelled.values_of.Given as goal
+use Rattle.json_values.specs.Spelling.{all_in, items_data}
+use Rattle.json_values.proofs.spelled.values_of.Given as goal
 
 abbrev pub invariant-loop-item : goal.invariant-loop-item
 invariant-loop-item g l = record {

@@ -1,5 +1,5 @@
-use Rattle.price_certificate.proofs.DocumentValues.{items_data_more, all_in_more}
-use Rattle.price_certificate.proofs.document.spelled.values_of.Goals as goal
+use Rattle.json_values.proofs.Lists.{items_data_more, all_in_more}
+use Rattle.json_values.proofs.spelled.values_of.Goals as goal
 
 pub loop-item-preserved : goal.loop-item-preserved
 loop-item-preserved g c =

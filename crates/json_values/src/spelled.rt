@@ -1,15 +1,16 @@
 //! What JSON values spell: whole numbers, pairs of them, and lists of what can be spelled.
 ghost use Rattle.std.specs.Prelude.{◌≡◌, Option, Some, IfOk};
-ghost use Rattle.serde_json.specs.Data.{Data};
+ghost use Rattle.serde_json.specs.Data.{Data, string};
+ghost use Rattle.serde_json.specs.Find.{as_str};
 ghost use Rattle.serde_json.specs.View.{view, items_view};
-ghost use Rattle.price_certificate.specs.Document.{number_in, pair_in, list_in, all_in, member_in, number_data, pair_data, items_data, list_data};
+ghost use Rattle.json_values.specs.Spelling.{number_in, pair_in, list_in, all_in, member_in, number_data, pair_data, items_data, list_data};
 
-use lists::List;
+use lists::{List, Text};
 use serde_json::Value;
 use std::alloc::{AllocError, Global};
 
 /// What a JSON value can spell.
-pub(crate) trait Spelled: Sized {
+pub trait Spelled: Sized {
     ghost spelled: { Data → Option Self };
 
     /// What the value spells, if it is such a thing.
@@ -57,6 +58,23 @@ impl Spelled for (u32, u32) {
     }
 }
 
+impl Spelled for Text {
+    ghost spelled = { as_str };
+
+    fn read(alloc: Global, value: &Value) -> Result<Option<Text>, AllocError> {
+        match value.as_str() {
+            Some(text) => Ok(Some(Text::from_str(alloc, text)?)),
+            None => Ok(None),
+        }
+    }
+
+    ghost spelling = { string };
+
+    fn write(&self, alloc: Global) -> Result<Value, AllocError> {
+        Ok(Value::String(String::from_str(alloc, self.as_str())?))
+    }
+}
+
 impl<T: Spelled + Drop> Spelled for List<T> {
     ghost spelled = { list_in T.spelled };
 
@@ -75,11 +93,7 @@ impl<T: Spelled + Drop> Spelled for List<T> {
 }
 
 /// What a member of an object spells.
-pub(crate) fn member<T: Spelled>(
-    alloc: Global,
-    value: &Value,
-    name: &str,
-) -> Result<Option<T>, AllocError>
+pub fn member<T: Spelled>(alloc: Global, value: &Value, name: &str) -> Result<Option<T>, AllocError>
     ensures { IfOk result (λ o. o ≡ member_in T.spelled name.now (view value.now)) }
 {
     match value.get(name) {
@@ -88,7 +102,8 @@ pub(crate) fn member<T: Spelled>(
     }
 }
 
-fn number(value: &Value) -> Option<u32>
+/// A whole number of at most 32 bits: no fraction, no exponent, no minus sign.
+pub fn number(value: &Value) -> Option<u32>
     ensures { result ≡ number_in (view value.now) }
 {
     match value.as_u64() {
@@ -120,7 +135,7 @@ fn all<T: Spelled + Drop>(alloc: Global, values: &[Value]) -> Result<Option<List
 }
 
 /// The array that spells all of these.
-pub(crate) fn array_of<T: Spelled>(alloc: Global, items: &[T]) -> Result<Value, AllocError>
+pub fn array_of<T: Spelled>(alloc: Global, items: &[T]) -> Result<Value, AllocError>
     ensures form { IfOk result (λ v. view v ≡ list_data T.spelling items.now) }
     ensures reads_back { IfOk result (λ v. list_in T.spelled (view v) ≡ Some items.now) }
 {
