@@ -1,20 +1,22 @@
--- Every published allocation is optimal for its moment.
-use Rattle.std.proofs.Common.{◌≡◌, ℕ, zero, suc, ◌+◌, ◌<◌, ◌≤◌, List, [], ◌∷◌, ◌++◌, Option, Some, None, length, get_or, refl, sym, ap, subst, ◌∙◌, inl, inr, arith, append_assoc, length-append}
-use Rattle.std.specs.Prelude.{map}
+-- Every published allocation is the best of its moment.
+use Rattle.std.proofs.Common.{◌≡◌, ℕ, zero, suc, ◌+◌, ◌-◌, ◌<◌, ◌≤◌, List, [], ◌∷◌, ◌++◌, Option, Some, None, All, length, get_or, refl, sym, ap, subst, ◌∙◌, inl, inr, arith, append_assoc, length-append}
+use Rattle.std.specs.Prelude.{AllPairs, map}
 use Rattle.std.proofs.lemmas.List.{length-map, get_or-map, get_or_past, append-nil}
+use Rattle.std.proofs.lemmas.List.Elements.{All-nil, All-push}
 use Rattle.std.proofs.lemmas.Bool.{cases_lt}
 use Rattle.price_certificate.specs.Problem.{IsProblem}
 use Rattle.price_certificate.specs.Assignment.{IsOptimal}
 use Rattle.price_certificate.proofs.Verdicts.{fault_none}
 use Rattle.price_certificate.proofs.Optimal.{optimal}
-use Rattle.allocation_core.specs.State.{State, first_state, live_of, is_live, current_pairs}
+use Rattle.allocation_core.specs.State.{State, first_state, live_of, is_live, current_pairs, last_of}
 use Rattle.allocation_core.specs.Instances.{instance_of, allocation_of, limits_for, row_in, beside, bin_before_in}
 use Rattle.allocation_core.specs.Steps.{state_after}
 use Rattle.allocation_core.specs.Runs.{state_of}
 use Rattle.allocation_core.specs.Kept.{IsKept}
-use Rattle.allocation_core.specs.Best.{WasBest, AlwaysBest, IsSound}
-use Rattle.allocation_core.proofs.SoundLemmas.{allocation_live, allocation_once, allocation_reaching}
+use Rattle.allocation_core.specs.Best.{WasBest, AlwaysBest, IsBest, IsSound}
+use Rattle.allocation_core.proofs.SoundLemmas.{allocation_ascending, allocation_live, allocation_once, allocation_reaching}
 use Rattle.allocation_core.proofs.WithinLemmas.{allocation_within}
+use Rattle.allocation_core.proofs.TransferLemmas.{IsOnce, best_of}
 use Rattle.allocation_core.specs.declared.event.Event.{Event}
 use Rattle.allocation_core.proofs.LiveLemmas.{length-chosen}
 use Rattle.allocation_core.proofs.Shapes.{parts_shaped, bin_below, length-limits}
@@ -71,40 +73,72 @@ get_or-last [] x (suc k) e = absurd (omega arith)
 get_or-last (y ∷ xs) x zero e = absurd (omega arith)
 get_or-last (y ∷ xs) x (suc k) e = get_or-last xs x k (omega arith)
 
+-- no target stands twice in what is published
+step_once : (m : State) (e : Event) → All IsOnce m.published → All IsOnce (state_after m e).published
+step_once m e once = elim (publishes m e) [
+  | inl same ↦ subst (λ (ps : List (List (ℕ × ℕ))). All IsOnce ps) (sym same) once
+  | inr p ↦ subst (λ (ps : List (List (ℕ × ℕ))). All IsOnce ps) (sym p.grown) (All-push IsOnce m.published (allocation_of m p.plan.pairs) once (allocation_once m p.plan.pairs))
+]
+
+last_once : (published : List (List (ℕ × ℕ))) → All IsOnce published → IsOnce (last_of published)
+last_once [] once = λ target. omega arith
+last_once (pairs ∷ published) once = once (length (pairs ∷ published) - 1) [] (omega arith)
+
 -- the event itself published it
 here_best :
-    (m : State) (e : Event) (es : List Event) (k : ℕ) → IsKept m → length m.published ≤ k → k < length (state_after m e).published → Publishes m e → WasBest m (e ∷ es) (get_or (state_of (state_after m e) es).published k [])
-here_best m e es k kept low high p =
+    (m : State) (e : Event) (es : List Event) (k : ℕ) → IsKept m → All IsOnce m.published → length m.published ≤ k → k < length (state_after m e).published → Publishes m e → WasBest m (e ∷ es) k (get_or (state_of (state_after m e) es).published k [])
+here_best m e es k kept once low high p =
     let rest = run_grows (state_after m e) es in
     let size : length (state_after m e).published ≡ length m.published + 1 = omega (arith, ap (λ (ps : List (List (ℕ × ℕ))). length ps) p.grown, length-append m.published (allocation_of m p.plan.pairs ∷ [])) in
     let problem = problem_is m kept in
-    let best : IsOptimal (instance_of m) p.plan.pairs = optimal (instance_of m) p.plan.pairs p.plan.item_prices p.plan.bin_prices problem (fault_none (instance_of m) p.plan.pairs p.plan.item_prices p.plan.bin_prices problem p.fine) in
+    let optimal_plan : IsOptimal (instance_of m) p.plan.pairs = optimal (instance_of m) p.plan.pairs p.plan.item_prices p.plan.bin_prices problem (fault_none (instance_of m) p.plan.pairs p.plan.item_prices p.plan.bin_prices problem p.fine) in
     let is : get_or (state_of (state_after m e) es).published k [] ≡ allocation_of m p.plan.pairs =
     ap (λ (ps : List (List (ℕ × ℕ))). get_or ps k []) rest.is
     ∙ get_or-front (state_after m e).published rest.more k high
     ∙ ap (λ (ps : List (List (ℕ × ℕ))). get_or ps k []) p.grown
     ∙ get_or-last m.published (allocation_of m p.plan.pairs) k (omega (arith, size)) in
+    let sound : IsSound m (allocation_of m p.plan.pairs) =
+    record {
+      live = allocation_live m p.plan.pairs;
+      once = allocation_once m p.plan.pairs;
+      reaching = allocation_reaching m p.plan.pairs kept optimal_plan.feasible.allowed;
+      within = allocation_within m p.plan.pairs kept optimal_plan.feasible;
+    } in
     record {
       earlier = [];
       plan = p.plan;
       later = es;
       split = ap (λ (f : Event). f ∷ es) p.is;
-      optimal = best;
-      sound = subst (λ (ps : List (ℕ × ℕ)). IsSound m ps) (sym is) (record { live = allocation_live m p.plan.pairs; once = allocation_once m p.plan.pairs; reaching = allocation_reaching m p.plan.pairs kept best.feasible.allowed; within = allocation_within m p.plan.pairs kept best.feasible });
+      others = omega (arith, size);
+      granted = ap (λ (f : Event). (state_after m f).published) (sym p.is) ∙ p.grown ∙ ap (λ (ps : List (ℕ × ℕ)). m.published ++ ps ∷ []) (sym is);
+      best = subst (λ (ps : List (ℕ × ℕ)). IsBest m ps) (sym is) (best_of m p.plan.pairs kept problem (last_once m.published once) sound optimal_plan);
+      ascending = subst (λ (ps : List (ℕ × ℕ)). AllPairs (λ (a b : ℕ × ℕ). a.0 < b.0) ps) (sym is) (allocation_ascending m p.plan.pairs);
       published = is;
+      optimal = optimal_plan;
     }
 
-run_best : (m : State) (es : List Event) (k : ℕ) → IsKept m → length m.published ≤ k → k < length (state_of m es).published → WasBest m es (get_or (state_of m es).published k [])
-run_best m [] k kept low high = absurd (omega arith)
-run_best m (e ∷ es) k kept low high = elim (cases_lt k (length (state_after m e).published)) [
+run_best : (m : State) (es : List Event) (k : ℕ) → IsKept m → All IsOnce m.published → length m.published ≤ k → k < length (state_of m es).published → WasBest m es k (get_or (state_of m es).published k [])
+run_best m [] k kept once low high = absurd (omega arith)
+run_best m (e ∷ es) k kept once low high = elim (cases_lt k (length (state_after m e).published)) [
   | inl l ↦ elim (publishes m e) [
     | inl same ↦ absurd (omega (arith, ap (λ (ps : List (List (ℕ × ℕ))). length ps) same))
-    | inr p ↦ here_best m e es k kept low l p
+    | inr p ↦ here_best m e es k kept once low l p
   ]
   | inr g ↦
-      let later = run_best (state_after m e) es k (step_kept m e kept) g high in
-      record { earlier = e ∷ later.earlier; plan = later.plan; later = later.later; split = ap (λ (fs : List Event). e ∷ fs) later.split; optimal = later.optimal; sound = later.sound; published = later.published }
+      let later = run_best (state_after m e) es k (step_kept m e kept) (step_once m e once) g high in
+      record {
+        earlier = e ∷ later.earlier;
+        plan = later.plan;
+        later = later.later;
+        split = ap (λ (fs : List Event). e ∷ fs) later.split;
+        others = later.others;
+        granted = later.granted;
+        best = later.best;
+        ascending = later.ascending;
+        published = later.published;
+        optimal = later.optimal;
+      }
 ]
 
 pub always_best : AlwaysBest
-always_best jobs events number less = run_best (first_state jobs) events number (start_kept jobs) (omega arith) less
+always_best jobs events number less = run_best (first_state jobs) events number (start_kept jobs) (All-nil IsOnce) (omega arith) less

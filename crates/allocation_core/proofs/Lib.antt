@@ -9,3 +9,7 @@ pub mod BestLemmas
 pub mod SoundLemmas
 pub mod WithinLemmas
 pub mod AnswerLemmas
+pub mod CountLemmas
+pub mod FitLemmas
+pub mod PairLemmas
+pub mod TransferLemmas

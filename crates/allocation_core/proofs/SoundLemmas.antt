@@ -1,10 +1,12 @@
 -- An allocation of a feasible plan has only live targets, each once, and only at collectors that reach them.
 use Rattle.std.proofs.Common.{◌≡◌, ℕ, zero, suc, ◌+◌, ◌*◌, ◌/◌, ◌<◌, ◌≤◌, List, [], ◌∷◌, ◌++◌, Bool, true, false, Option, Some, None, All, length, get_or, cond, eqb, count_by, refl, sym, ap, subst, ◌∙◌, inl, inr, arith, append-nil}
-use Rattle.std.specs.Prelude.{Contains, slice_get}
+use Rattle.std.specs.Prelude.{AllPairs, Contains, slice_get}
 use Rattle.std.specs.Option.{option_map, option_map_or, option_to_list}
 use Rattle.std.proofs.lemmas.Nat.{div-mul-add}
 use Rattle.std.proofs.lemmas.List.{get_or-map}
 use Rattle.std.proofs.lemmas.List.Elements.{All-nil, All-push, All-head, All-tail}
+use Rattle.std.proofs.lemmas.List.Kept.{AllPairs-cons}
+use Rattle.std.proofs.lemmas.List.Quantifiers.{all_pairs_push}
 use Rattle.std.proofs.lemmas.List.Sums.{sum_by-cons, sum_by-append}
 use Rattle.std.proofs.lemmas.Bool.{cases_eq, eq-eqb, ne_eqb}
 use Rattle.price_certificate.specs.Problem.{IsAllowed, row_of}
@@ -16,6 +18,7 @@ use Rattle.allocation_core.specs.Kept.{IsKept}
 use Rattle.allocation_core.specs.Best.{IsReached}
 use Rattle.allocation_core.specs.declared.job.Known.{Known}
 use Rattle.allocation_core.specs.declared.job.Collector.{Collector}
+use Rattle.allocation_core.proofs.LiveLemmas.{chosen_all}
 use Rattle.allocation_core.proofs.Shapes.{found_has}
 
 -- a pair is of its target
@@ -73,6 +76,27 @@ once_pairs jobs cs f item t [] = omega arith
 once_pairs jobs cs f item t (x ∷ live) =
     once_pair_by (pair_by jobs cs (f item) x) x t (pairs_from jobs cs f (item + 1) live) live (pair_first jobs cs (f item) x) (once_pairs jobs cs f (item + 1) t live)
 
+-- the pairs ascend by target, as the targets do
+ascend_more : (c : Bool) (n : ℕ) (xs : List ℕ) → All (λ t. t < n) xs → AllPairs (λ (a b : ℕ). a < b) xs → AllPairs (λ (a b : ℕ). a < b) (xs ++ cond c (n ∷ []) [])
+ascend_more true n xs below asc = all_pairs_push (λ (a b : ℕ). a < b) xs n asc below
+ascend_more false n xs below asc = subst (λ (ys : List ℕ). AllPairs (λ (a b : ℕ). a < b) ys) (sym (append-nil xs)) asc
+
+chosen_ascend : (p : ℕ → Bool) (n : ℕ) → AllPairs (λ (a b : ℕ). a < b) (chosen_below p n)
+chosen_ascend p zero = λ i j d l less. absurd (omega arith)
+chosen_ascend p (suc n) = ascend_more (p n) n (chosen_below p n) (chosen_all p n) (chosen_ascend p n)
+
+ascend_by :
+    (o : Option (ℕ × ℕ)) (target : ℕ) (rest : List (ℕ × ℕ)) → ((q : ℕ × ℕ) → o ≡ Some q → q.0 ≡ target) → All (λ (q : ℕ × ℕ). target < q.0) rest → AllPairs (λ (a b : ℕ × ℕ). a.0 < b.0) rest
+    → AllPairs (λ (a b : ℕ × ℕ). a.0 < b.0) (option_to_list o ++ rest)
+ascend_by None target rest is above asc = asc
+ascend_by (Some q) target rest is above asc = AllPairs-cons (λ (a b : ℕ × ℕ). a.0 < b.0) q rest (λ k d l. omega (arith, is q refl, above k d l)) asc
+
+pairs_ascend : (jobs : ℕ) (cs : List Collector) (f : ℕ → Option ℕ) (item : ℕ) (live : List ℕ) → AllPairs (λ (a b : ℕ). a < b) live → AllPairs (λ (a b : ℕ × ℕ). a.0 < b.0) (pairs_from jobs cs f item live)
+pairs_ascend jobs cs f item [] asc = λ i j d l less. absurd (omega arith)
+pairs_ascend jobs cs f item (t ∷ live) asc =
+    ascend_by (pair_by jobs cs (f item) t) t (pairs_from jobs cs f (item + 1) live) (pair_first jobs cs (f item) t) (live_pairs (λ (x : ℕ). t < x) jobs cs f (item + 1) live (λ k d l. asc 0 (suc k) d (omega arith) (omega arith)))
+    (pairs_ascend jobs cs f (item + 1) live (λ i j d l less. asc (suc i) (suc j) d (omega arith) (omega arith)))
+
 -- where a bin of a row is from
 pub record IsFrom (jobs place bin : ℕ) (cs : List Collector) (k : Known) : Type 0 where
   pub further : ℕ
@@ -98,7 +122,7 @@ row_is_from jobs place bin [] k (i, l, at) = absurd (omega arith)
 row_is_from jobs place bin (c ∷ cs) k has =
     from_by (reaches c.reach k.target) jobs place bin (place * jobs + k.job) c cs k (row_from jobs (place + 1) cs k) refl refl (row_is_from jobs (place + 1) bin cs k) has
 
-same_some : (a b : Collector) (o : Option Collector) → o ≡ Some a → o ≡ Some b → a ≡ b
+pub same_some : (a b : Collector) (o : Option Collector) → o ≡ Some a → o ≡ Some b → a ≡ b
 same_some a b o e f = cc
 
 reached_by :
@@ -167,6 +191,10 @@ allocation_live m plan = live_pairs (λ t. is_live m t ≡ true) (length m.jobs)
 pub allocation_once : (m : State) (plan : List (ℕ × ℕ)) (t : ℕ) → count_by (λ (q : ℕ × ℕ). eqb q.0 t) (allocation_of m plan) ≤ 1
 unfolding allocation_of
 allocation_once m plan t = omega (arith, once_pairs (length m.jobs) m.collectors (beside plan) 0 t (live_of m), (chosen_once (is_live m) (length m.known) t).1)
+
+pub allocation_ascending : (m : State) (plan : List (ℕ × ℕ)) → AllPairs (λ (a b : ℕ × ℕ). a.0 < b.0) (allocation_of m plan)
+unfolding allocation_of
+allocation_ascending m plan = pairs_ascend (length m.jobs) m.collectors (beside plan) 0 (live_of m) (chosen_ascend (is_live m) (length m.known))
 
 pub allocation_reaching : (m : State) (plan : List (ℕ × ℕ)) → IsKept m → All (λ (q : ℕ × ℕ). IsAllowed (instance_of m) q.0 q.1) plan → All (λ (q : ℕ × ℕ). IsReached m q.0 q.1) (allocation_of m plan)
 unfolding allocation_of

@@ -120,7 +120,7 @@ pub record HasId (cs : List Collector) (id : ℕ) : Type 0 where
   pub found : slice_get cs place ≡ Some one
   pub number : one.id ≡ id
 
-find_id : (cs : List Collector) (id : ℕ) → ((k : ℕ) (c : Collector) → slice_get cs k ≡ Some c → eqb c.id id ≡ false) ⊎ HasId cs id
+pub find_id : (cs : List Collector) (id : ℕ) → ((k : ℕ) (c : Collector) → slice_get cs k ≡ Some c → eqb c.id id ≡ false) ⊎ HasId cs id
 find_id [] id = inl (λ k c e. cc)
 find_id (x ∷ cs) id = elim (cases_eq x.id id) [
   | inl e ↦ inr (record { place = 0; one = x; found = refl; number = e })
@@ -134,13 +134,13 @@ find_id (x ∷ cs) id = elim (cases_eq x.id id) [
     nobody x cs id d none zero c e = let s : x ≡ c = cc in subst (λ (y : Collector). eqb y.id id ≡ false) s (ne_eqb x.id id d)
     nobody x cs id d none (suc k) c e = none k c e
 
-got : (cs : List Collector) (k : ℕ) (c d : Collector) → slice_get cs k ≡ Some c → (k < length cs) × (get_or cs k d ≡ c)
+pub got : (cs : List Collector) (k : ℕ) (c d : Collector) → slice_get cs k ≡ Some c → (k < length cs) × (get_or cs k d ≡ c)
 got [] k c d e = cc
 got (x ∷ cs) zero c d e = (omega arith, cc)
 got (x ∷ cs) (suc k) c d e = let r = got cs k c d e in (omega (arith, r.0), r.1)
 
 -- two places with one number are one place
-one_place : (m : State) (p q : ℕ) (a b : Collector) → IsKept m → slice_get m.collectors p ≡ Some a → slice_get m.collectors q ≡ Some b → a.id ≡ b.id → p ≡ q
+pub one_place : (m : State) (p q : ℕ) (a b : Collector) → IsKept m → slice_get m.collectors p ≡ Some a → slice_get m.collectors q ≡ Some b → a.id ≡ b.id → p ≡ q
 one_place m p q a b kept e f same =
     let ga = got m.collectors p a a e in
     let gb = got m.collectors q b a f in
@@ -191,7 +191,7 @@ job_in_range [] job d = absurd (d refl)
 job_in_range (j ∷ jobs) zero d = omega arith
 job_in_range (j ∷ jobs) (suc job) d = omega (arith, job_in_range jobs job d)
 
-limit_of_bin : (jobs : List JobSpec) (cs : List Collector) (place job i : ℕ) → place < length cs → job < length jobs → i ≡ place * length jobs + job → get_or (limits_for jobs cs) i 0 ≡ option_map_or (λ (j : JobSpec). j.target_limit) (slice_get jobs job) 0
+pub limit_of_bin : (jobs : List JobSpec) (cs : List Collector) (place job i : ℕ) → place < length cs → job < length jobs → i ≡ place * length jobs + job → get_or (limits_for jobs cs) i 0 ≡ option_map_or (λ (j : JobSpec). j.target_limit) (slice_get jobs job) 0
 limit_of_bin jobs [] place job i l in_range e = absurd (omega arith)
 limit_of_bin jobs (c ∷ cs) zero job i l in_range e =
     let here : i ≡ job = omega arith in

@@ -1,13 +1,15 @@
--- What every published allocation is: an optimal one of its moment.
-use Rattle.std.specs.Prelude.{◌≡◌, ◌≢◌, ◌<◌, ◌≤◌, ◌==◌, ◌&&◌, Bool, false, ℕ, List, [], ◌∷◌, ◌++◌, All, Some, true, count_by, length, slice_get, slice_index_or}
+-- What every published allocation is: the best of its moment.
+use Rattle.std.specs.Prelude.{◌≡◌, ◌≢◌, ◌<◌, ◌≤◌, ◌==◌, ◌&&◌, not, Bool, false, ℕ, List, [], ◌∷◌, ◌++◌, All, AllPairs, Some, true, count_by, length, slice_get, slice_index_or}
+use Rattle.std.specs.List.{list_any}
 use Rattle.std.specs.Option.{option_map_or}
 use Rattle.reach_rules.specs.Rules.{reaches}
 use Rattle.allocation_core.specs.declared.job.Known.{Known}
 use Rattle.allocation_core.specs.declared.job.Collector.{Collector}
 use Rattle.price_certificate.specs.Assignment.{IsOptimal}
 use Rattle.price_certificate.specs.declared.plan.Plan.{Plan}
-use Rattle.allocation_core.specs.State.{State, first_state, is_live}
+use Rattle.allocation_core.specs.State.{State, first_state, is_live, current_pairs}
 use Rattle.allocation_core.specs.Instances.{instance_of, allocation_of}
+use Rattle.allocation_core.specs.Steps.{state_after}
 use Rattle.allocation_core.specs.Runs.{state_of}
 use Rattle.allocation_core.specs.declared.job.JobSpec.{JobSpec}
 use Rattle.allocation_core.specs.declared.event.Event.{Event}
@@ -42,19 +44,36 @@ pub record IsSound (m : State) (pairs : List (ℕ × ℕ)) : Type 0 where
   pub reaching : All (λ (q : ℕ × ℕ). IsReached m q.0 q.1) pairs
   pub within : (collector job : ℕ) → limit_at m job ≢ 0 → share_of m pairs collector job ≤ limit_at m job
 
--- The allocation was published by an Install among the events, and its plan is optimal for the instance of the state just
--- before that event, among all feasible assignments.
-pub record WasBest (first : State) (events : List Event) (pairs : List (ℕ × ℕ)) : Type 0 where
+-- the pair stands in the allocation
+abbrev pub stands_in : List (ℕ × ℕ) → ℕ × ℕ → Bool
+stands_in pairs q = list_any (λ (other : ℕ × ℕ). (other.0 == q.0) && (other.1 == q.1)) pairs
+
+-- how many pairs of an allocation were not in the one before
+abbrev pub moved_from : List (ℕ × ℕ) → List (ℕ × ℕ) → ℕ
+moved_from before pairs = count_by (λ (q : ℕ × ℕ). not (stands_in before q)) pairs
+
+-- Sound; no sound allocation of the moment covers more targets, and none that covers as many moves fewer from the current one.
+pub record IsBest (m : State) (pairs : List (ℕ × ℕ)) : Type 0 where
+  pub sound : IsSound m pairs
+  pub covers : (others : List (ℕ × ℕ)) → IsSound m others → length others ≤ length pairs
+  pub moves : (others : List (ℕ × ℕ)) → IsSound m others → length others ≡ length pairs → moved_from (current_pairs m) pairs ≤ moved_from (current_pairs m) others
+
+-- An Install among the events published the allocation as the next one behind so many others. It is the best of the state just
+-- before that event, and its plan is optimal for the instance of that state, among all feasible assignments.
+pub record WasBest (first : State) (events : List Event) (number : ℕ) (pairs : List (ℕ × ℕ)) : Type 0 where
   pub earlier : List Event
   pub plan : Plan
   pub later : List Event
   pub split : events ≡ earlier ++ Install plan ∷ later
-  pub optimal : IsOptimal (instance_of (state_of first earlier)) plan.pairs
-  pub sound : IsSound (state_of first earlier) pairs
+  pub others : length (state_of first earlier).published ≡ number
+  pub granted : (state_after (state_of first earlier) (Install plan)).published ≡ (state_of first earlier).published ++ pairs ∷ []
+  pub best : IsBest (state_of first earlier) pairs
+  pub ascending : AllPairs (λ (a b : ℕ × ℕ). a.0 < b.0) pairs
   pub published : pairs ≡ allocation_of (state_of first earlier) plan.pairs
+  pub optimal : IsOptimal (instance_of (state_of first earlier)) plan.pairs
 
 -- over every list of jobs and of events
 abbrev pub AlwaysBest : Type 0
 AlwaysBest =
     (jobs : List JobSpec) (events : List Event) (number : ℕ) → number < length (state_of (first_state jobs) events).published
-    → WasBest (first_state jobs) events (slice_index_or (state_of (first_state jobs) events).published number [])
+    → WasBest (first_state jobs) events number (slice_index_or (state_of (first_state jobs) events).published number [])

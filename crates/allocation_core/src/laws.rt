@@ -4,8 +4,10 @@ ghost use Rattle.allocation_core.specs.Answers.{IsAnswerTo};
 ghost use Rattle.allocation_core.specs.Best.{AlwaysBest};
 ghost use Rattle.allocation_core.specs.declared.event.Event.{Event};
 
-/// Over every list of events, each published allocation gives each live target to at most one collector, one that
-/// reaches it, and no collector more than a job's limit, and its plan is optimal for the instance of its moment.
+/// Over every list of events, each published allocation is the best of the moment just before its Install. It is sound:
+/// only live targets, each at most once and in ascending order, each at a live collector that reaches it, and no collector
+/// with more of a job's targets than the job's limit. No sound allocation of that moment covers more targets, and none that
+/// covers as many has fewer pairs that are not in the preceding allocation.
 pub fn published_are_best()
     ensures { AlwaysBest }
 {}
