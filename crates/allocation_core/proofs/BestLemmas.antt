@@ -109,7 +109,7 @@ here_best m e es k kept once low high p =
       plan = p.plan;
       later = es;
       split = ap (λ (f : Event). f ∷ es) p.is;
-      others = omega (arith, size);
+      before = omega (arith, size);
       granted = ap (λ (f : Event). (state_after m f).published) (sym p.is) ∙ p.grown ∙ ap (λ (ps : List (ℕ × ℕ)). m.published ++ ps ∷ []) (sym is);
       best = subst (λ (ps : List (ℕ × ℕ)). IsBest m ps) (sym is) (best_of m p.plan.pairs kept problem (last_once m.published once) sound optimal_plan);
       ascending = subst (λ (ps : List (ℕ × ℕ)). AllPairs (λ (a b : ℕ × ℕ). a.0 < b.0) ps) (sym is) (allocation_ascending m p.plan.pairs);
@@ -131,7 +131,7 @@ run_best m (e ∷ es) k kept once low high = elim (cases_lt k (length (state_aft
         plan = later.plan;
         later = later.later;
         split = ap (λ (fs : List Event). e ∷ fs) later.split;
-        others = later.others;
+        before = later.before;
         granted = later.granted;
         best = later.best;
         ascending = later.ascending;
@@ -141,4 +141,4 @@ run_best m (e ∷ es) k kept once low high = elim (cases_lt k (length (state_aft
 ]
 
 pub always_best : AlwaysBest
-always_best jobs events number less = run_best (first_state jobs) events number (start_kept jobs) (All-nil IsOnce) (omega arith) less
+always_best jobs events place less = run_best (first_state jobs) events place (start_kept jobs) (All-nil IsOnce) (omega arith) less

@@ -58,14 +58,14 @@ pub record IsBest (m : State) (pairs : List (ℕ × ℕ)) : Type 0 where
   pub covers : (others : List (ℕ × ℕ)) → IsSound m others → length others ≤ length pairs
   pub moves : (others : List (ℕ × ℕ)) → IsSound m others → length others ≡ length pairs → moved_from (current_pairs m) pairs ≤ moved_from (current_pairs m) others
 
--- An Install among the events published the allocation as the next one behind so many others. It is the best of the state just
--- before that event, and its plan is optimal for the instance of that state, among all feasible assignments.
-pub record WasBest (first : State) (events : List Event) (number : ℕ) (pairs : List (ℕ × ℕ)) : Type 0 where
+-- An Install among the events published the allocation, in this place. It is the best of the state just before that event, and
+-- its plan is optimal for the instance of that state, among all feasible assignments.
+pub record WasBest (first : State) (events : List Event) (place : ℕ) (pairs : List (ℕ × ℕ)) : Type 0 where
   pub earlier : List Event
   pub plan : Plan
   pub later : List Event
   pub split : events ≡ earlier ++ Install plan ∷ later
-  pub others : length (state_of first earlier).published ≡ number
+  pub before : length (state_of first earlier).published ≡ place
   pub granted : (state_after (state_of first earlier) (Install plan)).published ≡ (state_of first earlier).published ++ pairs ∷ []
   pub best : IsBest (state_of first earlier) pairs
   pub ascending : AllPairs (λ (a b : ℕ × ℕ). a.0 < b.0) pairs
@@ -75,5 +75,5 @@ pub record WasBest (first : State) (events : List Event) (number : ℕ) (pairs :
 -- over every list of jobs and of events
 abbrev pub AlwaysBest : Type 0
 AlwaysBest =
-    (jobs : List JobSpec) (events : List Event) (number : ℕ) → number < length (state_of (first_state jobs) events).published
-    → WasBest (first_state jobs) events number (slice_index_or (state_of (first_state jobs) events).published number [])
+    (jobs : List JobSpec) (events : List Event) (place : ℕ) → place < length (state_of (first_state jobs) events).published
+    → WasBest (first_state jobs) events place (slice_index_or (state_of (first_state jobs) events).published place [])
