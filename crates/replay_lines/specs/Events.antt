@@ -1,0 +1,81 @@
+-- The event that a line of a replay says: a JSON object whose member `event` is its name. Members that the event does not
+-- have don't matter.
+use Rattle.std.specs.Prelude.{ℕ, List, Option, Some, None, option_map, option_and_then, codes, if◌then◌else◌}
+use Rattle.std.specs.Result.{result_ok}
+use Rattle.std.specs.Str.{bytes_eq}
+use Rattle.serde_json.specs.Data.{Data}
+use Rattle.serde_json.specs.Find.{as_str}
+use Rattle.json_values.specs.Texts.{json_of}
+use Rattle.json_values.specs.Spelling.{number_in, pair_in, list_in, member_in}
+use Rattle.label_sets.specs.Target.{FinalTarget}
+use Rattle.price_certificate.specs.declared.plan.Plan.{Plan}
+use Rattle.reach_rules.specs.Name.{is_collector_name}
+use Rattle.reach_rules.specs.Spelling.{reach_spelled}
+use Rattle.reach_rules.specs.declared.rule.ReachRule.{ReachRule}
+use Rattle.allocation_core.specs.declared.event.Event.{Event}
+use Rattle.allocation_core.specs.declared.event.Event.TheVariants.{Discover, Join, Leave, Install}
+use Rattle.replay_lines.specs.Targets.{target_said}
+
+-- ---- discover
+
+-- a list of targets
+abbrev pub targets_said : Data → Option (List FinalTarget)
+targets_said = list_in target_said
+
+-- a job's name, the number of its source, and the targets that it lists
+unfoldable pub discover_said : Data → Option Event
+discover_said d =
+    option_and_then (λ job. option_and_then (λ source. option_map (Discover job source) (member_in targets_said (codes "targets") d)) (member_in number_in (codes "source") d))
+    (member_in as_str (codes "job") d)
+
+-- ---- join
+
+-- the name of a collector
+abbrev pub collector_name : List ℕ → Option (List ℕ)
+collector_name name = if is_collector_name name then Some name else None
+
+abbrev pub name_said : Data → Option (List ℕ)
+name_said d = option_and_then collector_name (as_str d)
+
+-- the rules by which a collector reaches targets
+abbrev pub reach_said : Data → Option (List ReachRule)
+reach_said d = result_ok (reach_spelled d)
+
+unfoldable pub join_said : Data → Option Event
+join_said d = option_and_then (λ name. option_map (Join name) (member_in reach_said (codes "reach") d)) (member_in name_said (codes "name") d)
+
+-- ---- leave
+
+-- the number of a collector
+abbrev pub leave_said : Data → Option Event
+leave_said d = option_map Leave (member_in number_in (codes "collector") d)
+
+-- ---- install
+
+-- the pairs of a plan, and its prices
+abbrev pub plan_of : List (ℕ × ℕ) → List ℕ → List ℕ → Plan
+plan_of pairs item_prices bin_prices = record { pairs = pairs; item_prices = item_prices; bin_prices = bin_prices }
+
+unfoldable pub plan_said : Data → Option Plan
+plan_said d =
+    option_and_then (λ pairs. option_and_then (λ item_prices. option_map (plan_of pairs item_prices) (member_in (list_in number_in) (codes "bin_prices") d)) (member_in (list_in number_in) (codes "item_prices") d))
+    (member_in (list_in pair_in) (codes "pairs") d)
+
+abbrev pub install_said : Data → Option Event
+install_said d = option_map Install (plan_said d)
+
+-- ---- all of them
+
+-- the event of a name
+abbrev pub event_named : List ℕ → Data → Option Event
+event_named name d =
+    if bytes_eq name (codes "discover") then discover_said d else (if bytes_eq name (codes "join") then join_said d
+    else (if bytes_eq name (codes "leave") then leave_said d else (if bytes_eq name (codes "install") then install_said d else None)))
+
+-- the event that a JSON value says
+unfoldable pub event_said : Data → Option Event
+event_said d = option_and_then (λ name. event_named name d) (member_in as_str (codes "event") d)
+
+-- the event that a line says
+abbrev pub event_in : List ℕ → Option Event
+event_in line = option_and_then event_said (json_of line)

@@ -1,0 +1,7 @@
+//! Replays: a text whose first line is a configuration and whose further lines are events, and the text of the answers.
+//!
+//! Contracts see what is written as a total function of the input's bytes.
+#![tactic(auto)]
+
+mod event;
+mod target;
