@@ -1,2 +1,5 @@
 pub mod Targets
 pub mod Events
+pub mod Configurations
+pub mod Replays
+pub mod Lines

@@ -3,5 +3,10 @@
 //! Contracts see what is written as a total function of the input's bytes.
 #![tactic(auto)]
 
+mod configuration;
 mod event;
+mod line;
+mod run;
 mod target;
+
+pub use run::{Ended, replay};
