@@ -8,5 +8,7 @@ mod event;
 mod line;
 mod run;
 mod target;
+#[cfg(test)]
+mod tests;
 
 pub use run::{Ended, replay};
