@@ -2,4 +2,5 @@ pub mod Reading
 pub mod Unreadable
 pub mod Check
 pub mod Plan
+pub mod Replay
 pub mod Commands

@@ -4,11 +4,13 @@ ghost use Rattle.std.specs.Prelude.{◌≡◌, ◌≤◌, ◌≢◌, ◌↔◌, 
 ghost use Rattle.std.specs.Io.KnownBytes.{Appends};
 ghost use Rattle.allocd.specs.Check.{ChecksTo};
 ghost use Rattle.allocd.specs.Plan.{PlansTo};
+ghost use Rattle.allocd.specs.Replay.{ReplaysTo};
 ghost use Rattle.allocd.specs.Commands.{Names, NamesNone, usage};
 
 use crate::check::run_check;
 use crate::output::write_text;
 use crate::plan::run_plan;
+use crate::replay::run_replay;
 use std::alloc::Global;
 use std::io::{Read, Write};
 
@@ -26,6 +28,7 @@ pub fn run<R: Read, W: Write>(
     ensures most { result ≤ 3 }
     ensures check { Names arguments.now (codes "check") → result ≢ 3 → ChecksTo (R.remaining reader.old) (W.contents writer.old) (W.contents writer.new) result }
     ensures plan { Names arguments.now (codes "plan") → result ≢ 3 → PlansTo (R.remaining reader.old) (W.contents writer.old) (W.contents writer.new) result }
+    ensures replay { Names arguments.now (codes "replay") → result ≢ 3 → ReplaysTo (R.remaining reader.old) (W.contents writer.old) (W.contents writer.new) result }
     ensures unread { NamesNone arguments.now → R.remaining reader.new ≡ R.remaining reader.old }
     ensures usage { NamesNone arguments.now → result ≢ 3 → (result ≡ 2) × Appends (W.contents writer.old) (W.contents writer.new) usage }
 {
@@ -34,6 +37,9 @@ pub fn run<R: Read, W: Write>(
     }
     if names(arguments, "plan") {
         return run_plan(alloc, reader, writer);
+    }
+    if names(arguments, "replay") {
+        return run_replay(alloc, reader, writer);
     }
     write_text(
         writer,

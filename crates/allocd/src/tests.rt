@@ -1,3 +1,5 @@
+mod replaying;
+
 use crate::check::run_check;
 use crate::command::run;
 use crate::plan::run_plan;
@@ -273,7 +275,9 @@ fn picks_the_command(rt: HostRuntime) -> Result<(), Fail> {
     runs(&rt, alloc, &[check], "best covered=1 moved=0\n", 0)?;
     let plan = String::from_str(alloc, "plan")?;
     runs(&rt, alloc, &[plan], PLANNED, 0)?;
-    for word in ["relabel", "replay", "session", "", "Check", "check "] {
+    let replay = String::from_str(alloc, "replay")?;
+    runs(&rt, alloc, &[replay], "total 0\n", 0)?;
+    for word in ["relabel", "session", "", "Check", "check "] {
         let other = String::from_str(alloc, word)?;
         runs(&rt, alloc, &[other], USAGE, 2)?;
     }

@@ -1,0 +1,52 @@
+#!/usr/bin/env python3
+"""Writes a day of a full fleet: 256 collectors join, 16,384 targets of 16 jobs come up, and a certified plan is installed.
+Every collector reaches every target, so 4,194,304 pairs are allowed; a collector takes 4 targets of each job.
+
+usage: full_fleet.py replay         the lines for `allocd replay`
+       full_fleet.py certificate    the document of the same instance and plan, for `allocd check`
+"""
+import json
+import sys
+
+COLLECTORS, JOBS, TARGETS = 256, 16, 16384
+EACH = TARGETS // JOBS
+LIMIT = EACH // COLLECTORS
+
+
+def compact(value):
+    return json.dumps(value, separators=(",", ":"))
+
+
+def plan():
+    pairs = [[t, (t % EACH % COLLECTORS) * JOBS + t // EACH] for t in range(TARGETS)]
+    return {"pairs": pairs, "item_prices": [TARGETS + 1] * TARGETS, "bin_prices": [0] * (COLLECTORS * JOBS)}
+
+
+def replay():
+    yield {"scrape_configs": [{"job_name": f"job-{j}", "target_limit": LIMIT} for j in range(JOBS)]}
+    for c in range(COLLECTORS):
+        yield {"event": "join", "name": f"collector-{c}", "reach": [{"allow": True, "test": "any"}]}
+    for j in range(JOBS):
+        targets = [{"labels": {"zone": f"z{t % 4}"}, "targets": [f"10.{j}.{t // 256}.{t % 256}:9100"]} for t in range(EACH)]
+        yield {"event": "discover", "job": f"job-{j}", "source": 0, "targets": targets}
+    yield {"event": "install", **plan()}
+
+
+def certificate():
+    rows = [[c * JOBS + j for c in range(COLLECTORS)] for j in range(JOBS)]
+    reach = [rows[t // EACH] for t in range(TARGETS)]
+    return {"version": 1, "bins": [LIMIT] * (COLLECTORS * JOBS), "reach": reach, "before": [], **plan()}
+
+
+def main():
+    which = sys.argv[1] if len(sys.argv) == 2 else ""
+    if which == "replay":
+        for line in replay():
+            print(compact(line))
+    elif which == "certificate":
+        print(compact(certificate()))
+    else:
+        sys.exit(__doc__)
+
+
+main()

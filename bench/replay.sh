@@ -1,0 +1,40 @@
+#!/usr/bin/env bash
+# Processor time and peak memory of `allocd replay` on the day of a full fleet, beside those of `allocd check` on the same
+# certificate.
+# usage: bench/replay.sh [RUNS]      (5 where left out; the least processor time of the runs is printed)
+set -eu
+root=$(cd "$(dirname "$0")/.." && pwd)
+runs=${1:-5}
+folder=$(mktemp -d)
+trap 'rm -rf "$folder"' EXIT
+python3 "$root/bench/full_fleet.py" replay > "$folder/replay"
+python3 "$root/bench/full_fleet.py" certificate > "$folder/check"
+"$root/allocd" check < "$root/examples/one-of-two.json" > /dev/null
+
+# least seconds and most megabytes of the runs of a command on the file of its name
+measure() {
+    python3 - "$folder/$1" "$runs" "$root/crates/allocd/out/allocd" "$1" <<'PY'
+import os, subprocess, sys
+source, runs, command = sys.argv[1], int(sys.argv[2]), sys.argv[3:]
+least, most = None, 0
+for _ in range(runs):
+    with open(source, "rb") as text:
+        process = subprocess.Popen(command, stdin=text, stdout=subprocess.DEVNULL)
+        _, status, usage = os.wait4(process.pid, 0)
+    if os.waitstatus_to_exitcode(status) != 0:
+        sys.exit(f"{command}: status {status}")
+    seconds = usage.ru_utime + usage.ru_stime
+    least = seconds if least is None else min(least, seconds)
+    most = max(most, usage.ru_maxrss)
+print(f"{least:.3f} {most / 1024:.0f}")
+PY
+}
+
+read -r check_seconds check_memory < <(measure check)
+read -r replay_seconds replay_memory < <(measure replay)
+echo "256 collectors, 16,384 targets of 16 jobs, 4,194,304 allowed pairs; the replay says: $("$root/allocd" replay < "$folder/replay" | tail -n 2 | paste -sd ' ')"
+echo "| command | bytes read | processor seconds | MB at the most |"
+echo "|---|---|---|---|"
+echo "| allocd check | $(stat -c %s "$folder/check") | $check_seconds | $check_memory |"
+echo "| allocd replay | $(stat -c %s "$folder/replay") | $replay_seconds | $replay_memory |"
+python3 -c "print(f'replay takes {$replay_seconds / $check_seconds:.2f} times as long as check')"
