@@ -13,11 +13,13 @@ use Rattle.allocation_core.specs.Instances.{instance_of, allocation_of, limits_f
 use Rattle.allocation_core.specs.Steps.{state_after}
 use Rattle.allocation_core.specs.Runs.{state_of}
 use Rattle.allocation_core.specs.Kept.{IsKept}
-use Rattle.allocation_core.specs.Best.{WasBest, AlwaysBest, IsBest, IsSound}
+use Rattle.allocation_core.specs.Best.{AllBest, WasBest, AlwaysBest, IsBest, IsSound}
 use Rattle.allocation_core.proofs.SoundLemmas.{allocation_ascending, allocation_live, allocation_once, allocation_reaching}
 use Rattle.allocation_core.proofs.WithinLemmas.{allocation_within}
 use Rattle.allocation_core.proofs.TransferLemmas.{IsOnce, best_of}
 use Rattle.allocation_core.specs.declared.event.Event.{Event}
+use Rattle.allocation_core.specs.declared.event.Event.TheVariants.{Install}
+use Rattle.allocation_core.specs.declared.job.JobSpec.{JobSpec}
 use Rattle.allocation_core.proofs.LiveLemmas.{length-chosen}
 use Rattle.allocation_core.proofs.Shapes.{parts_shaped, bin_below, length-limits}
 use Rattle.allocation_core.proofs.StepLemmas.{step_kept, start_kept, publishes, Publishes}
@@ -142,3 +144,26 @@ run_best m (e ∷ es) k kept once low high = elim (cases_lt k (length (state_aft
 
 pub always_best : AlwaysBest
 always_best jobs events place less = run_best (first_state jobs) events place (start_kept jobs) (All-nil IsOnce) (omega arith) less
+
+-- with more events behind
+farther : (first : State) (events done left : List Event) (place : ℕ) (pairs : List (ℕ × ℕ)) → events ≡ done ++ left → WasBest first done place pairs → WasBest first events place pairs
+farther first events done left place pairs e was =
+    record {
+      earlier = was.earlier;
+      plan = was.plan;
+      later = was.later ++ left;
+      split = e ∙ ap (λ (es : List Event). es ++ left) was.split ∙ append_assoc was.earlier (Install was.plan ∷ was.later) left;
+      before = was.before;
+      granted = was.granted;
+      best = was.best;
+      ascending = was.ascending;
+      published = was.published;
+      optimal = was.optimal;
+    }
+
+-- a run that did the first of the events
+pub best_after : (jobs : List JobSpec) (events done left : List Event) (old new : State) → old ≡ first_state jobs → events ≡ done ++ left → new ≡ state_of old done → AllBest (first_state jobs) events new
+best_after jobs events done left old new opened split is =
+    let same : new ≡ state_of (first_state jobs) done = is ∙ ap (λ (m : State). state_of m done) opened in
+    subst (λ (m : State). AllBest (first_state jobs) events m) (sym same)
+    (λ place less. farther (first_state jobs) events done left place (get_or (state_of (first_state jobs) done).published place []) split (always_best jobs done place less))

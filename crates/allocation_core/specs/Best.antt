@@ -72,8 +72,10 @@ pub record WasBest (first : State) (events : List Event) (place : ℕ) (pairs : 
   pub published : pairs ≡ allocation_of (state_of first earlier) plan.pairs
   pub optimal : IsOptimal (instance_of (state_of first earlier)) plan.pairs
 
+-- each allocation of the state was published by these events, and was the best of its moment
+abbrev pub AllBest : State → List Event → State → Type 0
+AllBest first events m = (place : ℕ) → place < length m.published → WasBest first events place (slice_index_or m.published place [])
+
 -- over every list of jobs and of events
 abbrev pub AlwaysBest : Type 0
-AlwaysBest =
-    (jobs : List JobSpec) (events : List Event) (place : ℕ) → place < length (state_of (first_state jobs) events).published
-    → WasBest (first_state jobs) events place (slice_index_or (state_of (first_state jobs) events).published place [])
+AlwaysBest = (jobs : List JobSpec) (events : List Event) → AllBest (first_state jobs) events (state_of (first_state jobs) events)

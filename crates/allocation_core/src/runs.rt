@@ -1,4 +1,7 @@
-ghost use Rattle.std.specs.Prelude.{◌≡◌, IfOk, IfErr, OnOk};
+ghost use Rattle.std.specs.Prelude.{◌≡◌, List, IfOk, IfErr, OnOk};
+ghost use Rattle.allocation_core.specs.declared.job.JobSpec.{JobSpec};
+ghost use Rattle.allocation_core.specs.State.{first_state};
+ghost use Rattle.allocation_core.specs.Best.{AllBest};
 ghost use Rattle.allocation_core.specs.Runs.{answers_of, state_of, StopsAt};
 
 use crate::answer::Answer;
@@ -11,10 +14,12 @@ pub struct Stopped {
     pub answers: Vec<Answer>,
 }
 
-/// Applies events in order, and stops at the first want of memory.
+/// Applies events in order, and stops at the first want of memory. Each allocation of a core that was just opened is then
+/// the best of its moment, in the sense of `published_are_best`.
 pub fn run(core: &mut Core, events: Vec<Event>) -> Result<Vec<Answer>, Stopped>
     ensures answers { IfOk result (λ v. v.items ≡ answers_of core.old events.items) }
     ensures state { OnOk result (core.new ≡ state_of core.old events.items) }
+    ensures best { (jobs : List JobSpec) → core.old ≡ first_state jobs → AllBest (first_state jobs) events.items core.new }
     ensures stopped { IfErr result (λ s. StopsAt core.old events.items s.answers.items core.new) }
 {
     let mut answers = Vec::new(*events.allocator());

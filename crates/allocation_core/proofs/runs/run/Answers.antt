@@ -2,6 +2,7 @@ use Rattle.std.proofs.Common.{◌++◌, ◌∷◌, [], ap, sym, ◌∙◌, arith
 use Rattle.std.proofs.lemmas.Grind.{common_steps}
 use Rattle.allocation_core.specs.State.{State}
 use Rattle.allocation_core.specs.Steps.{answer_of, state_after}
+use Rattle.allocation_core.proofs.BestLemmas.{best_after}
 use Rattle.allocation_core.proofs.RunLemmas.{state_of_push, answers_of_push}
 use Rattle.allocation_core.proofs.runs.run.Goals as goal
 
@@ -21,3 +22,13 @@ loop-event-preserved c =
       room = grind (arith, common_steps);
       rest = grind (arith, common_steps);
     }
+
+pub returns-in-Err-clause-best : goal.returns-in-Err-clause-best
+returns-in-Err-clause-best c =
+    let inv = c.loop-event.invariant in
+    λ jobs opened. best_after jobs c.args.events.items c.loop-event.yielded c.loop-event.event-iterator.rest.items c.args.core.now c.apply.new.self opened (sym inv.rest) (c.in-Err.ensures.err ∙ inv.state)
+
+pub returns-clause-best : goal.returns-clause-best
+returns-clause-best c =
+    let inv = c.loop-event.invariant in
+    λ jobs opened. best_after jobs c.args.events.items c.loop-event.yielded c.loop-event.event-iterator.rest.items c.args.core.now c.loop-event.core opened (sym inv.rest) inv.state
