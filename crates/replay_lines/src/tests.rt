@@ -1,3 +1,5 @@
+mod limits;
+
 use crate::{Ended, replay};
 use std::alloc::Global;
 use std::process::Abort;
