@@ -1,5 +1,5 @@
 //! The lines of a text.
-ghost use Rattle.std.specs.Prelude.{◌≡◌, ◌∷◌, ◌≤◌, ◌+◌, length};
+ghost use Rattle.std.specs.Prelude.{◌≡◌, ◌∷◌, ◌≤◌, length};
 ghost use Rattle.replay_lines.specs.Replays.{lines_in};
 ghost use Rattle.replay_lines.specs.Lines.{lines_left, size_left};
 

@@ -2,7 +2,7 @@
 ghost use Rattle.std.specs.Prelude.{◌≡◌, ◌++◌, IfOk, OnOk, OnErr};
 ghost use Rattle.allocation_core.specs.Steps.{answer_of, state_after};
 ghost use Rattle.replay_lines.specs.Lines.{lines_left, is_read, text_of_line, state_past, AddsFront};
-ghost use Rattle.replay_lines.specs.Replays.{answered_line, total_line, totalled, unreadable_at, unreadable_line, written_from, replay_of};
+ghost use Rattle.replay_lines.specs.Replays.{answered_line, totalled, unreadable_at, written_from, replay_of};
 
 use crate::configuration::open_core;
 use crate::event::read_event;
