@@ -1,5 +1,5 @@
 -- What a heap of entries says of the list of its entries.
-use Rattle.std.proofs.Common.{◌≡◌, ◌≤◌, ℕ, List, [], ◌∷◌, Contains, All, map, inl, inr, ◌⊎◌, false, refl, sym, arith, zero, suc, Less, Equal, Greater, Ordering}
+use Rattle.std.proofs.Common.{◌≡◌, ◌≤◌, ℕ, List, [], ◌∷◌, Contains, All, map, inl, inr, ◌⊎◌, false, refl, sym, subst, arith, zero, suc, Less, Equal, Greater, Ordering}
 use Rattle.std.specs.BinaryHeap.{IsUpperBound}
 use Rattle.std.specs.Ordering.{nat_cmp, ordering_then, is_lt}
 use Rattle.std.specs.List.Sorted.{IsPermutation}
@@ -44,6 +44,12 @@ popped x xs ys h e m = first_or_rest (entry x) (entries ys) e (Contains-permutat
 
 pub pushed_kept : (x : Reverse (ℕ × ℕ × ℕ)) (xs ys : List (Reverse (ℕ × ℕ × ℕ))) → IsPermutation (x ∷ xs) ys → (e : ℕ × ℕ) → Contains (entries xs) e → Contains (entries ys) e
 pushed_kept x xs ys h e m = Contains-permutation _ _ e (IsPermutation-map entry (x ∷ xs) ys h) (Contains-later (entry x) (entries xs) e m)
+
+pub pushed_once : (x : Reverse (ℕ × ℕ × ℕ)) (xs ys : List (Reverse (ℕ × ℕ × ℕ))) (old : List (ℕ × ℕ)) → entries xs ≡ old → IsPermutation (x ∷ xs) ys → IsPermutation (entry x ∷ old) (entries ys)
+pushed_once x xs ys old e h = subst (λ l. IsPermutation (entry x ∷ l) (entries ys)) e (IsPermutation-map entry (x ∷ xs) ys h)
+
+pub popped_once : (x : Reverse (ℕ × ℕ × ℕ)) (xs ys : List (Reverse (ℕ × ℕ × ℕ))) (old : List (ℕ × ℕ)) → entries xs ≡ old → IsPermutation xs (x ∷ ys) → IsPermutation old (entry x ∷ entries ys)
+popped_once x xs ys old e h = subst (λ l. IsPermutation l (entry x ∷ entries ys)) e (IsPermutation-map entry xs (x ∷ ys) h)
 
 pub pushed_added : (x : Reverse (ℕ × ℕ × ℕ)) (xs ys : List (Reverse (ℕ × ℕ × ℕ))) → IsPermutation (x ∷ xs) ys → Contains (entries ys) (entry x)
 pushed_added x xs ys h = Contains-permutation _ _ (entry x) (IsPermutation-map entry (x ∷ xs) ys h) (zero, omega arith, refl)

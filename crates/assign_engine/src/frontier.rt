@@ -1,4 +1,5 @@
-ghost use Rattle.std.specs.Prelude.{◌≡◌, ◌<◌, ◌≤◌, ◌⊎◌, List, [], ℕ, Contains, length, IfSome, IfNone, OnOk, OnSome};
+ghost use Rattle.std.specs.Prelude.{◌≡◌, ◌<◌, ◌≤◌, ◌⊎◌, ◌∷◌, List, [], ℕ, Contains, length, IfSome, IfNone, OnOk, OnErr, OnSome};
+ghost use Rattle.std.specs.List.Sorted.{IsPermutation};
 
 use std::alloc::{AllocError, Global};
 use std::cmp::Reverse;
@@ -46,6 +47,8 @@ impl Frontier {
     pub fn push(&mut self, distance: u64, bin: usize) -> Result<(), AllocError>
         ensures kept { OnOk result ((e : ℕ × ℕ) → Contains self.old e → Contains self.new e) }
         ensures added { OnOk result (Contains self.new (distance, bin)) }
+        ensures once { OnOk result (IsPermutation ((distance, bin) ∷ self.old) self.new) }
+        ensures err { OnErr result (self.new ≡ self.old) }
     {
         self.heap.push(Reverse((distance, self.entered, bin)))?;
         self.entered = self.entered.wrapping_add(1);
@@ -56,7 +59,9 @@ impl Frontier {
         ensures least { IfSome result (λ r. (e : ℕ × ℕ) → Contains self.old e → r.0 ≤ e.0) }
         ensures rest { IfSome result (λ r. (e : ℕ × ℕ) → Contains self.old e → (e ≡ r) ⊎ Contains self.new e) }
         ensures none { IfNone result (self.old ≡ []) }
+        ensures taken { IfSome result (λ r. IsPermutation self.old (r ∷ self.new)) }
         ensures shorter { OnSome result (length self.new < length self.old) }
+        ensures empty { IfNone result (self.new ≡ []) }
     {
         let Reverse((distance, _, bin)) = self.heap.pop()?;
         Some((distance, bin))

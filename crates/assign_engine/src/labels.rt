@@ -1,4 +1,5 @@
-ghost use Rattle.std.specs.Prelude.{◌≡◌, ◌+◌, ◌^◌, ◌<◌, ◌≤◌, List, [], ℕ, Contains, length, replicate, slice_index, slice_set, IfOk, OnOk, IfSome, IfNone};
+ghost use Rattle.std.specs.Prelude.{◌≡◌, ◌+◌, ◌^◌, ◌<◌, ◌≤◌, ◌∷◌, List, [], ℕ, Contains, length, replicate, slice_index, slice_set, IfOk, OnOk, OnErr, IfSome, IfNone};
+ghost use Rattle.std.specs.List.Sorted.{IsPermutation};
 ghost use Rattle.assign_engine.specs.Labels.{Labelled, HasBins};
 ghost use Rattle.assign_engine.specs.Pending.{HasPending, HasPendingBut, IsNearest, AllFar};
 ghost use Rattle.assign_engine.specs.declared.ends.End.TheVariants.{Leave};
@@ -145,6 +146,8 @@ impl Labels {
         ensures same { OnOk result (self.new ≡ record self.old { pending = self.new.pending }) }
         ensures kept { OnOk result ((e : ℕ × ℕ) → Contains self.old.pending e → Contains self.new.pending e) }
         ensures added { OnOk result (Contains self.new.pending (distance, bin)) }
+        ensures once { OnOk result (IsPermutation ((distance, bin) ∷ self.old.pending) self.new.pending) }
+        ensures err { OnErr result (self.new ≡ self.old) }
     {
         self.frontier.push(distance, bin)
     }

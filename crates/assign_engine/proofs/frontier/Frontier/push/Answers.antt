@@ -1,5 +1,5 @@
 use Rattle.std.proofs.Common.{ℕ, List, Contains, subst, sym}
-use Rattle.assign_engine.proofs.Frontiers.{pushed_kept, pushed_added}
+use Rattle.assign_engine.proofs.Frontiers.{pushed_kept, pushed_added, pushed_once}
 use Rattle.assign_engine.proofs.frontier.Frontier.push.Goals as goal
 
 pub returns-clause-kept : goal.returns-clause-kept
@@ -7,3 +7,6 @@ returns-clause-kept c = λ e m. pushed_kept _ _ _ c.in_ok-push.ensures.permutati
 
 pub returns-clause-added : goal.returns-clause-added
 returns-clause-added c = pushed_added _ _ _ c.in_ok-push.ensures.permutation
+
+pub returns-clause-once : goal.returns-clause-once
+returns-clause-once c = pushed_once _ _ _ _ c.self.view_is c.in_ok-push.ensures.permutation
