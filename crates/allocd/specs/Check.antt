@@ -1,5 +1,5 @@
 -- What `allocd check` writes, and with which status.
-use Rattle.std.specs.Prelude.{◌≡◌, ◌≤◌, ◌++◌, ℕ, List, Option, Some, None, length, codes}
+use Rattle.std.specs.Prelude.{◌≡◌, ◌≤◌, ◌++◌, ◌⊎◌, ℕ, List, Option, Some, None, length, codes}
 use Rattle.std.specs.Io.KnownBytes.{Appends}
 use Rattle.std.specs.Fmt.{decimal}
 use Rattle.price_certificate.specs.Problem.{Problem}
@@ -10,6 +10,7 @@ use Rattle.price_certificate.specs.declared.verdict.Verdict.{Verdict}
 use Rattle.price_certificate.specs.declared.verdict.Verdict.TheVariants.{Best, Refused}
 use Rattle.allocd.specs.Reading.{most_input}
 use Rattle.allocd.specs.Unreadable.{IsUnreadable, unreadable_line}
+use Rattle.allocd.specs.Writing.{AppendsPart, StopsPart}
 use Rattle.allocd.specs.declared.check.Outcome.{Outcome}
 use Rattle.allocd.specs.declared.check.Outcome.TheVariants.{Unreadable, Judged}
 
@@ -58,3 +59,8 @@ pub record Checks (input : List ℕ) (status : ℕ) (written : List ℕ) : Type 
 abbrev pub ChecksTo : Option (List ℕ) → Option (List ℕ) → Option (List ℕ) → ℕ → Type 0
 ChecksTo None before after status = Unit {0}
 ChecksTo (Some input) before after status = (written : List ℕ) × Checks input status written × Appends before after written
+
+-- Whatever the status, no more is written than a first part of that, or of the line of a program without an answer.
+abbrev pub ChecksPart : Option (List ℕ) → Option (List ℕ) → Option (List ℕ) → Type 0
+ChecksPart None before after = Unit {0}
+ChecksPart (Some input) before after = ((outcome : Outcome) × IsOutcome input outcome × AppendsPart before after (outcome_line outcome)) ⊎ StopsPart before after

@@ -1,4 +1,5 @@
 pub mod Reading
+pub mod Writing
 pub mod Unreadable
 pub mod Check
 pub mod Plan

@@ -1,5 +1,5 @@
 -- What `allocd plan` writes, and with which status.
-use Rattle.std.specs.Prelude.{◌≡◌, ◌≤◌, ◌++◌, ℕ, List, Option, Some, None, length, codes, map}
+use Rattle.std.specs.Prelude.{◌≡◌, ◌≤◌, ◌++◌, ◌⊎◌, ℕ, List, Option, Some, None, length, codes, map}
 use Rattle.std.specs.List.Sorted.{IsStrictlyIncreasing}
 use Rattle.std.specs.Io.KnownBytes.{Appends}
 use Rattle.serde_json.specs.Written.{compact_text}
@@ -8,6 +8,7 @@ use Rattle.price_certificate.specs.Certificate.{IsCertified}
 use Rattle.price_certificate.specs.Document.{IsInstanceDocument, document_data}
 use Rattle.allocd.specs.Reading.{most_input}
 use Rattle.allocd.specs.Unreadable.{IsUnreadable, unreadable_line}
+use Rattle.allocd.specs.Writing.{AppendsPart, StopsPart}
 use Rattle.allocd.specs.declared.plan.Outcome.{Outcome}
 use Rattle.allocd.specs.declared.plan.Outcome.TheVariants.{Unreadable, Planned}
 
@@ -54,3 +55,8 @@ pub record Plans (input : List ℕ) (status : ℕ) (written : List ℕ) : Type 0
 abbrev pub PlansTo : Option (List ℕ) → Option (List ℕ) → Option (List ℕ) → ℕ → Type 0
 PlansTo None before after status = Unit {0}
 PlansTo (Some input) before after status = (written : List ℕ) × Plans input status written × Appends before after written
+
+-- Whatever the status, no more is written than a first part of that, or of the line of a program without an answer.
+abbrev pub PlansPart : Option (List ℕ) → Option (List ℕ) → Option (List ℕ) → Type 0
+PlansPart None before after = Unit {0}
+PlansPart (Some input) before after = ((outcome : Outcome) × IsOutcome input outcome × AppendsPart before after (outcome_text outcome)) ⊎ StopsPart before after

@@ -1,9 +1,10 @@
 //! The command `check`: it judges a certificate document.
 
-ghost use Rattle.std.specs.Prelude.{◌≡◌, ◌<◌, ◌≤◌, ◌≢◌, IfOk, IfSome, length, string_bytes};
+ghost use Rattle.std.specs.Prelude.{◌≡◌, ◌<◌, ◌≤◌, ◌≢◌, ◌⊎◌, IfOk, IfSome, length, string_bytes};
 ghost use Rattle.std.specs.Io.KnownBytes.{Appends};
 ghost use Rattle.allocd.specs.Reading.{most_input};
-ghost use Rattle.allocd.specs.Check.{IsOutcome, verdict_line, verdict_status, outcome_line, outcome_status, ChecksTo};
+ghost use Rattle.allocd.specs.Check.{IsOutcome, verdict_line, verdict_status, outcome_line, outcome_status, ChecksTo, ChecksPart};
+ghost use Rattle.allocd.specs.Writing.{AppendsPart, StopsPart};
 
 use crate::input::{Input, Stop, read_input};
 use crate::output::{write_stop, write_text};
@@ -24,6 +25,7 @@ pub enum Outcome {
 pub fn run_check<R: Read, W: Write>(alloc: Global, reader: &mut R, writer: &mut W) -> u8
     ensures most { result ≤ 3 }
     ensures writes { result ≢ 3 → ChecksTo (R.remaining reader.old) (W.contents writer.old) (W.contents writer.new) result }
+    ensures part { ChecksPart (R.remaining reader.old) (W.contents writer.old) (W.contents writer.new) }
 {
     match outcome_from(alloc, reader) {
         Ok(outcome) => write_outcome(alloc, writer, outcome),
@@ -58,6 +60,7 @@ fn write_outcome<W: Write>(alloc: Global, writer: &mut W, outcome: Outcome) -> u
     ensures most { result ≤ 3 }
     ensures status { result ≢ 3 → result ≡ outcome_status outcome }
     ensures text { result ≢ 3 → Appends (W.contents writer.old) (W.contents writer.new) (outcome_line outcome) }
+    ensures part { AppendsPart (W.contents writer.old) (W.contents writer.new) (outcome_line outcome) ⊎ StopsPart (W.contents writer.old) (W.contents writer.new) }
 {
     match outcome {
         Outcome::Unreadable(unreadable) => write_unreadable(writer, unreadable),

@@ -2,9 +2,10 @@
 
 ghost use Rattle.std.specs.Prelude.{◌≡◌, ◌≤◌, ◌≢◌, ◌↔◌, IsTrue, codes};
 ghost use Rattle.std.specs.Io.KnownBytes.{Appends};
-ghost use Rattle.allocd.specs.Check.{ChecksTo};
-ghost use Rattle.allocd.specs.Plan.{PlansTo};
+ghost use Rattle.allocd.specs.Check.{ChecksTo, ChecksPart};
+ghost use Rattle.allocd.specs.Plan.{PlansTo, PlansPart};
 ghost use Rattle.allocd.specs.Replay.{ReplaysTo};
+ghost use Rattle.allocd.specs.Writing.{AppendsPart};
 ghost use Rattle.allocd.specs.Commands.{Names, NamesNone, usage};
 
 use crate::check::run_check;
@@ -30,6 +31,9 @@ pub fn run<R: Read, W: Write>(
     ensures plan { Names arguments.now (codes "plan") → result ≢ 3 → PlansTo (R.remaining reader.old) (W.contents writer.old) (W.contents writer.new) result }
     ensures replay { Names arguments.now (codes "replay") → result ≢ 3 → ReplaysTo (R.remaining reader.old) (W.contents writer.old) (W.contents writer.new) result }
     ensures unread { NamesNone arguments.now → R.remaining reader.new ≡ R.remaining reader.old }
+    ensures check_part { Names arguments.now (codes "check") → ChecksPart (R.remaining reader.old) (W.contents writer.old) (W.contents writer.new) }
+    ensures plan_part { Names arguments.now (codes "plan") → PlansPart (R.remaining reader.old) (W.contents writer.old) (W.contents writer.new) }
+    ensures usage_part { NamesNone arguments.now → AppendsPart (W.contents writer.old) (W.contents writer.new) usage }
     ensures usage { NamesNone arguments.now → result ≢ 3 → (result ≡ 2) × Appends (W.contents writer.old) (W.contents writer.new) usage }
 {
     if names(arguments, "check") {

@@ -3,7 +3,8 @@
 ghost use Rattle.std.specs.Prelude.{◌≡◌, ◌≤◌, ◌≢◌, IfOk, IfSome, length};
 ghost use Rattle.std.specs.Io.KnownBytes.{Appends};
 ghost use Rattle.allocd.specs.Reading.{most_input};
-ghost use Rattle.allocd.specs.Plan.{IsOutcome, IsPlanOf, outcome_text, outcome_status, PlansTo};
+ghost use Rattle.allocd.specs.Plan.{IsOutcome, IsPlanOf, outcome_text, outcome_status, PlansTo, PlansPart};
+ghost use Rattle.allocd.specs.Writing.{AppendsPart};
 
 use crate::input::{Input, Stop, read_input};
 use crate::output::{write_bytes, write_stop};
@@ -27,6 +28,7 @@ pub enum Outcome {
 pub fn run_plan<R: Read, W: Write>(alloc: Global, reader: &mut R, writer: &mut W) -> u8
     ensures most { result ≤ 3 }
     ensures writes { result ≢ 3 → PlansTo (R.remaining reader.old) (W.contents writer.old) (W.contents writer.new) result }
+    ensures part { PlansPart (R.remaining reader.old) (W.contents writer.old) (W.contents writer.new) }
 {
     match outcome_from(alloc, reader) {
         Ok(outcome) => write_outcome(writer, outcome),
@@ -71,6 +73,7 @@ fn write_outcome<W: Write>(writer: &mut W, outcome: Outcome) -> u8
     ensures most { result ≤ 3 }
     ensures status { result ≢ 3 → result ≡ outcome_status outcome }
     ensures text { result ≢ 3 → Appends (W.contents writer.old) (W.contents writer.new) (outcome_text outcome) }
+    ensures part { AppendsPart (W.contents writer.old) (W.contents writer.new) (outcome_text outcome) }
 {
     match outcome {
         Outcome::Unreadable(unreadable) => write_unreadable(writer, unreadable),

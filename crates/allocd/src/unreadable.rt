@@ -3,6 +3,7 @@
 ghost use Rattle.std.specs.Prelude.{◌≡◌, ◌≤◌, ◌≢◌};
 ghost use Rattle.std.specs.Io.KnownBytes.{Appends};
 ghost use Rattle.allocd.specs.Unreadable.{unreadable_line};
+ghost use Rattle.allocd.specs.Writing.{AppendsPart};
 
 use crate::output::write_text;
 use std::io::Write;
@@ -23,6 +24,7 @@ pub fn write_unreadable<W: Write>(writer: &mut W, unreadable: Unreadable) -> u8
     ensures most { result ≤ 3 }
     ensures status { result ≢ 3 → result ≡ 2 }
     ensures text { result ≢ 3 → Appends (W.contents writer.old) (W.contents writer.new) (unreadable_line unreadable) }
+    ensures part { AppendsPart (W.contents writer.old) (W.contents writer.new) (unreadable_line unreadable) }
 {
     match unreadable {
         Unreadable::TooLong => write_text(writer, "unreadable TooLong\n", 2),

@@ -1,0 +1,26 @@
+-- Writing known bytes piece by piece.
+use Rattle.std.proofs.Common.{◌≡◌, ◌-◌, ℕ, List, [], ◌++◌, Option, length, take, drop, refl, sym, ap, subst, ◌∙◌, append_assoc, append-nil, take-append-drop}
+use Rattle.std.proofs.lemmas.List.{take_rest}
+use Rattle.std.specs.Io.KnownBytes.{Appends, Keeps}
+use Rattle.std.proofs.KnownBytes.{Appends-nil, Appends-trans, Appends-kept}
+use Rattle.allocd.specs.Writing.{HasLeft, AppendsPart}
+
+pub left_all : (known : Option (List ℕ)) (text : List ℕ) → HasLeft known known text text
+left_all known text = record { written = []; split = refl; grown = Appends-nil known }
+
+moves_front : (text written left : List ℕ) (n : ℕ) → text ≡ written ++ left → text ≡ (written ++ take n left) ++ take (length left - n) (drop n left)
+moves_front text written left n e =
+    e ∙ ap (λ l. written ++ l) (sym (take-append-drop n left)) ∙ sym (append_assoc written (take n left) (drop n left)) ∙ ap (λ l. (written ++ take n left) ++ l) (sym (take_rest left n))
+
+pub left_less : (first between last : Option (List ℕ)) (text left : List ℕ) (n : ℕ) → HasLeft first between text left → Appends between last (take n left) → HasLeft first last text (take (length left - n) (drop n left))
+left_less first between last text left n h k =
+    record { written = h.written ++ take n left; split = moves_front text h.written left n h.split; grown = Appends-trans first between last h.written (take n left) h.grown k }
+
+pub left_kept : (first between last : Option (List ℕ)) (text left : List ℕ) → HasLeft first between text left → Keeps between last → HasLeft first last text left
+left_kept first between last text left h k = record { written = h.written; split = h.split; grown = Appends-kept first between last h.written h.grown k }
+
+pub left_none : (first last : Option (List ℕ)) (text left : List ℕ) → HasLeft first last text left → left ≡ [] → Appends first last text
+left_none first last text left h e = subst (Appends first last) (sym (h.split ∙ ap (λ l. h.written ++ l) e ∙ append-nil h.written)) h.grown
+
+pub part_kept : (first between last : Option (List ℕ)) (text : List ℕ) → AppendsPart first between text → Keeps between last → AppendsPart first last text
+part_kept first between last text (left, h) k = (left, left_kept first between last text left h k)
