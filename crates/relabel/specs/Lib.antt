@@ -1,0 +1,4 @@
+pub mod Patterns
+pub mod Compiling
+pub mod Reading
+pub mod Spelling

@@ -1,0 +1,16 @@
+//! Relabelling rules, after the `relabel_config` of Prometheus: how they are read, and what they make of label sets.
+//!
+//! Contracts see a rule as what it says, with the text of its pattern. What a pattern matches, what a template stands for
+//! and what a digest is are the meanings of the crates `regex` and `md5`.
+#![tactic(auto)]
+
+mod action;
+mod error;
+mod fields;
+mod name;
+mod pattern;
+mod rule;
+
+pub use action::Action;
+pub use error::RuleError;
+pub use rule::{Rule, RuleSettings};

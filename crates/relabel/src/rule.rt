@@ -1,0 +1,155 @@
+ghost use Rattle.std.specs.Prelude.{◌≡◌, IfOk, unwrap_or, []};
+ghost use Rattle.serde_json.specs.View.{view};
+ghost use Rattle.relabel.specs.Reading.{Gives, Reads};
+ghost use Rattle.relabel.specs.Spelling.{settings_for as settings_for_action, settings_of as settings_of_fields, settings_said, has_fit_target as has_fit, with_pattern, rule_said};
+
+use crate::action::{Action, action_named};
+use crate::error::RuleError;
+use crate::fields::{Fields, fields_in};
+use crate::name::is_label_name;
+use crate::pattern::compiled;
+use label_sets::LabelName;
+use lists::{List, Text};
+use regex::{Regex, Template};
+use serde_json::Value;
+use std::alloc::{AllocError, Global};
+use std::marker::Model;
+
+/// What a rule says.
+#[derive(Debug, Drop)]
+pub struct RuleSettings {
+    pub source_labels: List<LabelName>,
+    pub separator: Text,
+    /// Empty where it is absent.
+    pub target_label: Text,
+    pub pattern: Text,
+    pub modulus: u64,
+    pub replacement: Text,
+    pub action: Action,
+}
+
+/// A relabelling rule, with its pattern and its templates compiled. Contracts see what it says.
+#[derive(Drop)]
+pub struct Rule {
+    settings: RuleSettings,
+    regex: Regex,
+    target: Template,
+    replacement: Template,
+}
+
+impl Model for Rule {
+    ghost use Rattle.relabel.specs.declared.rule.RuleSettings.{RuleSettings};
+    ghost use Rattle.relabel.specs.Compiling.{IsCompiled};
+
+    ghost Value = { RuleSettings };
+
+    ghost view = { λ r. r.settings };
+
+    ghost invariant = { λ r. IsCompiled r.settings r.regex r.target r.replacement };
+}
+
+impl Rule {
+    /// The rule that a JSON value spells.
+    pub fn read(alloc: Global, value: &Value) -> Result<Rule, RuleError>
+        ensures { Reads result (rule_said (view value.now)) }
+    {
+        let settings = settings_in(alloc, value)?;
+        Rule::compile(alloc, settings)
+    }
+
+    /// What the rule says.
+    pub fn settings(&self) -> &RuleSettings
+        ensures { result.now ≡ self.now }
+    {
+        &self.settings
+    }
+
+    fn compile(alloc: Global, settings: RuleSettings) -> Result<Rule, RuleError>
+        ensures { Reads result (with_pattern settings) }
+    {
+        let regex = compiled(alloc, settings.pattern.as_str())?;
+        let names = regex.capture_names();
+        let target = Template::new(alloc, names, settings.target_label.as_str())?;
+        let replacement = Template::new(alloc, names, settings.replacement.as_str())?;
+        Ok(Rule {
+            settings,
+            regex,
+            target,
+            replacement,
+        })
+    }
+}
+
+fn settings_in(alloc: Global, value: &Value) -> Result<RuleSettings, RuleError>
+    ensures { Gives result (settings_said (view value.now)) }
+{
+    let fields = fields_in(alloc, value)?;
+    settings_of(alloc, fields)
+}
+
+#[tactic(auto, unfolding(crate::specs::Spelling::settings_of))]
+fn settings_of(alloc: Global, fields: Fields) -> Result<RuleSettings, RuleError>
+    ensures { Gives result (settings_of_fields fields) }
+{
+    let action = action_named(fields.action.as_str());
+    if !has_fit_target(alloc, action, &fields.target_label)? {
+        return Err(RuleError::Shape);
+    }
+    let action = action.ok_or(RuleError::UnknownAction)?;
+    settings_for(alloc, fields, action)
+}
+
+/// Whether a target label that has to be a label name is one.
+fn has_fit_target(
+    alloc: Global,
+    action: Option<Action>,
+    target_label: &Option<Text>,
+) -> Result<bool, AllocError>
+    ensures { IfOk result (λ b. b ≡ has_fit action target_label.now) }
+{
+    match (action, target_label) {
+        (Some(action), Some(text)) if action.names_its_target() => {
+            is_label_name(alloc, text.as_str())
+        }
+        _ => Ok(true),
+    }
+}
+
+fn settings_for(alloc: Global, fields: Fields, action: Action) -> Result<RuleSettings, RuleError>
+    ensures { Gives result (settings_for_action fields action) }
+{
+    let Fields {
+        source_labels,
+        separator,
+        target_label,
+        pattern,
+        modulus,
+        replacement,
+        action: _name,
+    } = fields;
+    let target_label = text_or_empty(alloc, target_label);
+    if action.needs_target() && target_label.as_str().is_empty() {
+        return Err(RuleError::NoTargetLabel);
+    }
+    if action.is_hash_mod() && modulus == 0 {
+        return Err(RuleError::ZeroModulus);
+    }
+    Ok(RuleSettings {
+        source_labels,
+        separator,
+        target_label,
+        pattern,
+        modulus,
+        replacement,
+        action,
+    })
+}
+
+fn text_or_empty(alloc: Global, text: Option<Text>) -> Text
+    ensures { result ≡ unwrap_or text [] }
+{
+    match text {
+        Some(text) => text,
+        None => Text::from_string(String::new(alloc)),
+    }
+}
