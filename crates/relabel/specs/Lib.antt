@@ -2,3 +2,5 @@ pub mod Patterns
 pub mod Compiling
 pub mod Reading
 pub mod Spelling
+pub mod Effect
+pub mod Expanding

@@ -118,3 +118,7 @@ with_pattern settings = if is_pattern settings.pattern then Ok settings else Err
 -- the shape, then the action, its target label and its modulus, and then the pattern
 abbrev pub rule_said : Data → Result RuleSettings RuleError
 rule_said d = settings_said d >>= with_pattern
+
+-- what holds of every rule that is read: the target of a hash is a label name, and its modulus is not 0
+abbrev pub is_fit : RuleSettings → Bool
+is_fit rule = not (is_hash_mod rule.action) || (is_label_name rule.target_label && not (rule.modulus == 0))

@@ -6,10 +6,12 @@
 
 mod action;
 mod error;
+mod expansion;
 mod fields;
 mod name;
 mod pattern;
 mod rule;
+mod worker;
 
 pub use action::Action;
 pub use error::RuleError;

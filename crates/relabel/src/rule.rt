@@ -1,7 +1,9 @@
-ghost use Rattle.std.specs.Prelude.{◌≡◌, IfOk, unwrap_or, []};
+ghost use Rattle.std.specs.Prelude.{◌≡◌, IfOk, IsTrue, Some, unwrap_or, []};
+ghost use Rattle.regex.specs.Strings.{matcher_pattern, IsReadFrom};
+ghost use Rattle.relabel.specs.Patterns.{FindsAs, names_in};
 ghost use Rattle.serde_json.specs.View.{view};
 ghost use Rattle.relabel.specs.Reading.{Gives, Reads};
-ghost use Rattle.relabel.specs.Spelling.{settings_for as settings_for_action, settings_of as settings_of_fields, settings_said, has_fit_target as has_fit, with_pattern, rule_said};
+ghost use Rattle.relabel.specs.Spelling.{settings_for as settings_for_action, settings_of as settings_of_fields, settings_said, has_fit_target as has_fit, with_pattern, rule_said, is_fit};
 
 use crate::action::{Action, action_named};
 use crate::error::RuleError;
@@ -10,7 +12,7 @@ use crate::name::is_label_name;
 use crate::pattern::compiled;
 use label_sets::LabelName;
 use lists::{List, Text};
-use regex::{Regex, Template};
+use regex::{Matcher, Regex, Template};
 use serde_json::Value;
 use std::alloc::{AllocError, Global};
 use std::marker::Model;
@@ -39,13 +41,15 @@ pub struct Rule {
 
 impl Model for Rule {
     ghost use Rattle.relabel.specs.declared.rule.RuleSettings.{RuleSettings};
+    ghost use Rattle.std.specs.Prelude.{IsTrue};
     ghost use Rattle.relabel.specs.Compiling.{IsCompiled};
+    ghost use Rattle.relabel.specs.Spelling.{is_fit};
 
     ghost Value = { RuleSettings };
 
     ghost view = { λ r. r.settings };
 
-    ghost invariant = { λ r. IsCompiled r.settings r.regex r.target r.replacement };
+    ghost invariant = { λ r. IsCompiled r.settings r.regex r.target r.replacement × IsTrue (is_fit r.settings) };
 }
 
 impl Rule {
@@ -59,12 +63,34 @@ impl Rule {
 
     /// What the rule says.
     pub fn settings(&self) -> &RuleSettings
-        ensures { result.now ≡ self.now }
+        ensures all { result.now ≡ self.now }
+        ensures fit { IsTrue (is_fit self.now) }
     {
         &self.settings
     }
 
+    /// What searches for the rule's pattern in whole texts.
+    pub(crate) fn matcher(&self, alloc: Global) -> Result<Matcher<'_>, AllocError>
+        ensures { IfOk result (λ m. FindsAs self.now.pattern (matcher_pattern m)) }
+    {
+        self.regex.matcher(alloc)
+    }
+
+    /// The target label as a template.
+    pub(crate) fn target(&self) -> &Template
+        ensures { IsReadFrom (names_in self.now.pattern) self.now.target_label result.now }
+    {
+        &self.target
+    }
+
+    pub(crate) fn replacement(&self) -> &Template
+        ensures { IsReadFrom (names_in self.now.pattern) self.now.replacement result.now }
+    {
+        &self.replacement
+    }
+
     fn compile(alloc: Global, settings: RuleSettings) -> Result<Rule, RuleError>
+        requires { IsTrue (is_fit settings) }
         ensures { Reads result (with_pattern settings) }
     {
         let regex = compiled(alloc, settings.pattern.as_str())?;
@@ -81,7 +107,8 @@ impl Rule {
 }
 
 fn settings_in(alloc: Global, value: &Value) -> Result<RuleSettings, RuleError>
-    ensures { Gives result (settings_said (view value.now)) }
+    ensures said { Gives result (settings_said (view value.now)) }
+    ensures fit { IfOk result (λ s. IsTrue (is_fit s)) }
 {
     let fields = fields_in(alloc, value)?;
     settings_of(alloc, fields)
@@ -89,7 +116,8 @@ fn settings_in(alloc: Global, value: &Value) -> Result<RuleSettings, RuleError>
 
 #[tactic(auto, unfolding(crate::specs::Spelling::settings_of))]
 fn settings_of(alloc: Global, fields: Fields) -> Result<RuleSettings, RuleError>
-    ensures { Gives result (settings_of_fields fields) }
+    ensures said { Gives result (settings_of_fields fields) }
+    ensures fit { IfOk result (λ s. IsTrue (is_fit s)) }
 {
     let action = action_named(fields.action.as_str());
     if !has_fit_target(alloc, action, &fields.target_label)? {
@@ -116,7 +144,9 @@ fn has_fit_target(
 }
 
 fn settings_for(alloc: Global, fields: Fields, action: Action) -> Result<RuleSettings, RuleError>
-    ensures { Gives result (settings_for_action fields action) }
+    requires { IsTrue (has_fit (Some action) fields.target_label) }
+    ensures said { Gives result (settings_for_action fields action) }
+    ensures fit { IfOk result (λ s. IsTrue (is_fit s)) }
 {
     let Fields {
         source_labels,
