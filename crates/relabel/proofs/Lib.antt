@@ -1,2 +1,5 @@
 pub mod Forms
 pub mod Expansions
+pub mod Sweeping
+pub mod Fitting
+pub mod Inputs

@@ -5,9 +5,11 @@
 #![tactic(auto)]
 
 mod action;
+mod actions;
 mod error;
 mod expansion;
 mod fields;
+mod input;
 mod name;
 mod pattern;
 mod rule;

@@ -1,0 +1,8 @@
+use Rattle.std.proofs.Common.{◌∙◌}
+use Rattle.relabel.specs.Patterns.{matches}
+use Rattle.relabel.proofs.Sweeping.{swept_end}
+use Rattle.relabel.proofs.worker.Worker.drop_labels.Goals as goal
+
+pub returns-clause-value : goal.returns-clause-value
+returns-clause-value c =
+    swept_end (matches c.args.self.now.pattern) _ _ _ _ c.loop-name-test.false (c.as_slice-name-items.ensures ∙ c.in_ok-names.ensures.names) c.loop-name.invariant.swept
