@@ -4,3 +4,4 @@ pub mod Reading
 pub mod Spelling
 pub mod Effect
 pub mod Expanding
+pub mod Applying

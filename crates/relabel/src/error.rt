@@ -46,3 +46,12 @@ impl From<PatternError> for RuleError {
         }
     }
 }
+
+/// Why a list of rules was not read.
+#[derive(Clone, Copy, Debug, Drop, Error, PartialEq, Eq)]
+#[error("rule {number}: {error}")]
+pub struct RulesError {
+    /// The number of the first rule that was refused. The first rule has the number 1.
+    pub number: usize,
+    pub error: RuleError,
+}

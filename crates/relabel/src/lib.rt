@@ -13,8 +13,10 @@ mod input;
 mod name;
 mod pattern;
 mod rule;
+mod rules;
 mod worker;
 
 pub use action::Action;
-pub use error::RuleError;
+pub use error::{RuleError, RulesError};
 pub use rule::{Rule, RuleSettings};
+pub use rules::{Relabelled, Rules};

@@ -1,0 +1,103 @@
+//! Lists of rules.
+ghost use Rattle.std.specs.Prelude.{◌≡◌, ◌++◌, [], ◌∷◌, take, IfOk, IfErr, OnOk};
+ghost use Rattle.serde_json.specs.View.{view, items_view};
+ghost use Rattle.relabel.specs.Reading.{Refuses};
+ghost use Rattle.relabel.specs.Spelling.{rule_said};
+ghost use Rattle.relabel.specs.Applying.{rules_said, IsRefusedFrom, relabelled};
+
+use crate::error::{RuleError, RulesError};
+use crate::rule::Rule;
+use crate::worker::Worker;
+use label_sets::Labels;
+use lists::{List, Plain};
+use serde_json::Value;
+use std::alloc::{AllocError, Global};
+use std::marker::Model;
+
+/// A list of rules. Contracts see what the rules say.
+#[derive(Drop)]
+pub struct Rules {
+    rules: List<Rule>,
+}
+
+impl Model for Rules {
+    ghost use Rattle.std.specs.Prelude.{List};
+    ghost use Rattle.relabel.specs.declared.rule.RuleSettings.{RuleSettings};
+
+    ghost Value = { List RuleSettings };
+
+    ghost view = { λ r. r.rules };
+}
+
+/// What rules make of the labels of a target.
+#[derive(Debug, Drop)]
+pub enum Relabelled {
+    Kept(Labels),
+    /// The number of the rule that dropped the target. The first rule has the number 1.
+    Dropped(usize),
+}
+
+impl Rules {
+    /// The rules that the JSON values spell.
+    pub fn read(alloc: Global, values: &[Value]) -> Result<Rules, RulesError>
+        ensures rules { IfOk result (λ rules. rules_said (items_view values.now) ≡ Ok rules) }
+        ensures refused { IfErr result (IsRefusedFrom 1 (items_view values.now)) }
+    {
+        let mut rules = List::new(alloc);
+        for (index, value) in values.iter().enumerate() {
+            if let Err(error) = add_rule(alloc, &mut rules, value) {
+                return Err(RulesError {
+                    number: index + 1,
+                    error,
+                });
+            }
+        }
+        Ok(Rules { rules })
+    }
+
+    /// Applies the rules in order, up to the first that drops the target.
+    pub fn apply(&self, alloc: Global, labels: &Labels) -> Result<Relabelled, AllocError>
+        ensures { IfOk result (λ r. r ≡ relabelled self.now labels.now) }
+    {
+        let mut workers = self.workers(alloc)?;
+        let labels = labels.copy()?;
+        run(alloc, &mut workers, labels)
+    }
+
+    /// The rules at work.
+    pub(crate) fn workers(&self, alloc: Global) -> Result<Vec<Worker<'_>>, AllocError>
+        ensures { IfOk result (λ workers. workers.items ≡ self.now) }
+    {
+        let mut workers = Vec::with_capacity(alloc, self.rules.len())?;
+        for rule in self.rules.as_slice() {
+            workers.push(Worker::new(alloc, rule)?)?;
+        }
+        Ok(workers)
+    }
+}
+
+fn add_rule(alloc: Global, rules: &mut List<Rule>, value: &Value) -> Result<(), RuleError>
+    ensures rule { OnOk result ((rule : _) × (rule_said (view value.now) ≡ Ok rule) × (rules.new ≡ rules.old ++ rule ∷ [])) }
+    ensures refused { IfErr result (λ e. Refuses e (rule_said (view value.now))) }
+{
+    let rule = Rule::read(alloc, value)?;
+    rules.push(rule)?;
+    Ok(())
+}
+
+/// Runs the rules on the labels of a target.
+pub(crate) fn run(
+    alloc: Global,
+    workers: &mut [Worker<'_>],
+    mut labels: Labels,
+) -> Result<Relabelled, AllocError>
+    ensures value { IfOk result (λ r. r ≡ relabelled workers.old labels) }
+    ensures same { workers.new ≡ workers.old }
+{
+    for index in 0..workers.len() {
+        if !workers[index].run(alloc, &mut labels)? {
+            return Ok(Relabelled::Dropped(index + 1));
+        }
+    }
+    Ok(Relabelled::Kept(labels))
+}
