@@ -5,3 +5,4 @@ pub mod Spelling
 pub mod Effect
 pub mod Expanding
 pub mod Applying
+pub mod Discovering

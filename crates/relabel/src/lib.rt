@@ -6,6 +6,7 @@
 
 mod action;
 mod actions;
+mod discover;
 mod error;
 mod expansion;
 mod fields;
@@ -17,6 +18,7 @@ mod rules;
 mod worker;
 
 pub use action::Action;
+pub use discover::Found;
 pub use error::{RuleError, RulesError};
 pub use rule::{Rule, RuleSettings};
 pub use rules::{Relabelled, Rules};

@@ -1,0 +1,9 @@
+use Rattle.std.proofs.Common.{◌≡◌, drop}
+use Rattle.relabel.specs.Discovering.{with_targets}
+use Rattle.relabel.proofs.discover.add_group.Given as goal
+
+abbrev pub invariant-loop-target : goal.invariant-loop-target
+invariant-loop-target l = record {
+  rules : l.workers ≡ l.fn.workers;
+  rest : with_targets l.fn.workers l.job l.source l.group (drop l.target-index l.target-items) l.found ≡ with_targets l.fn.workers l.job l.source l.group l.target-items l.fn.found;
+}
