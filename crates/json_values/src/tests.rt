@@ -59,13 +59,20 @@ fn refuses_what_is_no_pair(rt: HostRuntime) -> Result<(), &'static str> {
     Ok(())
 }
 
+fn two_texts(alloc: Global) -> Result<List<Text>, AllocError> {
+    let mut texts = List::new(alloc);
+    texts.push(Text::from_str(alloc, "")?)?;
+    texts.push(Text::from_str(alloc, "é")?)?;
+    Ok(texts)
+}
+
 #[test]
 fn reads_texts(rt: HostRuntime) -> Result<(), &'static str> {
-    let Ok(Some(read)) = texts(rt.alloc(), "[\"\",\"\\u00e9\"]") else {
+    let read = texts(rt.alloc(), "[\"\",\"\\u00e9\"]");
+    let wanted = two_texts(rt.alloc());
+    let (Ok(Some(read)), Ok(wanted)) = (read, wanted) else {
         return Err("no memory");
     };
-    assert_eq!(rt; read.len(), 2);
-    assert_eq!(rt; read.as_slice()[0].as_str(), "");
-    assert_eq!(rt; read.as_slice()[1].as_str(), "é");
+    assert!(rt; read.same(&wanted));
     Ok(())
 }
