@@ -15,6 +15,8 @@ mod name;
 mod pattern;
 mod rule;
 mod rules;
+#[cfg(test)]
+mod tests;
 mod worker;
 
 pub use action::Action;
