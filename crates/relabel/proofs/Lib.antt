@@ -3,3 +3,4 @@ pub mod Expansions
 pub mod Sweeping
 pub mod Fitting
 pub mod Inputs
+pub mod Counting

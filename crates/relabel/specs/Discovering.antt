@@ -1,5 +1,5 @@
 -- What is made of the targets of a job's groups: the first labels of each, the rules, and what is finished of them.
-use Rattle.std.specs.Prelude.{ℕ, ◌+◌, List, [], ◌∷◌, ◌++◌}
+use Rattle.std.specs.Prelude.{ℕ, ◌+◌, List, [], ◌∷◌, ◌++◌, length}
 use Rattle.label_sets.specs.Finish.{finished}
 use Rattle.label_sets.specs.declared.finishing.Finished.{Finished}
 use Rattle.label_sets.specs.declared.finishing.Finished.TheVariants.{Target, NoAddress}
@@ -9,11 +9,15 @@ use Rattle.sd_documents.specs.declared.group.Group.{Group}
 use Rattle.relabel.specs.declared.rule.RuleSettings.{RuleSettings}
 use Rattle.relabel.specs.declared.rules.Relabelled.{Relabelled}
 use Rattle.relabel.specs.declared.rules.Relabelled.TheVariants.{Kept, Dropped}
-use Rattle.relabel.specs.declared.discover.Found.{Found}
+use Rattle.relabel.specs.declared.discovery.Found.{Found}
 use Rattle.relabel.specs.Applying.{relabelled}
 
 abbrev pub nothing_found : Found
 nothing_found = record { targets = []; dropped = 0; no_address = 0 }
+
+-- how many targets it tells of
+abbrev pub count_of : Found → ℕ
+count_of found = length found.targets + found.dropped + found.no_address
 
 -- one more target, or one more without an address
 abbrev pub with_finished : Found → Finished → Found

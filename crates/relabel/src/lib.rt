@@ -6,9 +6,9 @@
 
 mod action;
 mod actions;
-mod discover;
+mod discovery;
 mod error;
-mod expansion;
+mod expanding;
 mod fields;
 mod input;
 mod name;
@@ -20,7 +20,7 @@ mod tests;
 mod worker;
 
 pub use action::Action;
-pub use discover::Found;
+pub use discovery::Found;
 pub use error::{RuleError, RulesError};
 pub use rule::{Rule, RuleSettings};
 pub use rules::{Relabelled, Rules};

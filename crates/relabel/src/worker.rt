@@ -3,7 +3,7 @@ ghost use Rattle.std.specs.Prelude.{◌≡◌, IfOk};
 ghost use Rattle.relabel.specs.Patterns.{matches as is_match};
 ghost use Rattle.relabel.specs.Effect.{expansions as expansions_of};
 
-use crate::expansion::expansions;
+use crate::expanding::expansions;
 use crate::rule::Rule;
 use lists::Text;
 use regex::Matcher;

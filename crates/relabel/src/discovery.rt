@@ -3,7 +3,7 @@ ghost use Rattle.std.specs.Prelude.{◌≡◌, ◌≤◌, ◌+◌, length, sum_b
 ghost use Rattle.label_sets.specs.Finish.{finished};
 ghost use Rattle.sd_documents.specs.FirstLabels.{first_labels as first_labels_of};
 ghost use Rattle.relabel.specs.Applying.{relabelled};
-ghost use Rattle.relabel.specs.Discovering.{with_finished, with_relabelled, with_targets, discovered};
+ghost use Rattle.relabel.specs.Discovering.{with_finished, with_relabelled, with_targets, discovered, count_of};
 
 use crate::rules::{Relabelled, Rules, run};
 use crate::worker::Worker;
@@ -34,7 +34,9 @@ impl Rules {
         groups: &[Group],
     ) -> Result<Found, AllocError>
         requires { source ≤ length job.now.http_urls }
-        ensures { IfOk result (λ f. f ≡ discovered self.now job.now source groups.now) }
+        ensures found { IfOk result (λ f. f ≡ discovered self.now job.now source groups.now) }
+        // Each target is found, dropped or without an address.
+        ensures all { IfOk result (λ f. count_of f ≡ sum_by (λ (g : Group). length g.targets) groups.now) }
     {
         let mut workers = self.workers(alloc)?;
         let mut found = Found {

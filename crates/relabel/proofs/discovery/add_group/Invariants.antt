@@ -1,6 +1,6 @@
 use Rattle.std.proofs.Common.{◌≡◌, drop}
 use Rattle.relabel.specs.Discovering.{with_targets}
-use Rattle.relabel.proofs.discover.add_group.Given as goal
+use Rattle.relabel.proofs.discovery.add_group.Given as goal
 
 abbrev pub invariant-loop-target : goal.invariant-loop-target
 invariant-loop-target l = record {

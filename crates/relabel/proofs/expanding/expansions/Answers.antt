@@ -1,6 +1,6 @@
 use Rattle.std.proofs.Common.{◌∙◌}
 use Rattle.relabel.proofs.Expansions.{is_expansion}
-use Rattle.relabel.proofs.expansion.expansions.Goals as goal
+use Rattle.relabel.proofs.expanding.expansions.Goals as goal
 
 pub returns-clause-value : goal.returns-clause-value
 returns-clause-value c =
