@@ -8,7 +8,7 @@ Names arguments word = map (λ (a : String Global). string_bytes a) arguments �
 
 -- the arguments are not one word that names a command
 abbrev pub NamesNone : List (String Global) → Type 0
-NamesNone arguments = (¬ Names arguments (codes "check")) × (¬ Names arguments (codes "plan")) × (¬ Names arguments (codes "replay"))
+NamesNone arguments = (¬ Names arguments (codes "check")) × (¬ Names arguments (codes "plan")) × (¬ Names arguments (codes "replay")) × (¬ Names arguments (codes "relabel"))
 
 abbrev pub usage : List ℕ
 usage = codes "usage: allocd check|plan|relabel|replay|session\n"

@@ -4,4 +4,5 @@ pub mod Unreadable
 pub mod Check
 pub mod Plan
 pub mod Replay
+pub mod Relabelling
 pub mod Commands

@@ -5,12 +5,14 @@ ghost use Rattle.std.specs.Io.KnownBytes.{Appends};
 ghost use Rattle.allocd.specs.Check.{ChecksTo, ChecksPart};
 ghost use Rattle.allocd.specs.Plan.{PlansTo, PlansPart};
 ghost use Rattle.allocd.specs.Replay.{ReplaysTo};
+ghost use Rattle.allocd.specs.Relabelling.{RelabelsTo, RelabelsPart};
 ghost use Rattle.allocd.specs.Writing.{AppendsPart};
 ghost use Rattle.allocd.specs.Commands.{Names, NamesNone, usage};
 
 use crate::check::run_check;
 use crate::output::write_text;
 use crate::plan::run_plan;
+use crate::relabelling::run_relabel;
 use crate::replay::run_replay;
 use std::alloc::Global;
 use std::io::{Read, Write};
@@ -30,9 +32,11 @@ pub fn run<R: Read, W: Write>(
     ensures check { Names arguments.now (codes "check") → result ≢ 3 → ChecksTo (R.remaining reader.old) (W.contents writer.old) (W.contents writer.new) result }
     ensures plan { Names arguments.now (codes "plan") → result ≢ 3 → PlansTo (R.remaining reader.old) (W.contents writer.old) (W.contents writer.new) result }
     ensures replay { Names arguments.now (codes "replay") → result ≢ 3 → ReplaysTo (R.remaining reader.old) (W.contents writer.old) (W.contents writer.new) result }
+    ensures relabel { Names arguments.now (codes "relabel") → result ≢ 3 → RelabelsTo (R.remaining reader.old) (W.contents writer.old) (W.contents writer.new) result }
     ensures unread { NamesNone arguments.now → R.remaining reader.new ≡ R.remaining reader.old }
     ensures check_part { Names arguments.now (codes "check") → ChecksPart (R.remaining reader.old) (W.contents writer.old) (W.contents writer.new) }
     ensures plan_part { Names arguments.now (codes "plan") → PlansPart (R.remaining reader.old) (W.contents writer.old) (W.contents writer.new) }
+    ensures relabel_part { Names arguments.now (codes "relabel") → RelabelsPart (R.remaining reader.old) (W.contents writer.old) (W.contents writer.new) }
     ensures usage_part { NamesNone arguments.now → AppendsPart (W.contents writer.old) (W.contents writer.new) usage }
     ensures usage { NamesNone arguments.now → result ≢ 3 → (result ≡ 2) × Appends (W.contents writer.old) (W.contents writer.new) usage }
 {
@@ -44,6 +48,9 @@ pub fn run<R: Read, W: Write>(
     }
     if names(arguments, "replay") {
         return run_replay(alloc, reader, writer);
+    }
+    if names(arguments, "relabel") {
+        return run_relabel(alloc, reader, writer);
     }
     write_text(
         writer,

@@ -6,6 +6,7 @@ mod command;
 mod input;
 mod output;
 mod plan;
+mod relabelling;
 mod replay;
 #[cfg(test)]
 mod tests;

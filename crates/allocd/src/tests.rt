@@ -1,3 +1,4 @@
+mod relabelling;
 mod replaying;
 
 use crate::check::run_check;
@@ -277,7 +278,9 @@ fn picks_the_command(rt: HostRuntime) -> Result<(), Fail> {
     runs(&rt, alloc, &[plan], PLANNED, 0)?;
     let replay = String::from_str(alloc, "replay")?;
     runs(&rt, alloc, &[replay], "total 0\n", 0)?;
-    for word in ["relabel", "session", "", "Check", "check "] {
+    let relabel = String::from_str(alloc, "relabel")?;
+    runs(&rt, alloc, &[relabel], "unreadable Shape\n", 2)?;
+    for word in ["session", "", "Check", "check "] {
         let other = String::from_str(alloc, word)?;
         runs(&rt, alloc, &[other], USAGE, 2)?;
     }

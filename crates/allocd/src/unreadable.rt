@@ -19,6 +19,19 @@ pub enum Unreadable {
     Shape,
 }
 
+impl Unreadable {
+    /// The line on an input that is not read.
+    pub fn line(&self) -> &'static str
+        ensures { result.now ≡ unreadable_line self.now }
+    {
+        match self {
+            Unreadable::TooLong => "unreadable TooLong\n",
+            Unreadable::NotJson => "unreadable NotJson\n",
+            Unreadable::Shape => "unreadable Shape\n",
+        }
+    }
+}
+
 /// Writes the line on an input that is not read, and gives the status.
 pub fn write_unreadable<W: Write>(writer: &mut W, unreadable: Unreadable) -> u8
     ensures most { result ≤ 3 }
@@ -26,9 +39,5 @@ pub fn write_unreadable<W: Write>(writer: &mut W, unreadable: Unreadable) -> u8
     ensures text { result ≢ 3 → Appends (W.contents writer.old) (W.contents writer.new) (unreadable_line unreadable) }
     ensures part { AppendsPart (W.contents writer.old) (W.contents writer.new) (unreadable_line unreadable) }
 {
-    match unreadable {
-        Unreadable::TooLong => write_text(writer, "unreadable TooLong\n", 2),
-        Unreadable::NotJson => write_text(writer, "unreadable NotJson\n", 2),
-        Unreadable::Shape => write_text(writer, "unreadable Shape\n", 2),
-    }
+    write_text(writer, unreadable.line(), 2)
 }

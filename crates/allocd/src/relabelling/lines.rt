@@ -1,0 +1,56 @@
+//! The texts on outcomes.
+
+ghost use Rattle.std.specs.Prelude.{◌≡◌, IfOk, string_bytes};
+ghost use Rattle.allocd.specs.Relabelling.{outcome_text, rule_error_name};
+
+use super::Outcome;
+use lists::Text;
+use relabel::RuleError;
+use std::alloc::{AllocError, Global};
+
+/// The text on an outcome.
+pub(super) fn text_of(alloc: Global, outcome: &Outcome) -> Result<String, AllocError>
+    ensures { IfOk result (λ text. string_bytes text ≡ outcome_text outcome.now) }
+{
+    match outcome {
+        Outcome::Unreadable(unreadable) => String::from_str(alloc, unreadable.line()),
+        Outcome::BadLabelName => String::from_str(alloc, "refused BadLabelName\n"),
+        Outcome::RefusedRule(number, error) => refused_line(alloc, *number, *error),
+        Outcome::Kept { labels, target } => kept_lines(alloc, labels, target),
+        Outcome::Dropped(number) => format!(in alloc; "dropped {number}\n"),
+    }
+}
+
+fn refused_line(alloc: Global, number: usize, error: RuleError) -> Result<String, AllocError>
+    ensures { IfOk result (λ text. string_bytes text ≡ outcome_text (Outcome.RefusedRule number error)) }
+{
+    let name = name_of(error);
+    format!(in alloc; "refused {number} {name}\n")
+}
+
+fn kept_lines(alloc: Global, labels: &Text, target: &Option<Text>) -> Result<String, AllocError>
+    ensures { IfOk result (λ text. string_bytes text ≡ outcome_text (Outcome.Kept labels.now target.now)) }
+{
+    let labels = labels.as_str();
+    match target {
+        Some(target) => {
+            let target = target.as_str();
+            format!(in alloc; "kept {labels}\ntarget {target}\n")
+        }
+        None => format!(in alloc; "kept {labels}\nno address\n"),
+    }
+}
+
+/// The name of a refusal.
+fn name_of(error: RuleError) -> &'static str
+    ensures { result.now ≡ rule_error_name error }
+{
+    match error {
+        RuleError::Shape => "Shape",
+        RuleError::UnknownAction => "UnknownAction",
+        RuleError::NoTargetLabel => "NoTargetLabel",
+        RuleError::ZeroModulus => "ZeroModulus",
+        RuleError::BadPattern => "BadPattern",
+        RuleError::Memory => "Memory",
+    }
+}
