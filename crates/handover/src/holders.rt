@@ -1,0 +1,126 @@
+ghost use Rattle.std.specs.Prelude.{◌≡◌, ◌↔◌, ◌+◌, ◌<◌, ◌≢◌, ℕ, [], ◌∷◌, ◌++◌, Ok, Err, length, AllPairs, IfOk, OnOk, OnErr, nat_eq};
+ghost use Rattle.handover.specs.Handover.{nothing_published, last_of, holder_in, held_in, targets_of, beside, taken_by, with_taken};
+
+use crate::error::HoldersError;
+use crate::pairs::{allocation_at, beside, targets_of};
+use crate::{CollectorId, TargetId};
+use indexmap::IndexMap;
+use lists::List;
+use std::alloc::{AllocError, Global};
+use std::marker::Model;
+
+/// The last number of an allocation.
+const LAST_NUMBER: u32 = 4_294_967_295;
+
+/// All published allocations, and the last number that each collector took. Contracts see a `Handover`.
+#[derive(Drop)]
+pub struct Holders {
+    alloc: Global,
+    published: Vec<List<(TargetId, CollectorId)>>,
+    taken: IndexMap<CollectorId, u32>,
+}
+
+impl Model for Holders {
+    ghost use Rattle.std.specs.Prelude.{◌≤◌, length};
+    ghost use Rattle.handover.specs.Handover.{Handover};
+
+    ghost Value = { Handover };
+
+    ghost view = { λ h. record { published = h.published.items; taken = h.taken.entries } };
+
+    ghost invariant = { λ h. length h.published.items ≤ 4294967295 };
+}
+
+impl Holders {
+    /// Nothing is published, and nobody took anything. It takes no memory.
+    pub fn open(alloc: Global) -> Holders
+        ensures { result ≡ nothing_published }
+    {
+        Holders {
+            alloc,
+            published: Vec::new(alloc),
+            taken: IndexMap::new(alloc),
+        }
+    }
+
+    /// Publishes an allocation under the next number, and gives that number.
+    pub fn publish(&mut self, pairs: List<(TargetId, CollectorId)>) -> Result<u32, HoldersError>
+        requires ascending { AllPairs (λ (a b : ℕ × ℕ). a.0 < b.0) pairs }
+        ensures number { IfOk result (λ n. n ≡ length self.old.published + 1) }
+        ensures published { OnOk result (self.new ≡ record self.old { published = self.old.published ++ pairs ∷ [] }) }
+        ensures spent { (result ≡ Err HoldersError.NumbersSpent) ↔ (length self.old.published ≡ 4294967295) }
+        ensures not_unknown { result ≢ Err HoldersError.UnknownNumber }
+        ensures err { OnErr result (self.new ≡ self.old) }
+    {
+        let current = self.current();
+        if current >= LAST_NUMBER {
+            return Err(HoldersError::NumbersSpent);
+        }
+        self.published.push(pairs).map_err(AllocError::from)?;
+        Ok(current + 1)
+    }
+
+    /// The number of the current allocation, 0 where none is published.
+    pub fn current(&self) -> u32
+        ensures { result ≡ length self.now.published }
+    {
+        self.published.len() as u32
+    }
+
+    /// The pairs of the current allocation, in order of target.
+    pub fn current_pairs(&self) -> &[(TargetId, CollectorId)]
+        ensures { result.now ≡ last_of self.now.published }
+    {
+        match self.published.last() {
+            Some(pairs) => pairs.as_slice(),
+            None => &[],
+        }
+    }
+
+    /// Who held a target in the allocation of a number. `None` where nobody did, or no allocation has the number.
+    pub fn holder(&self, number: u32, target: TargetId) -> Option<CollectorId>
+        ensures { result ≡ holder_in self.now.published number target }
+    {
+        beside(allocation_at(self.published.as_slice(), number), target)
+    }
+
+    /// The targets that a collector held in the allocation of a number, in order of target.
+    pub fn held(&self, number: u32, collector: CollectorId) -> Result<List<TargetId>, HoldersError>
+        ensures held { IfOk result (λ l. l ≡ held_in self.now.published number collector) }
+        ensures unknown { (result ≡ Err HoldersError.UnknownNumber) ↔ (length self.now.published < number) }
+        ensures not_spent { result ≢ Err HoldersError.NumbersSpent }
+    {
+        if self.current() < number {
+            return Err(HoldersError::UnknownNumber);
+        }
+        let pairs = allocation_at(self.published.as_slice(), number);
+        let held = targets_of(self.alloc, pairs, collector)?;
+        Ok(List::from_vec(held))
+    }
+
+    /// The number of the allocation that a collector took last, 0 where it took none.
+    pub fn taken(&self, collector: CollectorId) -> u32
+        ensures { result ≡ taken_by self.now.taken collector }
+    {
+        match self.taken.get(&collector) {
+            Some(number) => *number,
+            None => 0,
+        }
+    }
+
+    /// A collector takes the allocation of a number.
+    pub fn take(&mut self, collector: CollectorId, number: u32) -> Result<(), HoldersError>
+        ensures taken { OnOk result (self.new ≡ record self.old { taken = with_taken self.old.taken collector number }) }
+        ensures unknown { (result ≡ Err HoldersError.UnknownNumber) ↔ (length self.old.published < number) }
+        ensures not_spent { result ≢ Err HoldersError.NumbersSpent }
+        ensures err { OnErr result (self.new ≡ self.old) }
+    {
+        if self.current() < number {
+            return Err(HoldersError::UnknownNumber);
+        }
+        self.taken
+            .insert(collector, number)
+            .map_err(AllocError::from)?;
+        Ok(())
+    }
+}

@@ -1,0 +1,21 @@
+//! Published allocations, and who took which. Numbers of allocations go from 1 to 4,294,967,295, and the
+//! allocation of number 0 is empty.
+//!
+//! Contracts see a `Holders` as a record of two plain lists: all that was published, and the last number
+//! that each collector took.
+#![tactic(auto)]
+
+mod error;
+mod holders;
+mod pairs;
+#[cfg(test)]
+mod tests;
+
+pub use error::HoldersError;
+pub use holders::Holders;
+
+/// A target's number, from 0.
+pub type TargetId = u32;
+
+/// A collector's number, from 1.
+pub type CollectorId = u32;
