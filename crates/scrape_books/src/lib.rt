@@ -1,0 +1,15 @@
+//! The books of scrape reports, and the samples of a scraped body.
+//!
+//! Contracts see `Books` as the list of the booked entries beside their targets, in order of booking.
+#![tactic(auto)]
+
+mod books;
+mod error;
+mod report;
+mod standing;
+#[cfg(test)]
+mod tests;
+
+pub use books::{Books, rounds_rise};
+pub use error::BooksError;
+pub use report::{Entry, Outcome, Page};
