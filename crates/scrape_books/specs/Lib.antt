@@ -1,3 +1,4 @@
 pub mod Books
 pub mod Kept
+pub mod Samples
 pub mod Standings

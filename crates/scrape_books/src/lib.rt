@@ -6,6 +6,7 @@
 mod books;
 mod error;
 mod report;
+mod samples;
 mod standing;
 #[cfg(test)]
 mod tests;
@@ -13,3 +14,4 @@ mod tests;
 pub use books::{Books, rounds_rise};
 pub use error::BooksError;
 pub use report::{Entry, Outcome, Page};
+pub use samples::count_samples;
