@@ -1,1 +1,5 @@
 pub mod Taken
+pub mod SpanLemmas
+pub mod PairLemmas
+pub mod RowLemmas
+pub mod KeptLemmas

@@ -1,1 +1,2 @@
 pub mod Handover
+pub mod Spans

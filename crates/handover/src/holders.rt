@@ -1,8 +1,9 @@
-ghost use Rattle.std.specs.Prelude.{◌≡◌, ◌↔◌, ◌+◌, ◌<◌, ◌≢◌, ℕ, [], ◌∷◌, ◌++◌, Ok, Err, length, AllPairs, IfOk, OnOk, OnErr, nat_eq};
-ghost use Rattle.handover.specs.Handover.{nothing_published, last_of, holder_in, held_in, targets_of, beside, taken_by, with_taken};
+ghost use Rattle.std.specs.Prelude.{◌≡◌, ◌↔◌, ◌+◌, ◌<◌, ◌≤◌, ◌≢◌, ℕ, [], ◌∷◌, ◌++◌, Ok, Err, length, AllPairs, IfOk, OnOk, OnErr, nat_eq};
+ghost use Rattle.handover.specs.Handover.{nothing_published, last_of, holder_in, held_in, taken_by, with_taken};
 
 use crate::error::HoldersError;
-use crate::pairs::{allocation_at, beside, targets_of};
+use crate::rows::{follow, held_at, holder_at, targets_of};
+use crate::spans::Spans;
 use crate::{CollectorId, TargetId};
 use indexmap::IndexMap;
 use lists::List;
@@ -16,19 +17,21 @@ const LAST_NUMBER: u32 = 4_294_967_295;
 #[derive(Drop)]
 pub struct Holders {
     alloc: Global,
-    published: Vec<List<(TargetId, CollectorId)>>,
+    current: u32,
+    pairs: List<(TargetId, CollectorId)>,
+    rows: Vec<Spans>,
     taken: IndexMap<CollectorId, u32>,
 }
 
 impl Model for Holders {
-    ghost use Rattle.std.specs.Prelude.{◌≤◌, length};
     ghost use Rattle.handover.specs.Handover.{Handover};
+    ghost use Rattle.handover.specs.Spans.{lists_of, IsKept};
 
     ghost Value = { Handover };
 
-    ghost view = { λ h. record { published = h.published.items; taken = h.taken.entries } };
+    ghost view = { λ h. record { published = lists_of h.rows.items h.current; taken = h.taken.entries } };
 
-    ghost invariant = { λ h. length h.published.items ≤ 4294967295 };
+    ghost invariant = { λ h. IsKept h.current h.pairs h.rows.items };
 }
 
 impl Holders {
@@ -38,7 +41,9 @@ impl Holders {
     {
         Holders {
             alloc,
-            published: Vec::new(alloc),
+            current: 0,
+            pairs: List::new(alloc),
+            rows: Vec::new(alloc),
             taken: IndexMap::new(alloc),
         }
     }
@@ -52,36 +57,43 @@ impl Holders {
         ensures not_unknown { result ≢ Err HoldersError.UnknownNumber }
         ensures err { OnErr result (self.new ≡ self.old) }
     {
-        let current = self.current();
-        if current >= LAST_NUMBER {
+        if self.current >= LAST_NUMBER {
             return Err(HoldersError::NumbersSpent);
         }
-        self.published.push(pairs).map_err(AllocError::from)?;
-        Ok(current + 1)
+        follow(
+            self.alloc,
+            &mut self.rows,
+            self.pairs.as_slice(),
+            self.current,
+            pairs.as_slice(),
+        )?;
+        self.pairs = pairs;
+        self.current += 1;
+        Ok(self.current)
     }
 
     /// The number of the current allocation, 0 where none is published.
     pub fn current(&self) -> u32
         ensures { result ≡ length self.now.published }
     {
-        self.published.len() as u32
+        self.current
     }
 
     /// The pairs of the current allocation, in order of target.
     pub fn current_pairs(&self) -> &[(TargetId, CollectorId)]
         ensures { result.now ≡ last_of self.now.published }
     {
-        match self.published.last() {
-            Some(pairs) => pairs.as_slice(),
-            None => &[],
-        }
+        self.pairs.as_slice()
     }
 
     /// Who held a target in the allocation of a number. `None` where nobody did, or no allocation has the number.
     pub fn holder(&self, number: u32, target: TargetId) -> Option<CollectorId>
         ensures { result ≡ holder_in self.now.published number target }
     {
-        beside(allocation_at(self.published.as_slice(), number), target)
+        if self.current < number {
+            return None;
+        }
+        holder_at(self.rows.as_slice(), number, target)
     }
 
     /// The targets that a collector held in the allocation of a number, in order of target.
@@ -93,9 +105,20 @@ impl Holders {
         if self.current() < number {
             return Err(HoldersError::UnknownNumber);
         }
-        let pairs = allocation_at(self.published.as_slice(), number);
-        let held = targets_of(self.alloc, pairs, collector)?;
+        let held = self.targets(number, collector)?;
         Ok(List::from_vec(held))
+    }
+
+    /// The targets that a collector held in the allocation of a number that is given.
+    fn targets(&self, number: u32, collector: CollectorId) -> Result<Vec<TargetId>, AllocError>
+        requires { number ≤ length self.now.published }
+        ensures { IfOk result (λ v. v.items ≡ held_in self.now.published number collector) }
+    {
+        if number == self.current {
+            targets_of(self.alloc, self.pairs.as_slice(), collector)
+        } else {
+            held_at(self.alloc, self.rows.as_slice(), number, collector)
+        }
     }
 
     /// The number of the allocation that a collector took last, 0 where it took none.

@@ -7,14 +7,15 @@
 
 mod error;
 mod holders;
-mod pairs;
+mod rows;
+mod spans;
 #[cfg(test)]
 mod tests;
 
 pub use error::HoldersError;
 pub use holders::Holders;
 
-/// A target's number, from 0.
+/// A target's number. Numbers are given densely from 0: the memory for spans grows with the greatest.
 pub type TargetId = u32;
 
 /// A collector's number, from 1.
