@@ -1,7 +1,7 @@
 ghost use Rattle.std.specs.Prelude.{◌≡◌, ◌+◌, if◌then◌else◌};
 ghost use Rattle.scrape_books.specs.Samples.{first_mark, is_sample_line, sample_count, saturated};
 
-use memchr::memchr;
+use memchr::memchr_iter;
 
 /// How many samples a scraped body has, at most 4,294,967,295: how many of its lines hold more than spaces and tabs and have
 /// another first mark than `#`, in the Prometheus text exposition format, version 0.0.4, "Text format details". It takes no
@@ -10,12 +10,12 @@ pub fn count_samples(body: &[u8]) -> u32
     ensures { result ≡ saturated (sample_count body.now) }
 {
     let mut count = 0;
-    let mut rest = body;
-    while let Some(end) = memchr(b'\n', rest) {
-        count = counted(count, &rest[..end]);
-        rest = &rest[end + 1..];
+    let mut start = 0;
+    for end in memchr_iter(b'\n', body) {
+        count = counted(count, &body[start..end]);
+        start = end + 1;
     }
-    counted(count, rest)
+    counted(count, &body[start..])
 }
 
 /// The count with one more line.

@@ -1,15 +1,11 @@
-use Rattle.std.proofs.Common.{◌+◌, arith, length}
-use Rattle.scrape_books.proofs.SampleLemmas.{rest_within, still_to_count, all_counted}
+use Rattle.std.proofs.Common.{List, ℕ, arith, subst}
+use Rattle.scrape_books.proofs.SampleLemmas.{Cuts, cuts, still_to_count}
 use Rattle.scrape_books.proofs.samples.count_samples.Goals as goal
 
-pub overflow_add-rest : goal.overflow_add-rest
-overflow_add-rest c = omega (arith, c.in-Some.ensures.0.high)
+pub loop-end-init : goal.loop-end-init
+loop-end-init c = record { cuts = rw (c.into_iter-end-iterator.ensures.into_iter_gives, c.memchr_iter-end-items.ensures.value) (cuts c.args.body.now); left = omega arith }
 
 pub loop-end-preserved : goal.loop-end-preserved
-loop-end-preserved c = record {
-  within = rest_within c.loop-end.rest.now (c.in-Some.end + 1) (length c.args.body.now) c.loop-end.invariant.within;
-  left = still_to_count c.args.body.now c.loop-end.rest.now c.loop-end.count c.counted-count.result c.in-Some.end c.in-Some.ensures.0 c.in-Some.ensures.1 c.loop-end.invariant.left c.counted-count.ensures;
-}
-
-pub returns : goal.returns
-returns c = all_counted c.args.body.now c.loop-end.rest.now c.loop-end.count c.counted.result c.in_default.ensures c.loop-end.invariant.left c.counted.ensures
+loop-end-preserved c =
+    let parts = subst (λ (ends : List ℕ). Cuts c.args.body.now c.loop-end.start ends) c.in-Some.ensures.steps c.loop-end.invariant.cuts in
+    record { cuts = parts.3; left = still_to_count _ _ _ _ _ _ parts.2 c.loop-end.invariant.left c.counted-count.ensures }
