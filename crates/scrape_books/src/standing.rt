@@ -1,4 +1,4 @@
-ghost use Rattle.std.specs.Prelude.{◌≡◌, ◌<◌, ◌++◌, slice_index_or, length, vec_len, replicate, OnOk, OnErr, ℕ};
+ghost use Rattle.std.specs.Prelude.{◌≡◌, ◌<◌, ℕ, slice_index_or, vec_len, OnOk};
 ghost use Rattle.scrape_books.specs.Standings.{no_standing, with_entry, IsBounded};
 
 use crate::report::{Entry, Outcome, Page};

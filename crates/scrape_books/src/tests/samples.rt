@@ -54,7 +54,7 @@ fn count_plainly(body: &[u8]) -> u32 {
 fn mixed_body(alloc: Global, spread: u32) -> Result<Vec<u8>, AllocError>
     requires { spread ≢ 0 }
 {
-    let mut body = Vec::new(alloc);
+    let mut body = Vec::with_capacity(alloc, 20_000)?;
     let mut state: u32 = 1;
     for _ in 0..20_000 {
         state = state.wrapping_mul(1_664_525).wrapping_add(1_013_904_223);
