@@ -9,15 +9,16 @@ use Rattle.price_certificate.specs.declared.plan.Plan.{Plan}
 use Rattle.price_certificate.specs.declared.verdict.Fault.{Fault}
 use Rattle.allocation_core.specs.Live.{count_below, is_listed}
 use Rattle.allocation_core.specs.Jobs.{job_named, sources_at}
-use Rattle.allocation_core.specs.State.{State, current_of, current_pairs, id_named}
+use Rattle.handover.specs.Handover.{holder_in, taken_by}
+use Rattle.allocation_core.specs.State.{State, current_of, current_pairs, held_by, id_named, is_joined}
 use Rattle.allocation_core.specs.Instances.{instance_of, allocation_of}
-use Rattle.allocation_core.specs.Steps.{answer_of, answer_by, source_refusal, discovered, name_refusal, plan_refusal, same_pairs}
-use Rattle.allocation_core.specs.Answers.{IsAnswerTo, is_discover_answer, is_join_answer, is_leave_answer, is_install_answer}
+use Rattle.allocation_core.specs.Steps.{answer_of, answer_by, source_refusal, discovered, name_refusal, plan_refusal, same_pairs, is_booked, is_holder, report_refusal}
+use Rattle.allocation_core.specs.Answers.{IsAnswerTo, is_discover_answer, is_join_answer, is_leave_answer, is_install_answer, is_round_answer, is_take_answer, is_report_answer}
 use Rattle.allocation_core.specs.declared.job.Collector.{Collector}
 use Rattle.allocation_core.specs.declared.event.Event.{Event}
-use Rattle.allocation_core.specs.declared.event.Event.TheVariants.{Discover, Join, Leave, Install}
-use Rattle.allocation_core.specs.declared.answer.Answer.TheVariants.{Discovered, Joined, Left, Published}
-use Rattle.allocation_core.specs.declared.answer.Refusal.TheVariants.{UnknownJob, UnknownSource, TooManyLive, TooManyKnown, TooManyCollectors, IdsSpent, UnknownCollector, Unchanged, NumbersSpent}
+use Rattle.allocation_core.specs.declared.event.Event.TheVariants.{Discover, Join, Leave, Install, NextRound, Take, Report}
+use Rattle.allocation_core.specs.declared.answer.Answer.TheVariants.{Discovered, Joined, Left, Published, RoundOpen, Taken, Booked}
+use Rattle.allocation_core.specs.declared.answer.Refusal.TheVariants.{UnknownJob, UnknownSource, TooManyLive, TooManyKnown, TooManyCollectors, IdsSpent, UnknownCollector, Unchanged, NumbersSpent, RoundsSpent, NotTaken, UnknownTarget, NotHolder, RoundClosed, RoundNotOpen, AlreadyBooked}
 
 source_answer : (s a b : Bool) (x y : ℕ) → IsTrue (is_discover_answer (answer_by (cond s (cond a (Some TooManyLive) (cond b (Some TooManyKnown) None)) (Some UnknownSource)) (Discovered x y)))
 source_answer false a b x y = refl
@@ -53,9 +54,34 @@ install_answer : (m : State) (plan : Plan) (f : Option Fault) (x : ℕ) → IsTr
 install_answer m plan (Some fault) x = refl
 install_answer m plan None x = number_answer (same_pairs (allocation_of m plan.pairs) (current_pairs m)) (nat_lt (current_of m) 4294967295) (current_of m) x
 
+round_answer : (b : Bool) (r : ℕ) → IsTrue (is_round_answer (answer_by (cond b None (Some RoundsSpent)) (RoundOpen r)))
+round_answer true r = refl
+round_answer false r = refl
+
+take_answer : (b : Bool) (number round : ℕ) (held : List ℕ) → IsTrue (is_take_answer (answer_by (cond b None (Some UnknownCollector)) (Taken number round held)))
+take_answer true number round held = refl
+take_answer false number round held = refl
+
+report_answer :
+    (joined took there holds closed ahead twice : Bool) (taken round : ℕ) (holder : Option ℕ)
+    → IsTrue (is_report_answer (answer_by (cond joined (cond took (cond there (cond holds (cond closed (Some (RoundClosed round)) (cond ahead (Some (RoundNotOpen round)) (cond twice (Some AlreadyBooked) None))) (Some (NotHolder holder))) (Some UnknownTarget)) (Some (NotTaken taken))) (Some UnknownCollector)) Booked))
+report_answer false took there holds closed ahead twice taken round holder = refl
+report_answer true false there holds closed ahead twice taken round holder = refl
+report_answer true true false holds closed ahead twice taken round holder = refl
+report_answer true true true false closed ahead twice taken round holder = refl
+report_answer true true true true true ahead twice taken round holder = refl
+report_answer true true true true false true twice taken round holder = refl
+report_answer true true true true false false true taken round holder = refl
+report_answer true true true true false false false taken round holder = refl
+
 pub answers_fit : (m : State) (e : Event) → IsAnswerTo e (answer_of m e)
 unfolding answer_of
 answers_fit m (Discover name source targets) = discover_answer m (job_named m.jobs name) source targets _ _
 answers_fit m (Join name reach) = join_answer m (id_named m.collectors name) (m.given + 1)
-answers_fit m (Leave id) = leave_answer (list_any (λ (c : Collector). c.id == id) m.collectors)
+answers_fit m (Leave id) = leave_answer (is_joined m id)
 answers_fit m (Install plan) = install_answer m plan (fault_of (instance_of m) plan.pairs plan.item_prices plan.bin_prices) (current_of m + 1)
+answers_fit m NextRound = round_answer (nat_lt m.round 4294967295) (m.round + 1)
+answers_fit m (Take id) = take_answer (is_joined m id) (current_of m) m.round (held_by m id)
+answers_fit m (Report collector number target round outcome) =
+    let holder : Option ℕ = holder_in m.published number target in
+    report_answer (is_joined m collector) (taken_by m.taken collector == number) (nat_lt target (length m.known)) (is_holder holder collector) (nat_lt round m.round) (nat_lt m.round round) (is_booked m.booked target round) (taken_by m.taken collector) m.round holder

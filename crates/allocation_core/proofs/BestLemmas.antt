@@ -8,8 +8,10 @@ use Rattle.price_certificate.specs.Problem.{IsProblem}
 use Rattle.price_certificate.specs.Assignment.{IsOptimal}
 use Rattle.price_certificate.proofs.Verdicts.{fault_none}
 use Rattle.price_certificate.proofs.Optimal.{optimal}
-use Rattle.allocation_core.specs.State.{State, first_state, live_of, is_live, current_pairs, last_of}
-use Rattle.allocation_core.specs.Instances.{instance_of, allocation_of, limits_for, row_in, beside, bin_before_in}
+use Rattle.handover.specs.Handover.{last_of}
+use Rattle.allocation_core.specs.State.{State, first_state, live_of, is_live, current_pairs}
+use Rattle.handover.specs.Handover.{beside}
+use Rattle.allocation_core.specs.Instances.{instance_of, allocation_of, limits_for, row_in, bin_before_in}
 use Rattle.allocation_core.specs.Steps.{state_after}
 use Rattle.allocation_core.specs.Runs.{state_of}
 use Rattle.allocation_core.specs.Kept.{IsKept}
@@ -51,7 +53,7 @@ pub record Grows (old new : List (List (ℕ × ℕ))) : Type 0 where
   pub more : List (List (ℕ × ℕ))
   pub is : new ≡ old ++ more
 
-step_grows : (m : State) (e : Event) → Grows m.published (state_after m e).published
+pub step_grows : (m : State) (e : Event) → Grows m.published (state_after m e).published
 step_grows m e = elim (publishes m e) [
   | inl same ↦ record { more = []; is = same ∙ sym (append-nil m.published) }
   | inr p ↦ record { more = allocation_of m p.plan.pairs ∷ []; is = p.grown }
@@ -84,7 +86,7 @@ step_once m e once = elim (publishes m e) [
 
 last_once : (published : List (List (ℕ × ℕ))) → All IsOnce published → IsOnce (last_of published)
 last_once [] once = λ target. omega arith
-last_once (pairs ∷ published) once = once (length (pairs ∷ published) - 1) [] (omega arith)
+last_once (pairs ∷ published) once = once (length published) [] (omega arith)
 
 -- the event itself published it
 here_best :

@@ -11,7 +11,7 @@ use Rattle.price_certificate.specs.Certificate.{sum_below}
 use Rattle.price_certificate.proofs.Duality.{allowed_item}
 use Rattle.price_certificate.proofs.Sums.{sum_below-front, sum_below-le, sum_by_key, sum_by-least}
 use Rattle.allocation_core.specs.Best.{stands_in}
-use Rattle.allocation_core.specs.Instances.{beside}
+use Rattle.handover.specs.Handover.{beside}
 
 one_of : (b : Bool) → (let r : ℕ = cond b 1 0 in r) + cond (not b) 1 0 ≡ 1
 one_of true = refl

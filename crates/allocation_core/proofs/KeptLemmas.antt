@@ -15,8 +15,8 @@ each_source_first [] job = refl
 each_source_first (j ∷ jobs) zero = length-replicate j.sources []
 each_source_first (j ∷ jobs) (suc job) = each_source_first jobs job
 
-pub first_kept : (m : State) → m.listed ≡ nothing_listed m.jobs → m.known ≡ [] → m.collectors ≡ [] → m.given ≡ 0 → m.published ≡ [] → IsKept m
-first_kept m listed known collectors given published =
+pub first_kept : (m : State) → m.listed ≡ nothing_listed m.jobs → m.known ≡ [] → m.collectors ≡ [] → m.given ≡ 0 → m.published ≡ [] → m.round ≡ 1 → m.booked ≡ [] → IsKept m
+first_kept m listed known collectors given published round booked =
     record {
       each_job = rw listed (length-map m.jobs (λ (job : JobSpec). replicate job.sources []));
       each_source = λ job. rw listed (each_source_first m.jobs job);
@@ -29,6 +29,8 @@ first_kept m listed known collectors given published =
       were_given = rw collectors (λ k d less. absurd (omega arith));
       numbered = rw given (omega arith);
       few_published = rw published (omega arith);
+      opened = omega (arith, round);
+      past_rounds = rw booked (λ k d less. absurd (omega arith));
     }
 
 filter_le : {X : Type 0} (p : X → Bool) (xs : List X) → length (filter p xs) ≤ length xs
@@ -54,4 +56,6 @@ leave_kept m p kept =
       were_given = All-filter p (λ (c : Collector). c.id ≤ m.given) m.collectors kept.were_given;
       numbered = kept.numbered;
       few_published = kept.few_published;
+      opened = kept.opened;
+      past_rounds = kept.past_rounds;
     }

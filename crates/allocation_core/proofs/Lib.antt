@@ -4,6 +4,8 @@ pub mod Placing
 pub mod Shapes
 pub mod LiveLemmas
 pub mod RunLemmas
+pub mod Admission
+pub mod BookedLemmas
 pub mod StepLemmas
 pub mod BestLemmas
 pub mod SoundLemmas

@@ -154,6 +154,8 @@ discover_kept m job source numbers targets listed known kept home is_listed_now 
       were_given = kept.were_given;
       numbered = kept.numbered;
       few_published = kept.few_published;
+      opened = kept.opened;
+      past_rounds = kept.past_rounds;
     }
 
 -- the same, where no limit is passed by what is to be known and listed

@@ -6,7 +6,8 @@ use Rattle.std.proofs.lemmas.List.Elements.{All-head, All-tail}
 use Rattle.std.proofs.lemmas.List.Sums.{sum_by-cons}
 use Rattle.std.proofs.lemmas.Bool.{eq-eqb, ne_eqb, cond-true, cond-false}
 use Rattle.price_certificate.specs.Assignment.{uses_of_item}
-use Rattle.allocation_core.specs.Instances.{beside, pair_by, pairs_from}
+use Rattle.handover.specs.Handover.{beside}
+use Rattle.allocation_core.specs.Instances.{pair_by, pairs_from}
 use Rattle.allocation_core.specs.declared.job.Collector.{Collector}
 use Rattle.allocation_core.proofs.CountLemmas.{beside_none}
 use Rattle.allocation_core.proofs.FitLemmas.{id_at}

@@ -4,7 +4,8 @@ use Rattle.std.specs.Prelude.{replicate}
 use Rattle.std.specs.Option.{option_to_list}
 use Rattle.allocation_core.specs.declared.job.Collector.{Collector}
 use Rattle.std.proofs.lemmas.List.{get_or-replicate, length-replicate}
-use Rattle.allocation_core.specs.Instances.{beside, pair_by, pairs_from, first_of, ArePlaced, PlacesAll, SetsPlace}
+use Rattle.handover.specs.Handover.{beside}
+use Rattle.allocation_core.specs.Instances.{pair_by, pairs_from, first_of, ArePlaced, PlacesAll, SetsPlace}
 
 pub record PlacesLeft (pairs : List (ℕ × ℕ)) (i : ℕ) (old places : List (Option ℕ)) : Type 0 where
   pub same : length places ≡ length old

@@ -13,7 +13,8 @@ use Rattle.price_certificate.specs.Problem.{IsAllowed, row_of}
 use Rattle.reach_rules.specs.Rules.{reaches}
 use Rattle.allocation_core.specs.Live.{chosen_below}
 use Rattle.allocation_core.specs.State.{State, live_of, is_live}
-use Rattle.allocation_core.specs.Instances.{instance_of, allocation_of, beside, pair_by, pairs_from, row_from, row_for}
+use Rattle.handover.specs.Handover.{beside}
+use Rattle.allocation_core.specs.Instances.{instance_of, allocation_of, pair_by, pairs_from, row_from, row_for}
 use Rattle.allocation_core.specs.Kept.{IsKept}
 use Rattle.allocation_core.specs.Best.{IsReached}
 use Rattle.allocation_core.specs.declared.job.Known.{Known}

@@ -1,5 +1,5 @@
 -- What an event does to the state, and that what holds at every moment holds after it.
-use Rattle.std.proofs.Common.{◌≡◌, ℕ, ◌+◌, ◌*◌, ◌<◌, ◌≤◌, ◌⊎◌, List, [], ◌∷◌, ◌++◌, Bool, true, false, Option, Some, None, length, cond, refl, ap, inl, inr, arith, length-append}
+use Rattle.std.proofs.Common.{◌≡◌, ℕ, ◌+◌, ◌*◌, ◌<◌, ◌≤◌, ◌⊎◌, List, [], ◌∷◌, ◌++◌, All, Bool, true, false, Option, Some, None, length, cond, refl, ap, inl, inr, arith, length-append}
 use Rattle.std.specs.Prelude.{nat_lt, is_some, if◌then◌else◌, ◌||◌}
 use Rattle.std.specs.Option.{option_map_or}
 use Rattle.std.proofs.lemmas.List.Elements.{All-push}
@@ -13,15 +13,18 @@ use Rattle.reach_rules.specs.declared.rule.ReachRule.{ReachRule}
 use Rattle.allocation_core.specs.Known.{known_with, numbers_of}
 use Rattle.allocation_core.specs.Live.{chosen_below, is_in}
 use Rattle.allocation_core.specs.Jobs.{job_named, sources_at}
+use Rattle.handover.specs.Handover.{with_taken}
+use Rattle.scrape_books.specs.declared.report.Entry.{Entry}
+use Rattle.allocation_core.proofs.Admission.{admitted}
 use Rattle.allocation_core.specs.State.{State, first_state, current_of, current_pairs, id_named}
 use Rattle.allocation_core.specs.Instances.{instance_of, allocation_of}
-use Rattle.allocation_core.specs.Steps.{state_after, changed, refusal_of, discovered, source_refusal, name_refusal, room_refusal, plan_refusal, number_refusal, same_pairs}
+use Rattle.allocation_core.specs.Steps.{state_after, changed, entry_of, refusal_of, discovered, source_refusal, name_refusal, room_refusal, plan_refusal, number_refusal, same_pairs}
 use Rattle.allocation_core.specs.Runs.{state_of}
 use Rattle.allocation_core.specs.Kept.{IsKept}
 use Rattle.allocation_core.specs.declared.job.JobSpec.{JobSpec}
 use Rattle.allocation_core.specs.declared.job.Collector.{Collector}
 use Rattle.allocation_core.specs.declared.event.Event.{Event}
-use Rattle.allocation_core.specs.declared.event.Event.TheVariants.{Discover, Join, Leave, Install}
+use Rattle.allocation_core.specs.declared.event.Event.TheVariants.{Discover, Join, Leave, Install, NextRound, Take, Report}
 use Rattle.allocation_core.specs.declared.answer.Refusal.{Refusal}
 use Rattle.allocation_core.specs.declared.answer.Refusal.TheVariants.{UnknownJob, UnknownSource, TooManyCollectors, IdsSpent, Unchanged, NumbersSpent}
 use Rattle.allocation_core.proofs.KeptLemmas.{first_kept, leave_kept}
@@ -46,7 +49,7 @@ join_kept : (m : State) (name : List ℕ) (reach : List ReachRule) → IsKept m 
 join_kept m name reach kept room =
     let tests = room_by (nat_lt 256 (length m.collectors + 1) || nat_lt 16384 (length m.jobs * (length m.collectors + 1))) (nat_lt m.given 4294967295) room in
     let limits = or_false (nat_lt 256 (length m.collectors + 1)) (nat_lt 16384 (length m.jobs * (length m.collectors + 1))) tests.0 in
-    let c : Collector = record { id = m.given + 1; name = name; reach = reach; taken = 0 } in
+    let c : Collector = record { id = m.given + 1; name = name; reach = reach } in
     let more : length (m.collectors ++ c ∷ []) ≡ length m.collectors + 1 = omega (arith, length-append m.collectors (c ∷ [])) in
     record {
       each_job = kept.each_job;
@@ -60,6 +63,8 @@ join_kept m name reach kept room =
       were_given = All-push (λ (x : Collector). x.id ≤ m.given + 1) m.collectors c (λ k d l. omega (arith, kept.were_given k d l)) (omega arith);
       numbered = omega (arith, ltb-true m.given 4294967295 tests.1);
       few_published = kept.few_published;
+      opened = kept.opened;
+      past_rounds = kept.past_rounds;
     }
 
 name_by : (m : State) (o : Option ℕ) → name_refusal m o ≡ None → room_refusal m ≡ None
@@ -101,6 +106,27 @@ install_kept m plan kept e =
       were_given = kept.were_given;
       numbered = kept.numbered;
       few_published = omega (arith, length-append m.published (allocation_of m plan.pairs ∷ []), ltb-true (current_of m) 4294967295 free);
+      opened = kept.opened;
+      past_rounds = kept.past_rounds;
+    }
+
+-- the same state in all that the other facts speak of
+kept_with : (m : State) (taken : List (ℕ × ℕ)) (round : ℕ) (booked : List (ℕ × Entry)) → IsKept m → 1 ≤ round → All (λ (b : ℕ × Entry). b.1.round ≤ round) booked → IsKept (record m { taken = taken; round = round; booked = booked })
+kept_with m taken round booked kept opened past =
+    record {
+      each_job = kept.each_job;
+      each_source = kept.each_source;
+      few_known = kept.few_known;
+      homes = kept.homes;
+      few_live = kept.few_live;
+      few_collectors = kept.few_collectors;
+      few_bins = kept.few_bins;
+      ascending = kept.ascending;
+      were_given = kept.were_given;
+      numbered = kept.numbered;
+      few_published = kept.few_published;
+      opened = opened;
+      past_rounds = past;
     }
 
 changed_kept : (m : State) (e : Event) → IsKept m → refusal_of m e ≡ None → IsKept (changed m e)
@@ -109,13 +135,19 @@ changed_kept m (Discover name source targets) kept free =
 changed_kept m (Join name reach) kept free = join_kept m name reach kept (name_by m (id_named m.collectors name) free)
 changed_kept m (Leave id) kept free = leave_kept m (λ (c : Collector). _) kept
 changed_kept m (Install plan) kept free = install_kept m plan kept free
+changed_kept m NextRound kept free = kept_with m m.taken (m.round + 1) m.booked kept (omega arith) (λ k d l. omega (arith, kept.past_rounds k d l))
+changed_kept m (Take id) kept free = kept_with m (with_taken m.taken id (current_of m)) m.round m.booked kept kept.opened kept.past_rounds
+changed_kept m (Report collector number target round outcome) kept free =
+    let b : ℕ × Entry = (target, entry_of collector number round outcome) in
+    let opened : m.round ≡ round = (admitted m collector number target round outcome free).opened in
+    kept_with m m.taken m.round (m.booked ++ b ∷ []) kept kept.opened (All-push (λ (x : ℕ × Entry). x.1.round ≤ m.round) m.booked b kept.past_rounds (omega (arith, opened)))
 
 pub step_kept : (m : State) (e : Event) → IsKept m → IsKept (state_after m e)
 unfolding state_after
 step_kept m e kept = after_by m (changed m e) IsKept (refusal_of m e) kept (changed_kept m e kept)
 
 pub start_kept : (jobs : List JobSpec) → IsKept (first_state jobs)
-start_kept jobs = first_kept (first_state jobs) refl refl refl refl refl
+start_kept jobs = first_kept (first_state jobs) refl refl refl refl refl refl refl
 
 pub run_kept : (m : State) (es : List Event) → IsKept m → IsKept (state_of m es)
 run_kept m [] kept = kept
@@ -147,6 +179,9 @@ unfolding state_after
 publishes m (Discover name source targets) = inl (same_by m _ (refusal_of m (Discover name source targets)) (listed_same m (job_named m.jobs name) source targets))
 publishes m (Join name reach) = inl (same_by m _ (refusal_of m (Join name reach)) refl)
 publishes m (Leave id) = inl (same_by m _ (refusal_of m (Leave id)) refl)
+publishes m NextRound = inl (same_by m _ (refusal_of m NextRound) refl)
+publishes m (Take id) = inl (same_by m _ (refusal_of m (Take id)) refl)
+publishes m (Report collector number target round outcome) = inl (same_by m _ (refusal_of m (Report collector number target round outcome)) refl)
 publishes m (Install plan) =
     elim (install_by m plan (refusal_of m (Install plan)) (λ e. (plan_by m plan (fault_of (instance_of m) plan.pairs plan.item_prices plan.bin_prices) e).0)) [
       | inl same ↦ inl same

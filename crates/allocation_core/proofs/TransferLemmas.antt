@@ -12,7 +12,8 @@ use Rattle.price_certificate.specs.Assignment.{IsFeasible, IsOptimal, kept, uses
 use Rattle.price_certificate.proofs.Duality.{allowed_item}
 use Rattle.price_certificate.proofs.Sums.{sum_by-same}
 use Rattle.allocation_core.specs.State.{State, live_of, current_pairs}
-use Rattle.allocation_core.specs.Instances.{instance_of, allocation_of, beside, bin_in, bin_before, place_of}
+use Rattle.handover.specs.Handover.{beside}
+use Rattle.allocation_core.specs.Instances.{instance_of, allocation_of, bin_in, bin_before, place_of}
 use Rattle.allocation_core.specs.Kept.{IsKept}
 use Rattle.allocation_core.specs.Best.{IsBest, IsSound, is_of_job, limit_at, moved_from, share_of, stands_in}
 use Rattle.allocation_core.specs.declared.job.Known.{Known}

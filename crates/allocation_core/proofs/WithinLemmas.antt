@@ -9,7 +9,8 @@ use Rattle.std.proofs.lemmas.Bool.{cases_eq, cases_lt, eq-eqb, ne_eqb}
 use Rattle.price_certificate.specs.Problem.{IsAllowed, capacity_by, capacity_of, items_of, is_bin}
 use Rattle.price_certificate.specs.Assignment.{IsFeasible, uses_of_bin}
 use Rattle.allocation_core.specs.State.{State, live_of}
-use Rattle.allocation_core.specs.Instances.{instance_of, allocation_of, beside, pair_by, pairs_from, row_from, row_for, limits_for}
+use Rattle.handover.specs.Handover.{beside}
+use Rattle.allocation_core.specs.Instances.{instance_of, allocation_of, pair_by, pairs_from, row_from, row_for, limits_for}
 use Rattle.allocation_core.specs.Kept.{IsKept}
 use Rattle.allocation_core.specs.Best.{is_of_job, share_of, limit_at}
 use Rattle.allocation_core.proofs.Shapes.{found_has}

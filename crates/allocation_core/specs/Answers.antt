@@ -1,10 +1,10 @@
 -- Which answers an event can have.
 use Rattle.std.specs.Prelude.{Bool, true, false, IsTrue}
 use Rattle.allocation_core.specs.declared.event.Event.{Event}
-use Rattle.allocation_core.specs.declared.event.Event.TheVariants.{Discover, Join, Leave, Install}
+use Rattle.allocation_core.specs.declared.event.Event.TheVariants.{Discover, Join, Leave, Install, NextRound, Take, Report}
 use Rattle.allocation_core.specs.declared.answer.Answer.{Answer}
-use Rattle.allocation_core.specs.declared.answer.Answer.TheVariants.{Discovered, Joined, Left, Published, Not}
-use Rattle.allocation_core.specs.declared.answer.Refusal.TheVariants.{UnknownJob, UnknownSource, TooManyLive, TooManyKnown, AlreadyJoined, TooManyCollectors, IdsSpent, UnknownCollector, Refused, Unchanged, NumbersSpent}
+use Rattle.allocation_core.specs.declared.answer.Answer.TheVariants.{Discovered, Joined, Left, Published, RoundOpen, Taken, Booked, Not}
+use Rattle.allocation_core.specs.declared.answer.Refusal.TheVariants.{UnknownJob, UnknownSource, TooManyLive, TooManyKnown, AlreadyJoined, TooManyCollectors, IdsSpent, UnknownCollector, Refused, Unchanged, NumbersSpent, RoundsSpent, NotTaken, UnknownTarget, NotHolder, RoundClosed, RoundNotOpen, AlreadyBooked}
 
 abbrev pub is_discover_answer : Answer → Bool
 is_discover_answer (Discovered added removed) = true
@@ -33,13 +33,38 @@ is_install_answer (Not (Unchanged number)) = true
 is_install_answer (Not NumbersSpent) = true
 is_install_answer _ = false
 
+abbrev pub is_round_answer : Answer → Bool
+is_round_answer (RoundOpen round) = true
+is_round_answer (Not RoundsSpent) = true
+is_round_answer _ = false
+
+abbrev pub is_take_answer : Answer → Bool
+is_take_answer (Taken number round held) = true
+is_take_answer (Not UnknownCollector) = true
+is_take_answer _ = false
+
+abbrev pub is_report_answer : Answer → Bool
+is_report_answer Booked = true
+is_report_answer (Not UnknownCollector) = true
+is_report_answer (Not (NotTaken number)) = true
+is_report_answer (Not UnknownTarget) = true
+is_report_answer (Not (NotHolder holder)) = true
+is_report_answer (Not (RoundClosed round)) = true
+is_report_answer (Not (RoundNotOpen round)) = true
+is_report_answer (Not AlreadyBooked) = true
+is_report_answer _ = false
+
 abbrev pub IsAnswerTo : Event → Answer → Type 0
 IsAnswerTo (Discover job source targets) answer = IsTrue (is_discover_answer answer)
 IsAnswerTo (Join name reach) answer = IsTrue (is_join_answer answer)
 IsAnswerTo (Leave id) answer = IsTrue (is_leave_answer answer)
 IsAnswerTo (Install plan) answer = IsTrue (is_install_answer answer)
+IsAnswerTo NextRound answer = IsTrue (is_round_answer answer)
+IsAnswerTo (Take id) answer = IsTrue (is_take_answer answer)
+IsAnswerTo (Report collector number target round outcome) answer = IsTrue (is_report_answer answer)
 
--- the event that takes no memory
-abbrev pub is_leave : Event → Bool
-is_leave (Leave id) = true
-is_leave _ = false
+-- the events that take no memory
+abbrev pub needs_no_memory : Event → Bool
+needs_no_memory (Leave id) = true
+needs_no_memory NextRound = true
+needs_no_memory _ = false

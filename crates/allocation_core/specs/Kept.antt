@@ -1,5 +1,6 @@
 -- What holds of the allocator at every moment.
 use Rattle.std.specs.Prelude.{◌≡◌, ◌<◌, ◌≤◌, ◌*◌, ℕ, [], All, AllPairs, length, slice_index_or}
+use Rattle.scrape_books.specs.declared.report.Entry.{Entry}
 use Rattle.allocation_core.specs.State.{State, is_live}
 use Rattle.allocation_core.specs.Live.{count_below}
 use Rattle.allocation_core.specs.Jobs.{sources_at}
@@ -20,3 +21,6 @@ pub record IsKept (m : State) : Type 0 where
   pub were_given : All (λ (c : Collector). c.id ≤ m.given) m.collectors
   pub numbered : m.given ≤ 4294967295
   pub few_published : length m.published ≤ 4294967295
+  pub opened : 1 ≤ m.round
+  -- no round past the open one is booked
+  pub past_rounds : All (λ (b : ℕ × Entry). b.1.round ≤ m.round) m.booked

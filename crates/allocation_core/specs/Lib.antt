@@ -1,5 +1,6 @@
 pub mod Answers
 pub mod Best
+pub mod Booked
 pub mod Instances
 pub mod Jobs
 pub mod Kept

@@ -1,9 +1,12 @@
 -- What the allocator knows.
-use Rattle.std.specs.Prelude.{ℕ, ◌-◌, ◌==◌, Bool, List, [], Option, length, slice_index_or, filter, map, find}
+use Rattle.std.specs.Prelude.{ℕ, ◌==◌, Bool, List, [], Option, length, find}
+use Rattle.std.specs.List.{list_any}
 use Rattle.std.specs.Option.{option_map}
 use Rattle.std.specs.Str.{bytes_eq}
 use Rattle.price_certificate.specs.Problem.{Problem}
 use Rattle.price_certificate.specs.declared.plan.Plan.{Plan}
+use Rattle.handover.specs.Handover.{last_of, held_in}
+use Rattle.scrape_books.specs.declared.report.Entry.{Entry}
 use Rattle.allocation_core.specs.declared.job.JobSpec.{JobSpec}
 use Rattle.allocation_core.specs.declared.job.Known.{Known}
 use Rattle.allocation_core.specs.declared.job.Collector.{Collector}
@@ -25,10 +28,14 @@ pub record State : Type 0 where
   -- the instance and the plan of the last allocation
   pub problem : Problem
   pub plan : Plan
+  -- the collectors that took an allocation, in order of their first time, each beside the number of the one that it took last
+  pub taken : List (ℕ × ℕ)
   -- the open round
   pub round : ℕ
+  -- the reports that are booked, beside their targets, in order of booking
+  pub booked : List (ℕ × Entry)
 
--- nothing is listed, known or published, and nobody joined
+-- nothing is listed, known, published or booked, and nobody joined
 abbrev pub first_state : List JobSpec → State
 first_state jobs =
     record {
@@ -40,7 +47,9 @@ first_state jobs =
       published = [];
       problem = record { limits = []; rows = []; before = [] };
       plan = record { pairs = []; item_prices = []; bin_prices = [] };
+      taken = [];
       round = 1;
+      booked = [];
     }
 
 -- a source of its job lists the target
@@ -55,25 +64,18 @@ live_of m = chosen_below (is_live m) (length m.known)
 abbrev pub current_of : State → ℕ
 current_of m = length m.published
 
--- the last allocation, or the empty one
-abbrev pub last_of : List (List (ℕ × ℕ)) → List (ℕ × ℕ)
-last_of published = slice_index_or published (length published - 1) []
-
+-- the current allocation
 abbrev pub current_pairs : State → List (ℕ × ℕ)
 current_pairs m = last_of m.published
 
--- the targets beside a collector
-abbrev pub held_in : List (ℕ × ℕ) → ℕ → List ℕ
-held_in pairs collector = map (λ (q : ℕ × ℕ). q.0) (filter (λ (q : ℕ × ℕ). q.1 == collector) pairs)
-
 -- what a collector holds in the current allocation
 abbrev pub held_by : State → ℕ → List ℕ
-held_by m collector = held_in (current_pairs m) collector
+held_by m collector = held_in m.published (current_of m) collector
+
+-- a live collector has the number
+abbrev pub is_joined : State → ℕ → Bool
+is_joined m id = list_any (λ (c : Collector). c.id == id) m.collectors
 
 -- the number of the live collector of a name
 abbrev pub id_named : List Collector → List ℕ → Option ℕ
 id_named collectors name = option_map (λ (c : Collector). c.id) (find (λ (c : Collector). bytes_eq c.name name) collectors)
-
--- the samples of all reports: none are booked yet
-abbrev pub total_of : State → ℕ
-total_of m = 0

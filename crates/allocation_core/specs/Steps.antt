@@ -1,5 +1,5 @@
 -- One step of the machine: the first refusal is the answer, and the state stays; else the answer and the new state.
-use Rattle.std.specs.Prelude.{ℕ, ◌+◌, ◌*◌, ◌==◌, ◌&&◌, ◌||◌, not, Bool, if◌then◌else◌, nat_lt, List, [], ◌∷◌, ◌++◌, length, filter, Option, Some, None, is_some, Result, Ok, Err, ◌≡◌}
+use Rattle.std.specs.Prelude.{ℕ, ◌+◌, ◌*◌, ◌==◌, ◌&&◌, ◌||◌, not, Bool, false, if◌then◌else◌, nat_lt, List, [], ◌∷◌, ◌++◌, length, filter, Option, Some, None, is_some, Result, Ok, Err, ◌≡◌}
 use Rattle.std.specs.List.{list_any}
 use Rattle.std.specs.Option.{option_map_or}
 use Rattle.std.specs.Cmp.Lexicographic.{pointwise}
@@ -7,18 +7,22 @@ use Rattle.label_sets.specs.Target.{FinalTarget}
 use Rattle.price_certificate.specs.Faults.{fault_of}
 use Rattle.price_certificate.specs.declared.plan.Plan.{Plan}
 use Rattle.price_certificate.specs.declared.verdict.Fault.{Fault}
-use Rattle.allocation_core.specs.State.{State, current_of, current_pairs, id_named}
+use Rattle.handover.specs.Handover.{holder_in, taken_by, with_taken}
+use Rattle.scrape_books.specs.Books.{samples_of}
+use Rattle.scrape_books.specs.declared.report.Entry.{Entry}
+use Rattle.scrape_books.specs.declared.report.Outcome.{Outcome}
+use Rattle.allocation_core.specs.State.{State, current_of, current_pairs, held_by, id_named, is_joined}
 use Rattle.allocation_core.specs.Live.{chosen_below, count_below, is_in, is_listed, listed_only, with_list}
 use Rattle.allocation_core.specs.Known.{known_with, numbers_of}
 use Rattle.allocation_core.specs.Jobs.{job_named, sources_at}
 use Rattle.allocation_core.specs.Instances.{instance_of, allocation_of}
 use Rattle.allocation_core.specs.declared.job.Collector.{Collector}
 use Rattle.allocation_core.specs.declared.event.Event.{Event}
-use Rattle.allocation_core.specs.declared.event.Event.TheVariants.{Discover, Join, Leave, Install}
+use Rattle.allocation_core.specs.declared.event.Event.TheVariants.{Discover, Join, Leave, Install, NextRound, Take, Report}
 use Rattle.allocation_core.specs.declared.answer.Answer.{Answer}
-use Rattle.allocation_core.specs.declared.answer.Answer.TheVariants.{Discovered, Joined, Left, Published, Not}
+use Rattle.allocation_core.specs.declared.answer.Answer.TheVariants.{Discovered, Joined, Left, Published, RoundOpen, Taken, Booked, Not}
 use Rattle.allocation_core.specs.declared.answer.Refusal.{Refusal}
-use Rattle.allocation_core.specs.declared.answer.Refusal.TheVariants.{UnknownJob, UnknownSource, TooManyLive, TooManyKnown, AlreadyJoined, TooManyCollectors, IdsSpent, UnknownCollector, Refused, Unchanged, NumbersSpent}
+use Rattle.allocation_core.specs.declared.answer.Refusal.TheVariants.{UnknownJob, UnknownSource, TooManyLive, TooManyKnown, AlreadyJoined, TooManyCollectors, IdsSpent, UnknownCollector, Refused, Unchanged, NumbersSpent, RoundsSpent, NotTaken, UnknownTarget, NotHolder, RoundClosed, RoundNotOpen, AlreadyBooked}
 
 -- the state where a source of a job lists these targets, in place of those that it listed before
 abbrev pub discovered : State → ℕ → ℕ → List FinalTarget → State
@@ -60,19 +64,55 @@ abbrev pub name_refusal : State → Option ℕ → Option Refusal
 name_refusal m (Some id) = Some (AlreadyJoined id)
 name_refusal m None = room_refusal m
 
+-- no live collector has the number, or else what stands behind
+abbrev pub unless_unknown : State → ℕ → Option Refusal → Option Refusal
+unless_unknown m id others = if is_joined m id then others else Some UnknownCollector
+
+-- the target's holder is this collector
+abbrev pub is_holder : Option ℕ → ℕ → Bool
+is_holder None collector = false
+is_holder (Some holder) collector = holder == collector
+
+-- a report of the target in the round is booked
+abbrev pub is_booked : List (ℕ × Entry) → ℕ → ℕ → Bool
+is_booked booked target round = list_any (λ (b : ℕ × Entry). (b.0 == target) && (b.1.round == round)) booked
+
+-- the round is not the open one, or the target's report of it is booked
+abbrev pub round_refusal : State → ℕ → ℕ → Option Refusal
+round_refusal m target round =
+    if nat_lt round m.round then Some (RoundClosed m.round) else if nat_lt m.round round then Some (RoundNotOpen m.round) else if is_booked m.booked target round then Some AlreadyBooked else None
+
+abbrev pub holder_refusal : State → Option ℕ → ℕ → ℕ → ℕ → Option Refusal
+holder_refusal m holder collector target round = if is_holder holder collector then round_refusal m target round else Some (NotHolder holder)
+
+-- the first reason against a report of a live collector
+abbrev pub report_refusal : State → ℕ → ℕ → ℕ → ℕ → Option Refusal
+report_refusal m collector number target round =
+    if taken_by m.taken collector == number then (if nat_lt target (length m.known) then holder_refusal m (holder_in m.published number target) collector target round else Some UnknownTarget) else Some (NotTaken (taken_by m.taken collector))
+
 -- the first reason against an event
 abbrev pub refusal_of : State → Event → Option Refusal
 refusal_of m (Discover name source targets) = option_map_or (λ (job : ℕ). source_refusal m job source targets) (job_named m.jobs name) (Some UnknownJob)
 refusal_of m (Join name reach) = name_refusal m (id_named m.collectors name)
-refusal_of m (Leave id) = if list_any (λ (c : Collector). c.id == id) m.collectors then None else Some UnknownCollector
+refusal_of m (Leave id) = unless_unknown m id None
 refusal_of m (Install plan) = plan_refusal m plan (fault_of (instance_of m) plan.pairs plan.item_prices plan.bin_prices)
+refusal_of m NextRound = if nat_lt m.round 4294967295 then None else Some RoundsSpent
+refusal_of m (Take id) = unless_unknown m id None
+refusal_of m (Report collector number target round outcome) = unless_unknown m collector (report_refusal m collector number target round)
+
+-- a report as it is booked
+abbrev pub entry_of : ℕ → ℕ → ℕ → Outcome → Entry
+entry_of collector number round outcome = record { round = round; number = number; collector = collector; outcome = outcome }
 
 -- the state after an event that nothing is against
 abbrev pub changed : State → Event → State
 changed m (Discover name source targets) = option_map_or (λ (job : ℕ). discovered m job source targets) (job_named m.jobs name) m
-changed m (Join name reach) = record m { collectors = m.collectors ++ record { id = m.given + 1; name = name; reach = reach; taken = 0 } ∷ []; given = m.given + 1 }
+changed m (Join name reach) = record m { collectors = m.collectors ++ record { id = m.given + 1; name = name; reach = reach } ∷ []; given = m.given + 1 }
 changed m (Leave id) = record m { collectors = filter (λ (c : Collector). not (c.id == id)) m.collectors }
 changed m (Install plan) = record m { published = m.published ++ allocation_of m plan.pairs ∷ []; problem = instance_of m; plan = plan }
+changed m NextRound = record m { round = m.round + 1 }
+changed m (Take id) = record m { taken = with_taken m.taken id (current_of m) }
+changed m (Report collector number target round outcome) = record m { booked = m.booked ++ (target, entry_of collector number round outcome) ∷ [] }
 
 -- the targets that became live, and those that are live no longer
 abbrev pub difference : State → State → Answer
@@ -84,6 +124,9 @@ granted m (Discover name source targets) = difference m (changed m (Discover nam
 granted m (Join name reach) = Joined (m.given + 1)
 granted m (Leave id) = Left
 granted m (Install plan) = Published (current_of m + 1)
+granted m NextRound = RoundOpen (m.round + 1)
+granted m (Take id) = Taken (current_of m) m.round (held_by m id)
+granted m (Report collector number target round outcome) = Booked
 
 abbrev pub answer_by : Option Refusal → Answer → Answer
 answer_by None granted = granted
@@ -95,8 +138,9 @@ answer_of m event = answer_by (refusal_of m event) (granted m event)
 unfoldable pub state_after : State → Event → State
 state_after m event = if is_some (refusal_of m event) then m else changed m event
 
--- the samples that an event booked, by its answer: no event books any yet
+-- the samples that an event booked, by its answer
 abbrev pub gained : Event → Answer → ℕ
+gained (Report collector number target round outcome) Booked = samples_of outcome
 gained event answer = 0
 
 -- what a change of the lists comes to: how many targets of so many known ones became live and are live no longer, or what is against it

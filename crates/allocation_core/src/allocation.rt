@@ -1,5 +1,6 @@
 ghost use Rattle.std.specs.Prelude.{◌≡◌, ◌<◌, ℕ, None, All, length, slice_index_or, IfOk};
-ghost use Rattle.allocation_core.specs.Instances.{beside, pair_by, pairs_from};
+ghost use Rattle.handover.specs.Handover.{beside};
+ghost use Rattle.allocation_core.specs.Instances.{pair_by, pairs_from};
 
 use crate::job::Collector;
 use crate::places::placed;

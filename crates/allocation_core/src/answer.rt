@@ -1,7 +1,9 @@
 ghost use Rattle.std.specs.Prelude.{◌≡◌, IfOk, string_bytes};
 ghost use Rattle.allocation_core.specs.Lines.{answer_line, refusal_line};
 
-use lists::Plain;
+use crate::numbers::{holder_line, taken_line};
+use handover::{CollectorId, TargetId};
+use lists::{List, Plain};
 use price_certificate::Fault;
 use std::alloc::{AllocError, Global};
 
@@ -30,18 +32,46 @@ pub enum Refusal {
     Unchanged(u32),
     /// The last number of an allocation is given.
     NumbersSpent,
+    /// The last round is open.
+    RoundsSpent,
+    /// The collector took another allocation last: that of this number, 0 if none.
+    NotTaken(u32),
+    /// No known target has the number.
+    UnknownTarget,
+    /// In the allocation named another collector, or none, holds the target.
+    NotHolder(Option<CollectorId>),
+    /// The round is below the open one, which is this.
+    RoundClosed(u32),
+    /// The round is above the open one, which is this.
+    RoundNotOpen(u32),
+    /// A report of the target in the round is booked.
+    AlreadyBooked,
 }
 
 /// What the machine answers.
-#[derive(Clone, Copy, Debug, PartialEq, Eq)]
+#[derive(Debug, Drop)]
 pub enum Answer {
     /// How many targets became live, and how many are live no longer.
-    Discovered { added: u32, removed: u32 },
+    Discovered {
+        added: u32,
+        removed: u32,
+    },
     /// The collector's number.
     Joined(u32),
     Left,
     /// The allocation's number.
     Published(u32),
+    /// The round that is open now.
+    RoundOpen(u32),
+    /// The number of the current allocation, the open round, and the targets that the collector holds in that allocation
+    /// in order of number, also those that are live no longer.
+    Taken {
+        number: u32,
+        round: u32,
+        held: List<TargetId>,
+    },
+    /// The report is booked.
+    Booked,
     /// Nothing changed.
     Not(Refusal),
 }
@@ -63,6 +93,13 @@ impl Refusal {
             Refusal::Refused(fault) => refused_line(alloc, fault),
             Refusal::Unchanged(number) => format!(in alloc; "Unchanged {number}"),
             Refusal::NumbersSpent => String::from_str(alloc, "NumbersSpent"),
+            Refusal::RoundsSpent => String::from_str(alloc, "RoundsSpent"),
+            Refusal::NotTaken(number) => format!(in alloc; "NotTaken {number}"),
+            Refusal::UnknownTarget => String::from_str(alloc, "UnknownTarget"),
+            Refusal::NotHolder(holder) => holder_line(alloc, *holder),
+            Refusal::RoundClosed(open) => format!(in alloc; "RoundClosed {open}"),
+            Refusal::RoundNotOpen(open) => format!(in alloc; "RoundNotOpen {open}"),
+            Refusal::AlreadyBooked => String::from_str(alloc, "AlreadyBooked"),
         }
     }
 }
@@ -89,6 +126,13 @@ impl Answer {
             Answer::Joined(collector) => format!(in alloc; "Joined {collector}"),
             Answer::Left => String::from_str(alloc, "Left"),
             Answer::Published(number) => format!(in alloc; "Published {number}"),
+            Answer::RoundOpen(round) => format!(in alloc; "RoundOpen {round}"),
+            Answer::Taken {
+                number,
+                round,
+                held,
+            } => taken_line(alloc, *number, *round, held.as_slice()),
+            Answer::Booked => String::from_str(alloc, "Booked"),
             Answer::Not(refusal) => refusal.line(alloc),
         }
     }
@@ -106,10 +150,64 @@ impl Plain for Refusal {
 
 impl Plain for Answer {
     fn copy(&self) -> Result<Answer, AllocError> {
-        Ok(*self)
+        match self {
+            Answer::Discovered { added, removed } => Ok(Answer::Discovered {
+                added: *added,
+                removed: *removed,
+            }),
+            Answer::Joined(collector) => Ok(Answer::Joined(*collector)),
+            Answer::Left => Ok(Answer::Left),
+            Answer::Published(number) => Ok(Answer::Published(*number)),
+            Answer::RoundOpen(round) => Ok(Answer::RoundOpen(*round)),
+            Answer::Taken {
+                number,
+                round,
+                held,
+            } => {
+                let held = held.copy()?;
+                Ok(Answer::Taken {
+                    number: *number,
+                    round: *round,
+                    held,
+                })
+            }
+            Answer::Booked => Ok(Answer::Booked),
+            Answer::Not(refusal) => Ok(Answer::Not(*refusal)),
+        }
     }
 
     fn same(&self, other: &Answer) -> bool {
-        *self == *other
+        match (self, other) {
+            (
+                Answer::Discovered { added, removed },
+                Answer::Discovered {
+                    added: other_added,
+                    removed: other_removed,
+                },
+            ) => *added == *other_added && *removed == *other_removed,
+            (Answer::Joined(collector), Answer::Joined(other_collector)) => {
+                *collector == *other_collector
+            }
+            (Answer::Left, Answer::Left) => true,
+            (Answer::Published(number), Answer::Published(other_number)) => {
+                *number == *other_number
+            }
+            (Answer::RoundOpen(round), Answer::RoundOpen(other_round)) => *round == *other_round,
+            (
+                Answer::Taken {
+                    number,
+                    round,
+                    held,
+                },
+                Answer::Taken {
+                    number: other_number,
+                    round: other_round,
+                    held: other_held,
+                },
+            ) => *number == *other_number && *round == *other_round && held.same(other_held),
+            (Answer::Booked, Answer::Booked) => true,
+            (Answer::Not(refusal), Answer::Not(other_refusal)) => *refusal == *other_refusal,
+            _ => false,
+        }
     }
 }

@@ -2,6 +2,7 @@ use label_sets::Target;
 use lists::{List, Plain, Text};
 use price_certificate::Plan;
 use reach_rules::{CollectorName, Reach};
+use scrape_books::Outcome;
 use std::alloc::AllocError;
 
 /// What the machine is asked.
@@ -22,6 +23,18 @@ pub enum Event {
     Leave(u32),
     /// A plan is to be published.
     Install(Plan),
+    /// The next round opens.
+    NextRound,
+    /// The collector takes the current allocation.
+    Take(u32),
+    /// The collector reports what a scrape of the target came to in a round, as its holder in the allocation of a number.
+    Report {
+        collector: u32,
+        number: u32,
+        target: u32,
+        round: u32,
+        outcome: Outcome,
+    },
 }
 
 impl Plain for Event {
@@ -47,6 +60,21 @@ impl Plain for Event {
             }
             Event::Leave(collector) => Ok(Event::Leave(*collector)),
             Event::Install(plan) => Ok(Event::Install(plan.copy()?)),
+            Event::NextRound => Ok(Event::NextRound),
+            Event::Take(collector) => Ok(Event::Take(*collector)),
+            Event::Report {
+                collector,
+                number,
+                target,
+                round,
+                outcome,
+            } => Ok(Event::Report {
+                collector: *collector,
+                number: *number,
+                target: *target,
+                round: *round,
+                outcome: *outcome,
+            }),
         }
     }
 
@@ -75,6 +103,32 @@ impl Plain for Event {
                 *collector == *other_collector
             }
             (Event::Install(plan), Event::Install(other_plan)) => plan.same(other_plan),
+            (Event::NextRound, Event::NextRound) => true,
+            (Event::Take(collector), Event::Take(other_collector)) => {
+                *collector == *other_collector
+            }
+            (
+                Event::Report {
+                    collector,
+                    number,
+                    target,
+                    round,
+                    outcome,
+                },
+                Event::Report {
+                    collector: other_collector,
+                    number: other_number,
+                    target: other_target,
+                    round: other_round,
+                    outcome: other_outcome,
+                },
+            ) => {
+                *collector == *other_collector
+                    && *number == *other_number
+                    && *target == *other_target
+                    && *round == *other_round
+                    && *outcome == *other_outcome
+            }
             _ => false,
         }
     }

@@ -26,8 +26,6 @@ pub struct Collector {
     pub id: u32,
     pub name: CollectorName,
     pub reach: Reach,
-    /// The number of the allocation that it took last, 0 if none.
-    pub taken: u32,
 }
 
 impl Plain for JobSpec {

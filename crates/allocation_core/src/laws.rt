@@ -2,6 +2,7 @@ ghost use Rattle.allocation_core.specs.State.{State};
 ghost use Rattle.allocation_core.specs.Steps.{answer_of};
 ghost use Rattle.allocation_core.specs.Answers.{IsAnswerTo};
 ghost use Rattle.allocation_core.specs.Best.{AlwaysBest};
+ghost use Rattle.allocation_core.specs.Booked.{AlwaysBooked};
 ghost use Rattle.allocation_core.specs.declared.event.Event.{Event};
 
 /// Over every list of events, each published allocation is the best of the moment just before its Install. It is sound:
@@ -10,6 +11,12 @@ ghost use Rattle.allocation_core.specs.declared.event.Event.{Event};
 /// covers as many has fewer pairs that are not in the preceding allocation.
 pub fn published_are_best()
     ensures { AlwaysBest }
+{}
+
+/// Over every list of events, a report is booked only from the target's holder in the allocation that it names, the one that
+/// this collector last took, in the round then open, and at most once for each target and round.
+pub fn booked_by_holders()
+    ensures { AlwaysBooked }
 {}
 
 /// Each event has only answers of its kind.

@@ -17,6 +17,7 @@ mod laws;
 mod listing;
 mod live;
 mod machine;
+mod numbers;
 mod pairs;
 mod places;
 mod problem;
@@ -27,13 +28,9 @@ mod tests;
 pub use answer::{Answer, Refusal};
 pub use error::OpenError;
 pub use event::Event;
+pub use handover::{CollectorId, TargetId};
 pub use job::JobSpec;
-pub use laws::{answers_fit, published_are_best};
+pub use laws::{answers_fit, booked_by_holders, published_are_best};
 pub use machine::Core;
 pub use runs::{Stopped, run};
-
-/// A target's number, from 0 in the order of first appearance.
-pub type TargetId = u32;
-
-/// A collector's number, from 1 in the order of joining.
-pub type CollectorId = u32;
+pub use scrape_books::Outcome;

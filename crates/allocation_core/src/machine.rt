@@ -1,12 +1,15 @@
 ghost use Rattle.std.specs.Prelude.{◌≡◌, ◌↔◌, ◌+◌, Some, None, Ok, Err, true, false, slice_get, MatchOption, IfOk, IsOk, OnOk, OnErr};
-ghost use Rattle.allocation_core.specs.State.{first_state, current_of, total_of, held_by, id_named};
+ghost use Rattle.scrape_books.specs.Books.{total_of};
+ghost use Rattle.allocation_core.specs.State.{first_state, current_of, held_by, id_named};
 ghost use Rattle.allocation_core.specs.Jobs.{are_jobs};
 ghost use Rattle.allocation_core.specs.Steps.{answer_of, state_after, gained};
-ghost use Rattle.allocation_core.specs.Answers.{is_leave};
+ghost use Rattle.allocation_core.specs.Answers.{needs_no_memory};
 
 mod discovering;
 mod installing;
 mod joining;
+mod reporting;
+mod taking;
 
 use crate::answer::Answer;
 use crate::collectors::id_named;
@@ -14,12 +17,13 @@ use crate::error::OpenError;
 use crate::event::Event;
 use crate::job::{Collector, JobSpec, Known};
 use crate::jobs::{are_jobs, nothing_listed};
-use crate::pairs::{held_in, last_of};
 use crate::problem::{empty_instance, empty_plan};
+use handover::{CollectorId, Holders, TargetId};
 use indexmap::IndexSet;
 use label_sets::Target;
 use lists::{List, Plain};
 use price_certificate::{Instance, Plan};
+use scrape_books::Books;
 use std::alloc::{AllocError, Global};
 use std::marker::Model;
 
@@ -32,10 +36,11 @@ pub struct Core {
     known: IndexSet<Known>,
     collectors: Vec<Collector>,
     given: u32,
-    published: Vec<List<(u32, u32)>>,
+    holders: Holders,
     instance: Instance,
     plan: Plan,
     round: u32,
+    books: Books,
 }
 
 impl Model for Core {
@@ -44,9 +49,9 @@ impl Model for Core {
 
     ghost Value = { State };
 
-    ghost view = { λ c. record { jobs = c.jobs; listed = c.listed.items; known = c.known.keys; collectors = c.collectors.items; given = c.given; published = c.published.items; problem = c.instance; plan = c.plan; round = c.round } };
+    ghost view = { λ c. record { jobs = c.jobs; listed = c.listed.items; known = c.known.keys; collectors = c.collectors.items; given = c.given; published = c.holders.published; problem = c.instance; plan = c.plan; taken = c.holders.taken; round = c.round; booked = c.books } };
 
-    ghost invariant = { λ c. IsKept (record { jobs = c.jobs; listed = c.listed.items; known = c.known.keys; collectors = c.collectors.items; given = c.given; published = c.published.items; problem = c.instance; plan = c.plan; round = c.round }) };
+    ghost invariant = { λ c. IsKept (record { jobs = c.jobs; listed = c.listed.items; known = c.known.keys; collectors = c.collectors.items; given = c.given; published = c.holders.published; problem = c.instance; plan = c.plan; taken = c.holders.taken; round = c.round; booked = c.books }) };
 }
 
 impl Core {
@@ -67,20 +72,23 @@ impl Core {
             known: IndexSet::new(alloc),
             collectors: Vec::new(alloc),
             given: 0,
-            published: Vec::new(alloc),
+            holders: Holders::open(alloc),
             instance,
             plan: empty_plan(alloc),
             round: 1,
+            books: Books::open(alloc),
         })
     }
 
-    /// One step. Without memory nothing changes, and Leave takes none. Join wants it only after all its checks.
+    /// One step. Without memory nothing changes, and Leave and NextRound take none. Join, Take and Report want it only after
+    /// all their checks.
+    #[tactic(auto, using(crate::proofs::BookedLemmas::total_rises))]
     pub fn apply(&mut self, event: Event) -> Result<Answer, AllocError>
         ensures answer { IfOk result (λ a. a ≡ answer_of self.old event) }
         ensures state { OnOk result (self.new ≡ state_after self.old event) }
-        ensures total { IfOk result (λ a. total_of self.new ≡ total_of self.old + gained event a) }
+        ensures total { IfOk result (λ a. total_of self.new.booked ≡ total_of self.old.booked + gained event a) }
         ensures err { OnErr result (self.new ≡ self.old) }
-        ensures memory { is_leave event ≡ true → IsOk result }
+        ensures memory { needs_no_memory event ≡ true → IsOk result }
     {
         match event {
             Event::Discover {
@@ -91,6 +99,15 @@ impl Core {
             Event::Join { name, reach } => self.join(name, reach),
             Event::Leave(collector) => Ok(self.leave(collector)),
             Event::Install(plan) => self.install(plan),
+            Event::NextRound => Ok(self.next_round()),
+            Event::Take(collector) => self.take(collector),
+            Event::Report {
+                collector,
+                number,
+                target,
+                round,
+                outcome,
+            } => self.report(collector, number, target, round, outcome),
         }
     }
 
@@ -98,7 +115,7 @@ impl Core {
     pub fn current(&self) -> u32
         ensures { result ≡ current_of self.now }
     {
-        self.published.len() as u32
+        self.holders.current()
     }
 
     /// The open round.
@@ -108,22 +125,22 @@ impl Core {
         self.round
     }
 
-    /// The samples of all reports: none are booked yet.
+    /// The samples of all reports that are booked.
     pub fn total(&self) -> u128
-        ensures { result ≡ total_of self.now }
+        ensures { result ≡ total_of self.now.booked }
     {
-        0
+        self.books.total()
     }
 
     /// The number of the live collector of a name.
-    pub fn named(&self, name: &str) -> Option<u32>
+    pub fn named(&self, name: &str) -> Option<CollectorId>
         ensures { result ≡ id_named self.now.collectors name.now }
     {
         id_named(self.collectors.as_slice(), name)
     }
 
     /// The place of a target's job, and the target.
-    pub fn target(&self, number: u32) -> Option<(usize, &Target)>
+    pub fn target(&self, number: TargetId) -> Option<(usize, &Target)>
         ensures { MatchOption result (slice_get self.now.known number ≡ None)
             (λ r. slice_get self.now.known number ≡ Some (record { job = r.0; target = r.1.now })) }
     {
@@ -134,11 +151,13 @@ impl Core {
     }
 
     /// The targets that a collector holds in the current allocation, in order of number.
-    pub fn held(&self, collector: u32) -> Result<List<u32>, AllocError>
+    pub fn held(&self, collector: CollectorId) -> Result<List<TargetId>, AllocError>
         ensures { IfOk result (λ l. l ≡ held_by self.now collector) }
     {
-        let held = held_in(self.alloc, last_of(self.published.as_slice()), collector)?;
-        Ok(List::from_vec(held))
+        match self.holders.held(self.holders.current(), collector) {
+            Ok(held) => Ok(held),
+            Err(_) => Err(AllocError),
+        }
     }
 
     /// The instance and the plan of the last allocation that was published, both empty before the first.

@@ -2,6 +2,7 @@ ghost use Rattle.std.specs.Prelude.{◌≡◌, List, IfOk, IfErr, OnOk};
 ghost use Rattle.allocation_core.specs.declared.job.JobSpec.{JobSpec};
 ghost use Rattle.allocation_core.specs.State.{first_state};
 ghost use Rattle.allocation_core.specs.Best.{AllBest};
+ghost use Rattle.allocation_core.specs.Booked.{AllBooked};
 ghost use Rattle.allocation_core.specs.Runs.{answers_of, state_of, StopsAt};
 
 use crate::answer::Answer;
@@ -15,11 +16,13 @@ pub struct Stopped {
 }
 
 /// Applies events in order, and stops at the first want of memory. Each allocation of a core that was just opened is then
-/// the best of its moment, in the sense of `published_are_best`.
+/// the best of its moment, in the sense of `published_are_best`, and each booked report is one of the target's holder, in the
+/// sense of `booked_by_holders`.
 pub fn run(core: &mut Core, events: Vec<Event>) -> Result<Vec<Answer>, Stopped>
     ensures answers { IfOk result (λ v. v.items ≡ answers_of core.old events.items) }
     ensures state { OnOk result (core.new ≡ state_of core.old events.items) }
     ensures best { (jobs : List JobSpec) → core.old ≡ first_state jobs → AllBest (first_state jobs) events.items core.new }
+    ensures booked { (jobs : List JobSpec) → core.old ≡ first_state jobs → AllBooked (first_state jobs) events.items core.new }
     ensures stopped { IfErr result (λ s. StopsAt core.old events.items s.answers.items core.new) }
 {
     let mut answers = Vec::new(*events.allocator());

@@ -1,10 +1,10 @@
 -- The event that a line of a replay says: a JSON object whose member `event` is its name. Members that the event does not
 -- have don't matter.
-use Rattle.std.specs.Prelude.{ℕ, List, Option, Some, None, option_map, option_and_then, codes, if◌then◌else◌}
+use Rattle.std.specs.Prelude.{ℕ, zero, suc, Bool, true, false, List, Option, Some, None, option_map, option_and_then, codes, if◌then◌else◌}
 use Rattle.std.specs.Result.{result_ok}
 use Rattle.std.specs.Str.{bytes_eq}
 use Rattle.serde_json.specs.Data.{Data}
-use Rattle.serde_json.specs.Find.{as_str}
+use Rattle.serde_json.specs.Find.{as_bool, as_str, get}
 use Rattle.json_values.specs.Texts.{json_of}
 use Rattle.json_values.specs.Spelling.{number_in, pair_in, list_in, member_in}
 use Rattle.label_sets.specs.Target.{FinalTarget}
@@ -12,8 +12,10 @@ use Rattle.price_certificate.specs.declared.plan.Plan.{Plan}
 use Rattle.reach_rules.specs.Name.{is_collector_name}
 use Rattle.reach_rules.specs.Spelling.{reach_spelled}
 use Rattle.reach_rules.specs.declared.rule.ReachRule.{ReachRule}
+use Rattle.scrape_books.specs.declared.report.Outcome.{Outcome}
+use Rattle.scrape_books.specs.declared.report.Outcome.TheVariants.{Up, Down}
 use Rattle.allocation_core.specs.declared.event.Event.{Event}
-use Rattle.allocation_core.specs.declared.event.Event.TheVariants.{Discover, Join, Leave, Install}
+use Rattle.allocation_core.specs.declared.event.Event.TheVariants.{Discover, Join, Leave, Install, NextRound, Take, Report}
 use Rattle.replay_lines.specs.Targets.{target_said}
 
 -- ---- discover
@@ -64,13 +66,49 @@ plan_said d =
 abbrev pub install_said : Data → Option Event
 install_said d = option_map Install (plan_said d)
 
+-- ---- take
+
+-- the number of a collector
+abbrev pub take_said : Data → Option Event
+take_said d = option_map Take (member_in number_in (codes "collector") d)
+
+-- ---- report
+
+-- a scrape that failed has no samples: they are left out, or 0
+abbrev pub nothing_scraped : Option ℕ → Option Outcome
+nothing_scraped (Some zero) = Some Down
+nothing_scraped (Some (suc samples)) = None
+nothing_scraped None = None
+
+abbrev pub down_said : Option Data → Option Outcome
+down_said None = Some Down
+down_said (Some d) = nothing_scraped (number_in d)
+
+abbrev pub outcome_by : Bool → Data → Option Outcome
+outcome_by true d = option_map Up (member_in number_in (codes "samples") d)
+outcome_by false d = down_said (get (codes "samples") d)
+
+-- whether the target was up, and how many samples it gave
+unfoldable pub outcome_said : Data → Option Outcome
+outcome_said d = option_and_then (λ up. outcome_by up d) (member_in as_bool (codes "up") d)
+
+-- the numbers of the collector, of the allocation, of the target and of the round, and what the scrape came to
+unfoldable pub report_said : Data → Option Event
+report_said d =
+    option_and_then
+    (λ collector. option_and_then (λ number. option_and_then (λ target. option_and_then (λ round. option_map (Report collector number target round) (outcome_said d)) (member_in number_in (codes "round") d)) (member_in number_in (codes "target") d))
+    (member_in number_in (codes "number") d)) (member_in number_in (codes "collector") d)
+
 -- ---- all of them
+
+abbrev pub later_named : List ℕ → Data → Option Event
+later_named name d = if bytes_eq name (codes "round") then Some NextRound else (if bytes_eq name (codes "take") then take_said d else (if bytes_eq name (codes "report") then report_said d else None))
 
 -- the event of a name
 abbrev pub event_named : List ℕ → Data → Option Event
 event_named name d =
     if bytes_eq name (codes "discover") then discover_said d else (if bytes_eq name (codes "join") then join_said d
-    else (if bytes_eq name (codes "leave") then leave_said d else (if bytes_eq name (codes "install") then install_said d else None)))
+    else (if bytes_eq name (codes "leave") then leave_said d else (if bytes_eq name (codes "install") then install_said d else later_named name d)))
 
 -- the event that a JSON value says
 unfoldable pub event_said : Data → Option Event

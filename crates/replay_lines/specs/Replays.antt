@@ -7,7 +7,8 @@ use Rattle.std.specs.List.{slice_split}
 use Rattle.std.specs.Option.{option_map_or}
 use Rattle.std.specs.Str.{bytes_eq}
 use Rattle.allocation_core.specs.Lines.{answer_line}
-use Rattle.allocation_core.specs.State.{State, total_of}
+use Rattle.scrape_books.specs.Books.{total_of}
+use Rattle.allocation_core.specs.State.{State}
 use Rattle.allocation_core.specs.Steps.{answer_of, state_after}
 use Rattle.allocation_core.specs.declared.answer.Answer.{Answer}
 use Rattle.replay_lines.specs.Configurations.{opened}
@@ -29,7 +30,7 @@ abbrev pub unreadable_line : ℕ → List ℕ
 unreadable_line number = codes "unreadable " ++ (decimal number ++ line_feed)
 
 abbrev pub total_line : State → List ℕ
-total_line m = codes "total " ++ (decimal (total_of m) ++ line_feed)
+total_line m = codes "total " ++ (decimal (total_of m.booked) ++ line_feed)
 
 abbrev pub answered_line : Answer → List ℕ
 answered_line answer = answer_line answer ++ line_feed

@@ -1,12 +1,12 @@
 //! The events of a replay, each said by a line.
-ghost use Rattle.std.specs.Prelude.{◌≡◌, IfOk, codes};
+ghost use Rattle.std.specs.Prelude.{◌≡◌, IfOk, codes, true, false};
 ghost use Rattle.serde_json.specs.View.{view};
 ghost use Rattle.json_values.specs.Spelling.{member_in};
-ghost use Rattle.replay_lines.specs.Events.{collector_name as collector_name_data, name_said, reach_said, discover_said, join_said, leave_said, plan_said, install_said, event_named as event_named_data, event_said, event_in, targets_said};
+ghost use Rattle.replay_lines.specs.Events.{collector_name as collector_name_data, name_said, reach_said, discover_said, join_said, leave_said, plan_said, install_said, take_said, report_said, outcome_said, outcome_by, event_named as event_named_data, later_named as later_named_data, event_said, event_in, targets_said};
 
 use crate::target::targets_in;
-use allocation_core::Event;
-use json_values::{member, parse};
+use allocation_core::{Event, Outcome};
+use json_values::{member, number, parse};
 use label_sets::Target;
 use lists::{List, Text};
 use price_certificate::Plan;
@@ -48,6 +48,22 @@ fn event_named(alloc: Global, name: &str, value: &Value) -> Result<Option<Event>
     }
     if name == "install" {
         return install(alloc, value);
+    }
+    later_named(alloc, name, value)
+}
+
+/// The events of the rounds.
+fn later_named(alloc: Global, name: &str, value: &Value) -> Result<Option<Event>, AllocError>
+    ensures { IfOk result (λ o. o ≡ later_named_data name.now (view value.now)) }
+{
+    if name == "round" {
+        return Ok(Some(Event::NextRound));
+    }
+    if name == "take" {
+        return take(alloc, value);
+    }
+    if name == "report" {
+        return report(alloc, value);
     }
     Ok(None)
 }
@@ -170,4 +186,73 @@ fn plan_of(alloc: Global, value: &Value) -> Result<Option<Plan>, AllocError>
         item_prices,
         bin_prices,
     }))
+}
+
+fn take(alloc: Global, value: &Value) -> Result<Option<Event>, AllocError>
+    ensures { IfOk result (λ o. o ≡ take_said (view value.now)) }
+{
+    match member(alloc, value, "collector")? {
+        Some(collector) => Ok(Some(Event::Take(collector))),
+        None => Ok(None),
+    }
+}
+
+#[tactic(auto, unfolding(crate::specs::Events::report_said))]
+fn report(alloc: Global, value: &Value) -> Result<Option<Event>, AllocError>
+    ensures { IfOk result (λ o. o ≡ report_said (view value.now)) }
+{
+    let Some(collector) = member(alloc, value, "collector")? else {
+        return Ok(None);
+    };
+    let Some(number) = member(alloc, value, "number")? else {
+        return Ok(None);
+    };
+    let Some(target) = member(alloc, value, "target")? else {
+        return Ok(None);
+    };
+    let Some(round) = member(alloc, value, "round")? else {
+        return Ok(None);
+    };
+    let Some(outcome) = outcome_of(alloc, value)? else {
+        return Ok(None);
+    };
+    Ok(Some(Event::Report {
+        collector,
+        number,
+        target,
+        round,
+        outcome,
+    }))
+}
+
+/// What a scrape came to: how many samples, or that the target did not answer.
+#[tactic(auto, unfolding(crate::specs::Events::outcome_said))]
+fn outcome_of(alloc: Global, value: &Value) -> Result<Option<Outcome>, AllocError>
+    ensures { IfOk result (λ o. o ≡ outcome_said (view value.now)) }
+{
+    match value.get("up").and_then(Value::as_bool) {
+        Some(true) => up(alloc, value),
+        Some(false) => Ok(down(value)),
+        None => Ok(None),
+    }
+}
+
+fn up(alloc: Global, value: &Value) -> Result<Option<Outcome>, AllocError>
+    ensures { IfOk result (λ o. o ≡ outcome_by true (view value.now)) }
+{
+    match member(alloc, value, "samples")? {
+        Some(samples) => Ok(Some(Outcome::Up(samples))),
+        None => Ok(None),
+    }
+}
+
+/// A scrape that failed has no samples.
+fn down(value: &Value) -> Option<Outcome>
+    ensures { result ≡ outcome_by false (view value.now) }
+{
+    match value.get("samples") {
+        None => Some(Outcome::Down),
+        Some(samples) if number(samples) == Some(0) => Some(Outcome::Down),
+        Some(_) => None,
+    }
 }

@@ -1,4 +1,5 @@
 mod limits;
+mod rounds;
 
 use crate::{Ended, replay};
 use std::alloc::Global;
@@ -243,7 +244,7 @@ fn refuses_what_says_no_event(rt: HostRuntime) -> Result<(), &'static str> {
         "\"event\":\"discover\",\"job\":\"j\",\"source\":4294967296,\"targets\":[]",
         "\"event\":\"join\",\"name\":\"\",\"reach\":[]",
         "\"event\":\"join\",\"name\":\"a\",\"reach\":[{\"test\":\"any\"}]",
-        "\"event\":\"round\"",
+        "\"event\":\"drain\",\"collector\":1",
         "\"event\":1",
         "\"collector\":1",
     ] {

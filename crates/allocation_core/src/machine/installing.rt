@@ -8,14 +8,12 @@ use super::Core;
 use crate::allocation::allocation;
 use crate::answer::{Answer, Refusal};
 use crate::live::live_numbers;
-use crate::pairs::{last_of, same_pairs};
+use crate::pairs::same_pairs;
 use crate::problem::instance;
+use handover::HoldersError;
 use lists::List;
 use price_certificate::{Fault, Instance, Plan, Verdict, check};
 use std::alloc::{AllocError, Global};
-
-/// The last number of an allocation.
-const LAST_NUMBER: u32 = 4_294_967_295;
 
 impl Core {
     /// The assignment problem of this moment.
@@ -30,7 +28,7 @@ impl Core {
             self.collectors.as_slice(),
             self.known.as_slice(),
             live.as_slice(),
-            last_of(self.published.as_slice()),
+            self.holders.current_pairs(),
         )?;
         Ok(instance)
     }
@@ -63,17 +61,18 @@ impl Core {
             return Ok(Answer::Not(Refusal::Refused(fault)));
         }
         let pairs = self.allocation(plan.pairs.as_slice())?;
-        let current = self.current();
-        if same_pairs(pairs.as_slice(), last_of(self.published.as_slice())) {
-            return Ok(Answer::Not(Refusal::Unchanged(current)));
+        if same_pairs(pairs.as_slice(), self.holders.current_pairs()) {
+            return Ok(Answer::Not(Refusal::Unchanged(self.current())));
         }
-        if current >= LAST_NUMBER {
-            return Ok(Answer::Not(Refusal::NumbersSpent));
+        match self.holders.publish(pairs) {
+            Ok(number) => {
+                self.instance = instance;
+                self.plan = plan;
+                Ok(Answer::Published(number))
+            }
+            Err(HoldersError::NumbersSpent) => Ok(Answer::Not(Refusal::NumbersSpent)),
+            Err(_) => Err(AllocError),
         }
-        self.published.push(pairs)?;
-        self.instance = instance;
-        self.plan = plan;
-        Ok(Answer::Published(current + 1))
     }
 }
 

@@ -37,12 +37,7 @@ impl Core {
             return Ok(Answer::Not(Refusal::IdsSpent));
         }
         let id = self.given + 1;
-        self.collectors.push(Collector {
-            id,
-            name,
-            reach,
-            taken: 0,
-        })?;
+        self.collectors.push(Collector { id, name, reach })?;
         self.given = id;
         Ok(Answer::Joined(id))
     }

@@ -1,6 +1,6 @@
 use Rattle.std.proofs.Common.{ℕ, None, Option, List, ap, ◌∙◌, arith}
 use Rattle.std.specs.Prelude.{slice_index_or}
-use Rattle.allocation_core.specs.Instances.{beside}
+use Rattle.handover.specs.Handover.{beside}
 use Rattle.allocation_core.proofs.Placing.{pairs_alike}
 use Rattle.allocation_core.proofs.allocation.allocation.Goals as goal
 

@@ -3,6 +3,7 @@ use Rattle.std.proofs.lemmas.Grind.{common_steps}
 use Rattle.allocation_core.specs.State.{State}
 use Rattle.allocation_core.specs.Steps.{answer_of, state_after}
 use Rattle.allocation_core.proofs.BestLemmas.{best_after}
+use Rattle.allocation_core.proofs.BookedLemmas.{booked_after}
 use Rattle.allocation_core.proofs.RunLemmas.{state_of_push, answers_of_push}
 use Rattle.allocation_core.proofs.runs.run.Goals as goal
 
@@ -32,3 +33,13 @@ pub returns-clause-best : goal.returns-clause-best
 returns-clause-best c =
     let inv = c.loop-event.invariant in
     λ jobs opened. best_after jobs c.args.events.items c.loop-event.yielded c.loop-event.event-iterator.rest.items c.args.core.now c.loop-event.core opened (sym inv.rest) inv.state
+
+pub returns-in-Err-clause-booked : goal.returns-in-Err-clause-booked
+returns-in-Err-clause-booked c =
+    let inv = c.loop-event.invariant in
+    λ jobs opened. booked_after jobs c.args.events.items c.loop-event.yielded c.loop-event.event-iterator.rest.items c.args.core.now c.apply.new.self opened (sym inv.rest) (c.in-Err.ensures.err ∙ inv.state)
+
+pub returns-clause-booked : goal.returns-clause-booked
+returns-clause-booked c =
+    let inv = c.loop-event.invariant in
+    λ jobs opened. booked_after jobs c.args.events.items c.loop-event.yielded c.loop-event.event-iterator.rest.items c.args.core.now c.loop-event.core opened (sym inv.rest) inv.state

@@ -1,0 +1,266 @@
+-- Every booked report is one of the target's holder, and the only one of its target and round.
+use Rattle.std.proofs.Common.{◌≡◌, ℕ, zero, suc, ◌+◌, ◌<◌, ◌≤◌, ◌⊎◌, List, [], ◌∷◌, ◌++◌, Bool, true, false, Option, Some, None, All, length, cond, eqb, get_or, refl, sym, ap, subst, ◌∙◌, inl, inr, arith, append_assoc, length-append}
+use Rattle.std.specs.Prelude.{AllPairs, is_some, if◌then◌else◌, slice_get, slice_index_or, ◌&&◌, ◌||◌}
+use Rattle.std.specs.Option.{option_map_or}
+use Rattle.std.specs.List.{list_any, sum_by}
+use Rattle.std.proofs.lemmas.Bool.{cases_lt, eq-eqb, cases_eq, or_parts, cond-true}
+use Rattle.std.proofs.lemmas.List.{append-nil}
+use Rattle.std.proofs.lemmas.List.Elements.{All-nil, All-push, All-head, All-tail}
+use Rattle.std.proofs.lemmas.List.Quantifiers.{all_pairs_push}
+use Rattle.std.proofs.lemmas.List.Sums.{sum_by-append, sum_by-cons}
+use Rattle.std.proofs.lemmas.Option.{slice_get_past, slice_get_within}
+use Rattle.handover.specs.Handover.{allocation_at, beside, holder_in, taken_by}
+use Rattle.scrape_books.specs.Books.{samples_of, total_of}
+use Rattle.scrape_books.specs.Kept.{RoundsRise}
+use Rattle.scrape_books.specs.declared.report.Entry.{Entry}
+use Rattle.scrape_books.specs.declared.report.Outcome.{Outcome}
+use Rattle.label_sets.specs.Target.{FinalTarget}
+use Rattle.allocation_core.specs.State.{State, first_state, is_joined}
+use Rattle.allocation_core.specs.Jobs.{job_named}
+use Rattle.allocation_core.specs.Steps.{report_refusal, answer_of, answer_by, state_after, changed, discovered, entry_of, gained, granted, is_booked, refusal_of}
+use Rattle.allocation_core.specs.Runs.{state_of}
+use Rattle.allocation_core.specs.Kept.{IsKept}
+use Rattle.allocation_core.specs.Booked.{AllBooked, AlwaysBooked, WasBooked, report_of}
+use Rattle.allocation_core.specs.declared.job.JobSpec.{JobSpec}
+use Rattle.allocation_core.specs.declared.event.Event.{Event}
+use Rattle.allocation_core.specs.declared.event.Event.TheVariants.{Discover, Join, Leave, Install, NextRound, Take, Report}
+use Rattle.allocation_core.specs.declared.answer.Answer.{Answer}
+use Rattle.allocation_core.specs.declared.answer.Answer.TheVariants.{Booked}
+use Rattle.allocation_core.specs.declared.answer.Refusal.{Refusal}
+use Rattle.allocation_core.proofs.Admission.{Admitted, admitted}
+use Rattle.allocation_core.proofs.BestLemmas.{Grows, step_grows}
+use Rattle.allocation_core.proofs.StepLemmas.{step_kept, start_kept}
+
+-- an event books nothing, or it is a Report that nothing is against
+pub record Books (m : State) (e : Event) : Type 0 where
+  pub entry : ℕ × Entry
+  pub is : e ≡ report_of entry
+  pub free : Admitted m entry.1.collector entry.1.number entry.0 entry.1.round
+  pub answered : answer_of m (report_of entry) ≡ Booked
+  pub grown : (state_after m e).booked ≡ m.booked ++ entry ∷ []
+
+same_by : (m n : State) (o : Option Refusal) → n.booked ≡ m.booked → (if is_some o then m else n).booked ≡ m.booked
+same_by m n None e = e
+same_by m n (Some r) e = refl
+
+listed_same : (m : State) (o : Option ℕ) (source : ℕ) (targets : List FinalTarget) → (option_map_or (λ (job : ℕ). discovered m job source targets) o m).booked ≡ m.booked
+listed_same m None source targets = refl
+listed_same m (Some job) source targets = refl
+
+report_by :
+    (m n : State) (entry : ℕ × Entry) (o : Option Refusal) → (o ≡ None → Admitted m entry.1.collector entry.1.number entry.0 entry.1.round) → n.booked ≡ m.booked ++ entry ∷ []
+    → ((if is_some o then m else n).booked ≡ m.booked) ⊎ (Admitted m entry.1.collector entry.1.number entry.0 entry.1.round × (answer_by o Booked ≡ Booked) × ((if is_some o then m else n).booked ≡ m.booked ++ entry ∷ []))
+report_by m n entry None free grown = inr (free refl, refl, grown)
+report_by m n entry (Some r) free grown = inl refl
+
+pub books : (m : State) (e : Event) → ((state_after m e).booked ≡ m.booked) ⊎ Books m e
+unfolding state_after answer_of
+books m (Discover name source targets) = inl (same_by m _ (refusal_of m (Discover name source targets)) (listed_same m (job_named m.jobs name) source targets))
+books m (Join name reach) = inl (same_by m _ (refusal_of m (Join name reach)) refl)
+books m (Leave id) = inl (same_by m _ (refusal_of m (Leave id)) refl)
+books m (Install plan) = inl (same_by m _ (refusal_of m (Install plan)) refl)
+books m NextRound = inl (same_by m _ (refusal_of m NextRound) refl)
+books m (Take id) = inl (same_by m _ (refusal_of m (Take id)) refl)
+books m (Report collector number target round outcome) =
+    let entry : ℕ × Entry = (target, entry_of collector number round outcome) in
+    elim (report_by m (changed m (report_of entry)) entry (refusal_of m (report_of entry)) (admitted m collector number target round outcome) refl) [
+      | inl same ↦ inl same
+      | inr grown ↦ inr (record { entry = entry; is = refl; free = grown.0; answered = grown.1; grown = grown.2 })
+    ]
+
+-- what is booked stays
+pub record Stays (old new : List (ℕ × Entry)) : Type 0 where
+  pub more : List (ℕ × Entry)
+  pub is : new ≡ old ++ more
+
+step_stays : (m : State) (e : Event) → Stays m.booked (state_after m e).booked
+step_stays m e = elim (books m e) [
+  | inl same ↦ record { more = []; is = same ∙ sym (append-nil m.booked) }
+  | inr p ↦ record { more = p.entry ∷ []; is = p.grown }
+]
+
+run_stays : (m : State) (es : List Event) → Stays m.booked (state_of m es).booked
+run_stays m [] = record { more = []; is = sym (append-nil m.booked) }
+run_stays m (e ∷ es) =
+    let first = step_stays m e in
+    let rest = run_stays (state_after m e) es in
+    record { more = first.more ++ rest.more; is = rest.is ∙ ap (λ (bs : List (ℕ × Entry)). bs ++ rest.more) first.is ∙ append_assoc m.booked first.more rest.more }
+
+get_at : (xs ys : List (ℕ × Entry)) (b : ℕ × Entry) (k : ℕ) → k ≡ length xs → slice_get ((xs ++ b ∷ []) ++ ys) k ≡ Some b
+get_at [] ys b zero e = refl
+get_at [] ys b (suc k) e = absurd (omega arith)
+get_at (x ∷ xs) ys b zero e = absurd (omega arith)
+get_at (x ∷ xs) ys b (suc k) e = get_at xs ys b k (omega arith)
+
+same_entry : (a b : ℕ × Entry) → ◌≡◌ {A = Option (ℕ × Entry)} (Some a) (Some b) → a ≡ b
+same_entry a b e = cc
+
+none_some : (b : ℕ × Entry) → ◌≡◌ {A = Option (ℕ × Entry)} None (Some b) → {X : Type 0} → X
+none_some b e = cc
+
+-- the event itself booked it
+here_booked : (m : State) (e : Event) (es : List Event) (k : ℕ) (b : ℕ × Entry) → length m.booked ≤ k → k < length (state_after m e).booked → slice_get (state_of (state_after m e) es).booked k ≡ Some b → Books m e → WasBooked m (e ∷ es) k b
+here_booked m e es k b low high there p =
+    let rest = run_stays (state_after m e) es in
+    let size : length (state_after m e).booked ≡ length m.booked + 1 = omega (arith, ap (λ (bs : List (ℕ × Entry)). length bs) p.grown, length-append m.booked (p.entry ∷ [])) in
+    let place : k ≡ length m.booked = omega (arith, size) in
+    let found : slice_get (state_of (state_after m e) es).booked k ≡ Some p.entry =
+    ap (λ (bs : List (ℕ × Entry)). slice_get bs k) (rest.is ∙ ap (λ (bs : List (ℕ × Entry)). bs ++ rest.more) p.grown) ∙ get_at m.booked rest.more p.entry k place in
+    let is : p.entry ≡ b = same_entry p.entry b (sym found ∙ there) in
+    subst (λ (x : ℕ × Entry). WasBooked m (e ∷ es) k x) is
+    (record {
+      earlier = [];
+      later = es;
+      split = ap (λ (f : Event). f ∷ es) p.is;
+      before = sym place;
+      answered = p.answered;
+      joined = p.free.joined;
+      taken = p.free.taken;
+      held = p.free.held;
+      opened = p.free.opened;
+    })
+
+run_booked : (m : State) (es : List Event) (k : ℕ) (b : ℕ × Entry) → length m.booked ≤ k → slice_get (state_of m es).booked k ≡ Some b → WasBooked m es k b
+run_booked m [] k b low there = none_some b (sym (slice_get_past m.booked k low) ∙ there)
+run_booked m (e ∷ es) k b low there = elim (cases_lt k (length (state_after m e).booked)) [
+  | inl l ↦ elim (books m e) [
+    | inl same ↦ absurd (omega (arith, ap (λ (bs : List (ℕ × Entry)). length bs) same))
+    | inr p ↦ here_booked m e es k b low l there p
+  ]
+  | inr g ↦
+      let later = run_booked (state_after m e) es k b g there in
+      record {
+        earlier = e ∷ later.earlier;
+        later = later.later;
+        split = ap (λ (fs : List Event). e ∷ fs) later.split;
+        before = later.before;
+        answered = later.answered;
+        joined = later.joined;
+        taken = later.taken;
+        held = later.held;
+        opened = later.opened;
+      }
+]
+
+-- A holder in a published allocation stays its holder.
+get_or-stays : (xs more : List (List (ℕ × ℕ))) (k target c : ℕ) → beside (slice_index_or xs k []) target ≡ Some c → beside (slice_index_or (xs ++ more) k []) target ≡ Some c
+get_or-stays [] more k target c e = cc
+get_or-stays (x ∷ xs) more zero target c e = e
+get_or-stays (x ∷ xs) more (suc k) target c e = get_or-stays xs more k target c e
+
+holder_stays : (published more : List (List (ℕ × ℕ))) (number target c : ℕ) → holder_in published number target ≡ Some c → holder_in (published ++ more) number target ≡ Some c
+holder_stays published more zero target c e = e
+holder_stays published more (suc n) target c e = get_or-stays published more n target c e
+
+abbrev pub AreHeld : State → Type 0
+AreHeld m = All (λ (b : ℕ × Entry). holder_in m.published b.1.number b.0 ≡ Some b.1.collector) m.booked
+
+step_held : (m : State) (e : Event) → AreHeld m → AreHeld (state_after m e)
+step_held m e held =
+    let now : List (List (ℕ × ℕ)) = (state_after m e).published in
+    let grown = step_grows m e in
+    let old : All (λ (b : ℕ × Entry). holder_in now b.1.number b.0 ≡ Some b.1.collector) m.booked =
+    λ k d l. (let b : ℕ × Entry = get_or m.booked k d in subst (λ (ps : List (List (ℕ × ℕ))). holder_in ps b.1.number b.0 ≡ Some b.1.collector) (sym grown.is) (holder_stays m.published grown.more b.1.number b.0 b.1.collector (held k d l))) in
+    elim (books m e) [
+      | inl same ↦ subst (λ (bs : List (ℕ × Entry)). All (λ (b : ℕ × Entry). holder_in now b.1.number b.0 ≡ Some b.1.collector) bs) (sym same) old
+      | inr p ↦ subst (λ (bs : List (ℕ × Entry)). All (λ (b : ℕ × Entry). holder_in now b.1.number b.0 ≡ Some b.1.collector) bs) (sym p.grown)
+          (All-push (λ (b : ℕ × Entry). holder_in now b.1.number b.0 ≡ Some b.1.collector) m.booked p.entry old
+          (subst (λ (ps : List (List (ℕ × ℕ))). holder_in ps p.entry.1.number p.entry.0 ≡ Some p.entry.1.collector) (sym grown.is) (holder_stays m.published grown.more p.entry.1.number p.entry.0 p.entry.1.collector p.free.held)))
+    ]
+
+run_held : (m : State) (es : List Event) → AreHeld m → AreHeld (state_of m es)
+run_held m [] held = held
+run_held m (e ∷ es) held = run_held (state_after m e) es (step_held m e held)
+
+-- of one target no round is booked that another report has
+other_by : (t r : Bool) (rest : Bool) → ((t && r) || rest) ≡ false → t ≡ true → r ≡ false
+other_by true false rest e s = refl
+other_by true true rest e s = cc
+other_by false r rest e s = cc
+
+rest_by : (t r : Bool) (rest : Bool) → ((t && r) || rest) ≡ false → rest ≡ false
+rest_by t r rest e = (or_parts (t && r) rest e).1
+
+earlier_rounds : (booked : List (ℕ × Entry)) (target round : ℕ) → is_booked booked target round ≡ false → All (λ (b : ℕ × Entry). b.1.round ≤ round) booked → All (λ (b : ℕ × Entry). b.0 ≡ target → b.1.round < round) booked
+earlier_rounds [] target round fresh past k d l s = absurd (omega arith)
+earlier_rounds (b ∷ booked) target round fresh past zero d l s = elim (cases_eq b.1.round round) [
+  | inl same ↦ (let other : eqb b.1.round round ≡ false = other_by (eqb b.0 target) (eqb b.1.round round) (is_booked booked target round) fresh (eq-eqb b.0 target s) in let is : eqb b.1.round round ≡ true = eq-eqb b.1.round round same in cc)
+  | inr differs ↦ (let less : b.1.round ≤ round = past zero b (omega arith) in elim (cases_lt b.1.round round) [ inl below ↦ below | inr above ↦ absurd (differs (omega (arith, less))) ])
+]
+earlier_rounds (b ∷ booked) target round fresh past (suc k) d l s =
+    earlier_rounds booked target round (rest_by (eqb b.0 target) (eqb b.1.round round) (is_booked booked target round) fresh) (All-tail (λ (x : ℕ × Entry). x.1.round ≤ round) b booked past) k d (omega arith) s
+
+step_once : (m : State) (e : Event) → IsKept m → RoundsRise m.booked → RoundsRise (state_after m e).booked
+step_once m e kept once = elim (books m e) [
+  | inl same ↦ subst RoundsRise (sym same) once
+  | inr p ↦
+      let past : All (λ (b : ℕ × Entry). b.1.round ≤ p.entry.1.round) m.booked = subst (λ (r : ℕ). All (λ (b : ℕ × Entry). b.1.round ≤ r) m.booked) p.free.opened kept.past_rounds in
+      let earlier = earlier_rounds m.booked p.entry.0 p.entry.1.round p.free.fresh past in
+      subst RoundsRise (sym p.grown) (all_pairs_push (λ (a b : ℕ × Entry). a.0 ≡ b.0 → a.1.round < b.1.round) m.booked p.entry once earlier)
+]
+
+run_once : (m : State) (es : List Event) → IsKept m → RoundsRise m.booked → RoundsRise (state_of m es).booked
+run_once m [] kept once = once
+run_once m (e ∷ es) kept once = run_once (state_after m e) es (step_kept m e kept) (step_once m e kept once)
+
+pub always_booked : AlwaysBooked
+always_booked jobs events =
+    record {
+      each = λ place b there. run_booked (first_state jobs) events place b (omega arith) there;
+      held = run_held (first_state jobs) events (All-nil _);
+      once = run_once (first_state jobs) events (start_kept jobs) (λ i j d less in_range. absurd (omega arith));
+    }
+
+-- with more events behind
+farther : (first : State) (events done left : List Event) (place : ℕ) (b : ℕ × Entry) → events ≡ done ++ left → WasBooked first done place b → WasBooked first events place b
+farther first events done left place b e was =
+    record {
+      earlier = was.earlier;
+      later = was.later ++ left;
+      split = e ∙ ap (λ (es : List Event). es ++ left) was.split ∙ append_assoc was.earlier (report_of b ∷ was.later) left;
+      before = was.before;
+      answered = was.answered;
+      joined = was.joined;
+      taken = was.taken;
+      held = was.held;
+      opened = was.opened;
+    }
+
+-- a run that did the first of the events
+pub booked_after : (jobs : List JobSpec) (events done left : List Event) (old new : State) → old ≡ first_state jobs → events ≡ done ++ left → new ≡ state_of old done → AllBooked (first_state jobs) events new
+booked_after jobs events done left old new opened split is =
+    let same : new ≡ state_of (first_state jobs) done = is ∙ ap (λ (m : State). state_of m done) opened in
+    let all = always_booked jobs done in
+    subst (λ (m : State). AllBooked (first_state jobs) events m) (sym same)
+    (record { each = λ place b there. farther (first_state jobs) events done left place b split (all.each place b there); held = all.held; once = all.once })
+
+-- the total rises by what an event books
+gained_by : (m n : State) (collector number target round : ℕ) (outcome : Outcome) (o : Option Refusal) → n.booked ≡ m.booked ++ (target, entry_of collector number round outcome) ∷ []
+    → total_of (if is_some o then m else n).booked ≡ total_of m.booked + gained (Report collector number target round outcome) (answer_by o Booked)
+gained_by m n collector number target round outcome None grown =
+    let b : ℕ × Entry = (target, entry_of collector number round outcome) in
+    let more = sum_by-append (λ (q : ℕ × Entry). samples_of q.1.outcome) m.booked (b ∷ []) in
+    let one = sum_by-cons (λ (q : ℕ × Entry). samples_of q.1.outcome) b [] in
+    omega (arith, ap total_of grown, more, one)
+gained_by m n collector number target round outcome (Some r) grown = omega arith
+
+nothing_by : (m n : State) (o : Option Refusal) → n.booked ≡ m.booked → total_of (if is_some o then m else n).booked ≡ total_of m.booked + 0
+nothing_by m n o e = omega (arith, ap total_of (same_by m n o e))
+
+pub total_rises : (m : State) (e : Event) → total_of (state_after m e).booked ≡ total_of m.booked + gained e (answer_of m e)
+unfolding state_after answer_of
+total_rises m (Discover name source targets) = nothing_by m (changed m (Discover name source targets)) (refusal_of m (Discover name source targets)) (listed_same m (job_named m.jobs name) source targets)
+total_rises m (Join name reach) = nothing_by m (changed m (Join name reach)) (refusal_of m (Join name reach)) refl
+total_rises m (Leave id) = nothing_by m (changed m (Leave id)) (refusal_of m (Leave id)) refl
+total_rises m (Install plan) = nothing_by m (changed m (Install plan)) (refusal_of m (Install plan)) refl
+total_rises m NextRound = nothing_by m (changed m NextRound) (refusal_of m NextRound) refl
+total_rises m (Take id) = nothing_by m (changed m (Take id)) (refusal_of m (Take id)) refl
+total_rises m (Report collector number target round outcome) =
+    gained_by m (changed m (Report collector number target round outcome)) collector number target round outcome (refusal_of m (Report collector number target round outcome)) refl
+
+nothing_against : (m : State) (collector number target round : ℕ) (outcome : Outcome) → is_joined m collector ≡ true → report_refusal m collector number target round ≡ None → refusal_of m (Report collector number target round outcome) ≡ None
+nothing_against m collector number target round outcome joined free = cond-true (is_joined m collector) _ _ joined ∙ free
+
+pub booked_answer : (m : State) (collector number target round : ℕ) (outcome : Outcome) → is_joined m collector ≡ true → report_refusal m collector number target round ≡ None → Booked ≡ answer_of m (Report collector number target round outcome)
+unfolding answer_of
+booked_answer m collector number target round outcome joined free = ap (λ (o : Option Refusal). answer_by o Booked) (sym (nothing_against m collector number target round outcome joined free))

@@ -1,0 +1,40 @@
+-- What every booked report is: one of the target's holder, and the only one of its target and round.
+use Rattle.std.specs.Prelude.{◌≡◌, ℕ, List, ◌∷◌, ◌++◌, All, Some, true, length, slice_get}
+use Rattle.handover.specs.Handover.{holder_in, taken_by}
+use Rattle.scrape_books.specs.Kept.{RoundsRise}
+use Rattle.scrape_books.specs.declared.report.Entry.{Entry}
+use Rattle.allocation_core.specs.State.{State, first_state, is_joined}
+use Rattle.allocation_core.specs.Steps.{answer_of}
+use Rattle.allocation_core.specs.Runs.{state_of}
+use Rattle.allocation_core.specs.declared.job.JobSpec.{JobSpec}
+use Rattle.allocation_core.specs.declared.event.Event.{Event}
+use Rattle.allocation_core.specs.declared.event.Event.TheVariants.{Report}
+use Rattle.allocation_core.specs.declared.answer.Answer.TheVariants.{Booked}
+
+-- The Report that books an entry of a target.
+abbrev pub report_of : ℕ × Entry → Event
+report_of b = Report b.1.collector b.1.number b.0 b.1.round b.1.outcome
+
+-- A Report among the events booked the entry, in this place. Just before that event its collector was live, had last taken the
+-- allocation that the report names, and held the target there; and the round was the open one.
+pub record WasBooked (first : State) (events : List Event) (place : ℕ) (b : ℕ × Entry) : Type 0 where
+  pub earlier : List Event
+  pub later : List Event
+  pub split : events ≡ earlier ++ report_of b ∷ later
+  pub before : length (state_of first earlier).booked ≡ place
+  pub answered : answer_of (state_of first earlier) (report_of b) ≡ Booked
+  pub joined : is_joined (state_of first earlier) b.1.collector ≡ true
+  pub taken : taken_by (state_of first earlier).taken b.1.collector ≡ b.1.number
+  pub held : holder_in (state_of first earlier).published b.1.number b.0 ≡ Some b.1.collector
+  pub opened : (state_of first earlier).round ≡ b.1.round
+
+-- Each booked report was booked by these events as it should be, its collector holds the target in the allocation that it names,
+-- and the rounds of a target rise, so that no target and round is booked twice.
+pub record AllBooked (first : State) (events : List Event) (m : State) : Type 0 where
+  pub each : (place : ℕ) (b : ℕ × Entry) → slice_get m.booked place ≡ Some b → WasBooked first events place b
+  pub held : All (λ (b : ℕ × Entry). holder_in m.published b.1.number b.0 ≡ Some b.1.collector) m.booked
+  pub once : RoundsRise m.booked
+
+-- over every list of jobs and of events
+abbrev pub AlwaysBooked : Type 0
+AlwaysBooked = (jobs : List JobSpec) (events : List Event) → AllBooked (first_state jobs) events (state_of (first_state jobs) events)

@@ -1,0 +1,50 @@
+ghost use Rattle.std.specs.Prelude.{◌≡◌, IfOk, OnOk, OnErr};
+ghost use Rattle.allocation_core.specs.Steps.{answer_of, state_after};
+ghost use Rattle.allocation_core.specs.declared.event.Event.TheVariants.{NextRound, Take};
+
+use super::Core;
+use crate::answer::{Answer, Refusal};
+use crate::collectors::has_id;
+use handover::CollectorId;
+use std::alloc::AllocError;
+
+/// The last round.
+const LAST_ROUND: u32 = 4_294_967_295;
+
+impl Core {
+    /// The next round opens. It takes no memory.
+    #[tactic(auto, unfolding(crate::specs::Steps::answer_of, crate::specs::Steps::state_after))]
+    pub(super) fn next_round(&mut self) -> Answer
+        ensures answer { result ≡ answer_of self.old NextRound }
+        ensures state { self.new ≡ state_after self.old NextRound }
+    {
+        if self.round >= LAST_ROUND {
+            return Answer::Not(Refusal::RoundsSpent);
+        }
+        self.round += 1;
+        Answer::RoundOpen(self.round)
+    }
+
+    /// A collector takes the current allocation. Memory is wanted only after the check.
+    #[tactic(auto, unfolding(crate::specs::Steps::answer_of, crate::specs::Steps::state_after))]
+    pub(super) fn take(&mut self, id: CollectorId) -> Result<Answer, AllocError>
+        ensures answer { IfOk result (λ a. a ≡ answer_of self.old (Take id)) }
+        ensures state { OnOk result (self.new ≡ state_after self.old (Take id)) }
+        ensures err { OnErr result (self.new ≡ self.old) }
+    {
+        if !has_id(self.collectors.as_slice(), id) {
+            return Ok(Answer::Not(Refusal::UnknownCollector));
+        }
+        let held = self.held(id)?;
+        let number = self.holders.current();
+        if self.holders.take(id, number).is_err() {
+            return Err(AllocError);
+        }
+        let round = self.round;
+        Ok(Answer::Taken {
+            number,
+            round,
+            held,
+        })
+    }
+}
