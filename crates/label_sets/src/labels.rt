@@ -84,6 +84,14 @@ impl Labels {
         names_in(*self.entries.allocator(), self.entries.as_slice())
     }
 
+    /// All names with their texts, in byte order of the names. It takes no memory.
+    pub fn entries(&self) -> &[(LabelName, Text)]
+        ensures all { result.now ≡ self.now }
+        ensures set { IsLabelSet self.now }
+    {
+        self.entries.as_slice()
+    }
+
     /// The set as one compact JSON object, its members in byte order of the names.
     pub fn to_json(&self) -> Result<Text, AllocError>
         ensures { IfOk result (λ t. t ≡ labels_text self.now) }
@@ -112,13 +120,6 @@ impl Labels {
         keep_group_names(&mut self.entries);
     }
 
-    /// The entries, for the text of a target.
-    pub(crate) fn entries(&self) -> &[(LabelName, Text)]
-        ensures all { result.now ≡ self.now }
-        ensures set { IsLabelSet self.now }
-    {
-        self.entries.as_slice()
-    }
 }
 
 impl Plain for Labels {

@@ -1,4 +1,4 @@
--- Taking out one name after the other where it passes a test leaves the labels whose names do not.
+-- Taking out one after the other the names that pass a test leaves the labels whose names do not.
 use Rattle.std.proofs.Common.{◌≡◌, ℕ, Bool, true, false, not, ◌&&◌, ◌||◌, cond, List, [], ◌∷◌, filter, is_eq, refl, ap, ap₂, sym, ◌∙◌, drop, length, ◌≤◌}
 use Rattle.std.proofs.lemmas.List.{drop_all}
 use Rattle.std.specs.List.{list_any}
@@ -9,7 +9,7 @@ use Rattle.std.proofs.lemmas.Map.Views.{tells_apart}
 use mathlib.Core.Path.{fun_ext}
 use Rattle.label_sets.specs.Labels.{LabelList, byte_cmp, without, names_of}
 
-abbrev pub swept : (List ℕ → Bool) → List (List ℕ) → LabelList → LabelList
+abbrev swept : (List ℕ → Bool) → List (List ℕ) → LabelList → LabelList
 swept p [] labels = labels
 swept p (name ∷ names) labels = swept p names (cond (p name) (without labels name) labels)
 
@@ -97,20 +97,37 @@ swept_rest p names (l ∷ rest) h =
     let later = swept_rest p names rest (λ x is. h x (either (is_same l.0 x) _ is)) in
     ap₂ (λ (b : Bool) (kept : LabelList). cond (not b) (l ∷ kept) kept) here later
 
-pub swept_all : (p : List ℕ → Bool) (labels : LabelList) → swept p (names_of labels) labels ≡ filter (λ l. not (p l.0)) labels
+swept_all : (p : List ℕ → Bool) (labels : LabelList) → swept p (names_of labels) labels ≡ filter (λ l. not (p l.0)) labels
 swept_all p labels = swept_is p (names_of labels) labels ∙ swept_rest p (names_of labels) labels (λ x is. is)
 
--- once the names of a set are swept
-pub swept_end : (p : List ℕ → Bool) (names : List (List ℕ)) (i : ℕ) (old new : LabelList) → length names ≤ i → names ≡ names_of old →
-    swept p (drop i names) new ≡ swept p names old → new ≡ filter (λ l. not (p l.0)) old
-swept_end p names i old new past is h = (rw (drop_all i names past, is) at h) ∙ swept_all p old
+-- ---- the names that pass, collected first
+
+abbrev pub taken_out : List (List ℕ) → LabelList → LabelList
+taken_out [] labels = labels
+taken_out (name ∷ names) labels = taken_out names (without labels name)
+
+taken_out_by : (b : Bool) (p : List ℕ → Bool) (name : List ℕ) (rest names : List (List ℕ)) (labels : LabelList) →
+    ((others : LabelList) → taken_out rest others ≡ swept p names others) → taken_out (cond b (name ∷ rest) rest) labels ≡ swept p names (cond b (without labels name) labels)
+taken_out_by true p name rest names labels more = more (without labels name)
+taken_out_by false p name rest names labels more = more labels
+
+-- taking out those that pass is sweeping all
+taken_out_is : (p : List ℕ → Bool) (names : List (List ℕ)) (labels : LabelList) → taken_out (filter p names) labels ≡ swept p names labels
+taken_out_is p [] labels = refl
+taken_out_is p (name ∷ names) labels = taken_out_by (p name) p name (filter p names) names labels (taken_out_is p names)
+
+-- once the names that pass are taken out
+pub swept_end : (p : List ℕ → Bool) (names : List (List ℕ)) (i : ℕ) (old new : LabelList) → length names ≤ i → names ≡ filter p (names_of old) →
+    taken_out (drop i names) new ≡ taken_out names old → new ≡ filter (λ l. not (p l.0)) old
+swept_end p names i old new past is h =
+    (rw (drop_all i names past, is) at h) ∙ taken_out_is p (names_of old) old ∙ swept_all p old
 
 not_not : (b : Bool) → not (not b) ≡ b
 not_not true = refl
 not_not false = refl
 
 -- the same, where those that fail the test are taken out
-pub kept_end : (p : List ℕ → Bool) (names : List (List ℕ)) (i : ℕ) (old new : LabelList) → length names ≤ i → names ≡ names_of old →
-    swept (λ name. not (p name)) (drop i names) new ≡ swept (λ name. not (p name)) names old → new ≡ filter (λ l. p l.0) old
+pub kept_end : (p : List ℕ → Bool) (names : List (List ℕ)) (i : ℕ) (old new : LabelList) → length names ≤ i → names ≡ filter (λ name. not (p name)) (names_of old) →
+    taken_out (drop i names) new ≡ taken_out names old → new ≡ filter (λ l. p l.0) old
 kept_end p names i old new past is h =
     swept_end (λ name. not (p name)) names i old new past is h ∙ ap (λ f. filter f old) (fun_ext (λ (l : List ℕ × List ℕ). not_not (p l.0)))

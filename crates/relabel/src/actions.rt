@@ -27,8 +27,8 @@ impl<'r> Worker<'r> {
             Action::DropEqual => return Ok(!self.equals_target(alloc, labels)?),
             Action::HashMod => self.hash(alloc, labels)?,
             Action::LabelMap => self.map_labels(alloc, labels)?,
-            Action::LabelDrop => self.drop_labels(labels)?,
-            Action::LabelKeep => self.keep_labels(labels)?,
+            Action::LabelDrop => self.drop_labels(alloc, labels)?,
+            Action::LabelKeep => self.keep_labels(alloc, labels)?,
         }
         Ok(true)
     }

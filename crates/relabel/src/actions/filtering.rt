@@ -1,11 +1,13 @@
 //! Keeping and dropping, of targets and of labels.
-ghost use Rattle.std.specs.Prelude.{◌≡◌, IfOk, OnOk, not, filter};
+ghost use Rattle.std.specs.Prelude.{◌≡◌, IfOk, OnOk, not, filter, if◌then◌else◌};
+ghost use Rattle.label_sets.specs.Labels.{names_of};
 ghost use Rattle.relabel.specs.Patterns.{matches};
 ghost use Rattle.relabel.specs.Effect.{input_matches, input_is_target};
 
 use crate::input::input_of;
 use crate::worker::Worker;
-use label_sets::Labels;
+use label_sets::{LabelName, Labels};
+use lists::{List, Plain};
 use std::alloc::{AllocError, Global};
 
 impl<'r> Worker<'r> {
@@ -32,30 +34,53 @@ impl<'r> Worker<'r> {
     }
 
     /// Removes the labels whose names match.
-    pub(crate) fn drop_labels(&mut self, labels: &mut Labels) -> Result<(), AllocError>
+    pub(crate) fn drop_labels(
+        &mut self,
+        alloc: Global,
+        labels: &mut Labels,
+    ) -> Result<(), AllocError>
         ensures value { OnOk result (labels.new ≡ filter (λ l. not (matches self.old.pattern l.0)) labels.old) }
         ensures same { self.new ≡ self.old }
     {
-        let names = labels.names()?;
+        let names = self.names_where(alloc, labels, true)?;
         for name in names.as_slice() {
-            if self.matches(name.as_str()) {
-                labels.remove(name);
-            }
+            labels.remove(name);
         }
         Ok(())
     }
 
     /// Removes the labels whose names do not match.
-    pub(crate) fn keep_labels(&mut self, labels: &mut Labels) -> Result<(), AllocError>
+    pub(crate) fn keep_labels(
+        &mut self,
+        alloc: Global,
+        labels: &mut Labels,
+    ) -> Result<(), AllocError>
         ensures value { OnOk result (labels.new ≡ filter (λ l. matches self.old.pattern l.0) labels.old) }
         ensures same { self.new ≡ self.old }
     {
-        let names = labels.names()?;
+        let names = self.names_where(alloc, labels, false)?;
         for name in names.as_slice() {
-            if !self.matches(name.as_str()) {
-                labels.remove(name);
-            }
+            labels.remove(name);
         }
         Ok(())
+    }
+
+    /// The names that match, or those that do not.
+    fn names_where(
+        &mut self,
+        alloc: Global,
+        labels: &Labels,
+        matching: bool,
+    ) -> Result<List<LabelName>, AllocError>
+        ensures value { IfOk result (λ names. names ≡ filter (λ name. if matching then matches self.old.pattern name else not (matches self.old.pattern name)) (names_of labels.now)) }
+        ensures same { self.new ≡ self.old }
+    {
+        let mut names = List::new(alloc);
+        for entry in labels.entries() {
+            if self.matches(entry.0.as_str()) == matching {
+                names.push(entry.0.copy()?)?;
+            }
+        }
+        Ok(names)
     }
 }

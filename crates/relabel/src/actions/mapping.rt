@@ -28,10 +28,9 @@ impl<'r> Worker<'r> {
         ensures value { IfOk result (λ v. v ≡ filter_map (copy_of self.old labels.now) (names_of labels.now)) }
         ensures same { self.new ≡ self.old }
     {
-        let names = labels.names()?;
         let mut copies = List::new(alloc);
-        for name in names.as_slice() {
-            if let Some(copy) = self.copy_of(alloc, labels, name)? {
+        for entry in labels.entries() {
+            if let Some(copy) = self.copy_of(alloc, labels, &entry.0)? {
                 copies.push(copy)?;
             }
         }

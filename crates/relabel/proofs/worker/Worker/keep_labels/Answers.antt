@@ -5,4 +5,4 @@ use Rattle.relabel.proofs.worker.Worker.keep_labels.Goals as goal
 
 pub returns-clause-value : goal.returns-clause-value
 returns-clause-value c =
-    kept_end (matches c.args.self.now.pattern) _ _ _ _ c.loop-name-test.false (c.as_slice-name-items.ensures ∙ c.in_ok-names.ensures.names) c.loop-name.invariant.swept
+    kept_end (matches c.args.self.now.pattern) _ _ _ _ c.loop-name-test.false (c.as_slice-name-items.ensures ∙ c.in_ok-names.ensures.value) c.loop-name.invariant
