@@ -138,7 +138,7 @@ impl Holders {
         ensures not_spent { result ≢ Err HoldersError.NumbersSpent }
         ensures err { OnErr result (self.new ≡ self.old) }
     {
-        if self.current() < number {
+        if number > self.current() {
             return Err(HoldersError::UnknownNumber);
         }
         self.taken
