@@ -76,11 +76,11 @@ is_beside pairs target collector = holds (beside pairs target) collector
 abbrev pub without : List (ℕ × ℕ) → List (ℕ × ℕ) → List (ℕ × ℕ)
 without others pairs = filter (λ (q : ℕ × ℕ). not (is_beside others q.0 q.1)) pairs
 
--- the last number of a span is given already, or the span is open
+-- a span with this last number ended before the current number, or is open
 abbrev pub HasEnd : ℕ → ℕ → Type 0
 HasEnd number last = (last < number) ⊎ (last ≡ 4294967295)
 
--- the spans lie between a number and the current one, one after another, and the last alone may be open
+-- the spans begin after one number and up to the current one, each after the end of the one before. So the last alone may be open
 abbrev pub AreSpans : ℕ → ℕ → List Span → Type 0
 AreSpans number after [] = Unit {0}
 AreSpans number after (span ∷ spans) = (after < span.first) × (span.first ≤ span.last) × (span.first ≤ number) × HasEnd number span.last × AreSpans number span.last spans
