@@ -18,7 +18,7 @@ for n in $(seq "$first" "$last"); do
     fi
     # a failed test whose lines name no want of memory
     others=$(awk '/^test /{ if (name != "" && !ok) print name; name = $2; ok = / ok$/ ; next }
-        /AllocError|AllocFailed|Memory|no memory|OutOfMemory/ { ok = 1 }
+        /AllocError|AllocFailed|Memory|no memory|out of memory|OutOfMemory/ { ok = 1 }
         /^test result/ { if (name != "" && !ok) print name; name = "" }' <<< "$log" | grep -v '^result' )
     if [ -n "$others" ]; then
         echo "N=$n: failed for another cause:" $others

@@ -24,3 +24,16 @@ left_none first last text left h e = subst (Appends first last) (sym (h.split �
 
 pub part_kept : (first between last : Option (List ℕ)) (text : List ℕ) → AppendsPart first between text → Keeps between last → AppendsPart first last text
 part_kept first between last text (left, h) k = (left, left_kept first between last text left h k)
+
+-- a first part of a text is one of a longer text
+pub part_longer : (first last : Option (List ℕ)) (text more : List ℕ) → AppendsPart first last text → AppendsPart first last (text ++ more)
+part_longer first last text more (left, h) =
+    (left ++ more, record { written = h.written; split = ap (λ l. l ++ more) h.split ∙ append_assoc h.written left more; grown = h.grown })
+
+-- a text, and then a first part of another
+pub part_after : (first between last : Option (List ℕ)) (text more : List ℕ) → Appends first between text → AppendsPart between last more → AppendsPart first last (text ++ more)
+part_after first between last text more whole (left, h) =
+    (left, record { written = text ++ h.written; split = ap (λ l. text ++ l) h.split ∙ sym (append_assoc text h.written left); grown = Appends-trans first between last text h.written whole h.grown })
+
+pub part_whole : (first last : Option (List ℕ)) (text : List ℕ) → Appends first last text → AppendsPart first last text
+part_whole first last text whole = ([], record { written = text; split = sym (append-nil text); grown = whole })

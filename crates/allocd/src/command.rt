@@ -4,7 +4,7 @@ ghost use Rattle.std.specs.Prelude.{◌≡◌, ◌≤◌, ◌≢◌, ◌↔◌, 
 ghost use Rattle.std.specs.Io.KnownBytes.{Appends};
 ghost use Rattle.allocd.specs.Check.{ChecksTo, ChecksPart};
 ghost use Rattle.allocd.specs.Plan.{PlansTo, PlansPart};
-ghost use Rattle.allocd.specs.Replay.{ReplaysTo};
+ghost use Rattle.allocd.specs.Replay.{ReplaysTo, ReplaysPart};
 ghost use Rattle.allocd.specs.Relabelling.{RelabelsTo, RelabelsPart};
 ghost use Rattle.allocd.specs.Writing.{AppendsPart};
 ghost use Rattle.allocd.specs.Commands.{Names, NamesNone, usage};
@@ -36,6 +36,7 @@ pub fn run<R: Read, W: Write>(
     ensures unread { NamesNone arguments.now → R.remaining reader.new ≡ R.remaining reader.old }
     ensures check_part { Names arguments.now (codes "check") → ChecksPart (R.remaining reader.old) (W.contents writer.old) (W.contents writer.new) }
     ensures plan_part { Names arguments.now (codes "plan") → PlansPart (R.remaining reader.old) (W.contents writer.old) (W.contents writer.new) }
+    ensures replay_part { Names arguments.now (codes "replay") → ReplaysPart (R.remaining reader.old) (W.contents writer.old) (W.contents writer.new) }
     ensures relabel_part { Names arguments.now (codes "relabel") → RelabelsPart (R.remaining reader.old) (W.contents writer.old) (W.contents writer.new) }
     ensures usage_part { NamesNone arguments.now → AppendsPart (W.contents writer.old) (W.contents writer.new) usage }
     ensures usage { NamesNone arguments.now → result ≢ 3 → (result ≡ 2) × Appends (W.contents writer.old) (W.contents writer.new) usage }

@@ -40,7 +40,7 @@ pub fn write_bytes<W: Write>(writer: &mut W, bytes: &[u8], status: u8) -> u8
 
 /// Writes the bytes, and says whether the writer took them all. A write that was interrupted is made again; any other
 /// that fails, or that takes nothing, is the last.
-fn write_whole<W: Write>(writer: &mut W, bytes: &[u8]) -> bool
+pub(crate) fn write_whole<W: Write>(writer: &mut W, bytes: &[u8]) -> bool
     ensures whole { IsTrue result → Appends (W.contents writer.old) (W.contents writer.new) bytes.now }
     ensures part { AppendsPart (W.contents writer.old) (W.contents writer.new) bytes.now }
 {

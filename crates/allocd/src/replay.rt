@@ -3,10 +3,11 @@
 ghost use Rattle.std.specs.Prelude.{◌≡◌, ◌≤◌, ◌≢◌, ◌++◌, IfSome, codes, length};
 ghost use Rattle.std.specs.Io.KnownBytes.{Appends};
 ghost use Rattle.allocd.specs.Reading.{most_input};
-ghost use Rattle.allocd.specs.Replay.{EndsAs, ReplaysTo, ended_status};
+ghost use Rattle.allocd.specs.Replay.{EndsAs, ReplaysTo, ReplaysPart, ended_status};
+ghost use Rattle.allocd.specs.Writing.{AppendsPart};
 
 use crate::input::{Input, Stop, read_input};
-use crate::output::{FAILED, write_bytes};
+use crate::output::{FAILED, write_bytes, write_whole};
 use replay_lines::{Ended, replay};
 use std::alloc::Global;
 use std::io::{Read, Write};
@@ -31,6 +32,7 @@ pub enum Ending {
 pub fn run_replay<R: Read, W: Write>(alloc: Global, reader: &mut R, writer: &mut W) -> u8
     ensures most { result ≤ 3 }
     ensures writes { result ≢ 3 → ReplaysTo (R.remaining reader.old) (W.contents writer.old) (W.contents writer.new) result }
+    ensures part { ReplaysPart (R.remaining reader.old) (W.contents writer.old) (W.contents writer.new) }
 {
     match replay_all(alloc, reader, writer) {
         Ending::Answered(ended) => status_of(ended),
@@ -69,8 +71,9 @@ fn replay_bytes<W: Write>(alloc: Global, bytes: &[u8], writer: &mut W) -> Ending
 fn write_stopped<W: Write>(writer: &mut W, text: &[u8]) -> Ending
     ensures either { result ≢ Ending.Unwritten → result ≡ Ending.Memory }
     ensures wrote { result ≢ Ending.Unwritten → Appends (W.contents writer.old) (W.contents writer.new) (text.now ++ codes "memory\n") }
+    ensures part { AppendsPart (W.contents writer.old) (W.contents writer.new) (text.now ++ codes "memory\n") }
 {
-    if writer.write_all(text).is_err() {
+    if !write_whole(writer, text) {
         return Ending::Unwritten;
     }
     write_last(writer, MEMORY, Ending::Memory)
@@ -80,6 +83,7 @@ fn write_stopped<W: Write>(writer: &mut W, text: &[u8]) -> Ending
 fn write_last<W: Write>(writer: &mut W, text: &[u8], ending: Ending) -> Ending
     ensures either { result ≢ Ending.Unwritten → result ≡ ending }
     ensures wrote { result ≢ Ending.Unwritten → Appends (W.contents writer.old) (W.contents writer.new) text.now }
+    ensures part { AppendsPart (W.contents writer.old) (W.contents writer.new) text.now }
 {
     if write_bytes(writer, text, 0) == FAILED {
         return Ending::Unwritten;

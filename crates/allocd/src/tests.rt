@@ -309,13 +309,23 @@ impl Read for BreaksAt {
 }
 
 #[test]
-fn a_read_that_fails_is_the_device(rt: HostRuntime) {
+fn a_read_that_fails_is_the_device(rt: HostRuntime) -> Result<(), &'static str> {
     for reads in 0..3 {
         let mut written: Vec<u8> = Vec::new(rt.alloc());
         let ended = run_check(rt.alloc(), &mut BreaksAt(reads), &mut written);
-        assert_eq!(rt; written.as_slice(), b"device\n".as_slice());
-        assert_eq!(rt; ended, 3);
+        is_device(&rt, written.as_slice(), ended)?;
     }
+    Ok(())
+}
+
+/// The device failed, unless no memory was found before.
+fn is_device(rt: &impl Abort, written: &[u8], ended: u8) -> Result<(), &'static str> {
+    assert_eq!(rt; ended, 3);
+    if written == b"memory\n".as_slice() {
+        return Err("no memory");
+    }
+    assert_eq!(rt; written, b"device\n".as_slice());
+    Ok(())
 }
 
 /// Is interrupted at every other read.

@@ -23,7 +23,10 @@ fn reach_of(alloc: Global, text: &str) -> Result<Reach, Fail> {
 
 fn refusal_of(alloc: Global, text: &str) -> Result<Option<ReachError>, Fail> {
     let value = Value::from_str(alloc, text)?;
-    Ok(Reach::read(alloc, &value).err())
+    match Reach::read(alloc, &value).err() {
+        Some(ReachError::Memory) => Err("no memory")?,
+        refusal => Ok(refusal),
+    }
 }
 
 /// The rules, and whether they reach a target of zone x and one of no zone.

@@ -1,5 +1,5 @@
 //! Labels and rules through the program's streams.
-use super::{BreaksAt, Endless, FailsAt};
+use super::{BreaksAt, Endless, FailsAt, is_device};
 use crate::relabelling::run_relabel;
 use std::alloc::Global;
 use std::process::Abort;
@@ -115,11 +115,10 @@ fn labels_past_the_limit_are_too_long(rt: HostRuntime) -> Result<(), &'static st
 }
 
 #[test]
-fn labels_whose_reader_fails_are_the_device(rt: HostRuntime) {
+fn labels_whose_reader_fails_are_the_device(rt: HostRuntime) -> Result<(), &'static str> {
     let mut written: Vec<u8> = Vec::new(rt.alloc());
     let ended = run_relabel(rt.alloc(), &mut BreaksAt(2), &mut written);
-    assert_eq!(rt; written.as_slice(), b"device\n".as_slice());
-    assert_eq!(rt; ended, 3);
+    is_device(&rt, written.as_slice(), ended)
 }
 
 #[test]

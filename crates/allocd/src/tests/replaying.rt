@@ -1,5 +1,5 @@
 //! Replays through the program's streams.
-use super::{BreaksAt, Endless, FailsAt};
+use super::{BreaksAt, Endless, FailsAt, is_device};
 use crate::replay::{Ending, replay_all, run_replay};
 use std::process::Abort;
 
@@ -54,11 +54,10 @@ fn an_unreadable_line_ends_a_replay(rt: HostRuntime) -> Result<(), &'static str>
 }
 
 #[test]
-fn a_replay_whose_reader_fails_is_the_device(rt: HostRuntime) {
+fn a_replay_whose_reader_fails_is_the_device(rt: HostRuntime) -> Result<(), &'static str> {
     let mut written: Vec<u8> = Vec::new(rt.alloc());
     let ended = run_replay(rt.alloc(), &mut BreaksAt(2), &mut written);
-    assert_eq!(rt; written.as_slice(), b"device\n".as_slice());
-    assert_eq!(rt; ended, 3);
+    is_device(&rt, written.as_slice(), ended)
 }
 
 #[test]
