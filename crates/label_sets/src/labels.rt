@@ -119,7 +119,6 @@ impl Labels {
     {
         keep_group_names(&mut self.entries);
     }
-
 }
 
 impl Plain for Labels {
