@@ -3,15 +3,21 @@ mod finding;
 mod reading;
 
 use crate::{Relabelled, RuleError, Rules, RulesError};
+use json_values::parse;
 use label_sets::{Finished, Labels, finish};
 use serde_json::Value;
 use std::alloc::{AllocError, Global};
 use std::test::Fail;
 
+/// The value of a JSON text. Want of memory is passed on.
+fn json_in(alloc: Global, text: &str) -> Result<Value, Fail> {
+    Ok(parse(alloc, text.as_bytes())?.ok_or("no JSON")?)
+}
+
 /// The labels of a JSON object.
 fn labels_in(alloc: Global, text: &str) -> Result<Labels, Fail> {
     let mut labels = Labels::new(alloc);
-    let value = Value::from_str(alloc, text)?;
+    let value = json_in(alloc, text)?;
     let members = value.as_object().ok_or("no object")?;
     for (name, value) in members.iter() {
         labels.set(name.as_str(), value.as_str().ok_or("no text")?)?;
@@ -21,7 +27,7 @@ fn labels_in(alloc: Global, text: &str) -> Result<Labels, Fail> {
 
 /// The rules of a JSON array, or their refusal. Want of memory is passed on.
 fn rules_in(alloc: Global, text: &str) -> Result<Result<Rules, RulesError>, Fail> {
-    let value = Value::from_str(alloc, text)?;
+    let value = json_in(alloc, text)?;
     let values = value.as_array().ok_or("no array")?;
     match Rules::read(alloc, values.as_slice()) {
         Err(
