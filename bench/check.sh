@@ -5,28 +5,14 @@ set -eu
 root=$(cd "$(dirname "$0")/.." && pwd)
 runs=${1:-5}
 document=$(mktemp)
-trap 'rm -f "$document" "$document.time"' EXIT
+trap 'rm -f "$document"' EXIT
 python3 "$root/bench/dense_document.py" > "$document"
 "$root/allocd" check < "$root/examples/one-of-two.json" > /dev/null
 (cd "$root/crates/json_alone" && rt run < stdin > /dev/null 2>&1)
 
-# least seconds and most kilobytes of the runs of a command on the document
+# least seconds and most megabytes of the runs of a command on the document
 measure() {
-    python3 - "$document" "$runs" "$@" <<'PY'
-import os, subprocess, sys
-document, runs, command = sys.argv[1], int(sys.argv[2]), sys.argv[3:]
-least, most = None, 0
-for _ in range(runs):
-    with open(document, "rb") as text:
-        process = subprocess.Popen(command, stdin=text, stdout=subprocess.DEVNULL)
-        _, status, usage = os.wait4(process.pid, 0)
-        seconds = usage.ru_utime + usage.ru_stime
-    if os.waitstatus_to_exitcode(status) != 0:
-        sys.exit(f"{command}: status {status}")
-    least = seconds if least is None else min(least, seconds)
-    most = max(most, usage.ru_maxrss)
-print(f"{least:.3f} {most / 1024:.0f}")
-PY
+    python3 "$root/bench/measure.py" "$document" "$runs" "$@"
 }
 
 read -r json_seconds json_memory < <(measure "$root/crates/json_alone/out/json_alone")

@@ -4,6 +4,8 @@ Every collector reaches every target, so 4,194,304 pairs are allowed; a collecto
 
 usage: full_fleet.py replay         the lines for `allocd replay`
        full_fleet.py certificate    the document of the same instance and plan, for `allocd check`
+       full_fleet.py rounds         the replay's lines, a take by each collector, and then as many rounds of reports, one for
+                                    each target by the collector that holds it, as `allocd replay` reads
 """
 import json
 import sys
@@ -11,14 +13,19 @@ import sys
 COLLECTORS, JOBS, TARGETS = 256, 16, 16384
 EACH = TARGETS // JOBS
 LIMIT = EACH // COLLECTORS
+INPUT_BYTES = 67_108_864
 
 
 def compact(value):
     return json.dumps(value, separators=(",", ":"))
 
 
+def holder(t):
+    return t % EACH % COLLECTORS
+
+
 def plan():
-    pairs = [[t, (t % EACH % COLLECTORS) * JOBS + t // EACH] for t in range(TARGETS)]
+    pairs = [[t, holder(t) * JOBS + t // EACH] for t in range(TARGETS)]
     return {"pairs": pairs, "item_prices": [TARGETS + 1] * TARGETS, "bin_prices": [0] * (COLLECTORS * JOBS)}
 
 
@@ -30,6 +37,26 @@ def replay():
         targets = [{"labels": {"zone": f"z{t % 4}"}, "targets": [f"10.{j}.{t // 256}.{t % 256}:9100"]} for t in range(EACH)]
         yield {"event": "discover", "job": f"job-{j}", "source": 0, "targets": targets}
     yield {"event": "install", **plan()}
+
+
+def report(t, round_number):
+    return {"event": "report", "collector": holder(t) + 1, "number": 1, "target": t, "round": round_number, "up": True, "samples": t % 1000}
+
+
+# the lines of the rounds that fit the input, each with its line feed
+def rounds():
+    start = [compact(line) + "\n" for line in replay()]
+    start += [compact({"event": "take", "collector": c + 1}) + "\n" for c in range(COLLECTORS)]
+    yield from start
+    left, round_number = INPUT_BYTES - sum(map(len, start)), 1
+    while True:
+        lines = [] if round_number == 1 else [compact({"event": "round"}) + "\n"]
+        lines += [compact(report(t, round_number)) + "\n" for t in range(TARGETS)]
+        left -= sum(map(len, lines))
+        if left < 0:
+            return
+        yield from lines
+        round_number += 1
 
 
 def certificate():
@@ -45,6 +72,8 @@ def main():
             print(compact(line))
     elif which == "certificate":
         print(compact(certificate()))
+    elif which == "rounds":
+        sys.stdout.writelines(rounds())
     else:
         sys.exit(__doc__)
 

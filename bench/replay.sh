@@ -13,21 +13,7 @@ python3 "$root/bench/full_fleet.py" certificate > "$folder/check"
 
 # least seconds and most megabytes of the runs of a command on the file of its name
 measure() {
-    python3 - "$folder/$1" "$runs" "$root/crates/allocd/out/allocd" "$1" <<'PY'
-import os, subprocess, sys
-source, runs, command = sys.argv[1], int(sys.argv[2]), sys.argv[3:]
-least, most = None, 0
-for _ in range(runs):
-    with open(source, "rb") as text:
-        process = subprocess.Popen(command, stdin=text, stdout=subprocess.DEVNULL)
-        _, status, usage = os.wait4(process.pid, 0)
-    if os.waitstatus_to_exitcode(status) != 0:
-        sys.exit(f"{command}: status {status}")
-    seconds = usage.ru_utime + usage.ru_stime
-    least = seconds if least is None else min(least, seconds)
-    most = max(most, usage.ru_maxrss)
-print(f"{least:.3f} {most / 1024:.0f}")
-PY
+    python3 "$root/bench/measure.py" "$folder/$1" "$runs" "$root/crates/allocd/out/allocd" "$1"
 }
 
 read -r check_seconds check_memory < <(measure check)
