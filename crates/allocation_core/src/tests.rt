@@ -1,3 +1,5 @@
+mod memory;
+
 use crate::{Core, Event, JobSpec, answers_fit, published_are_best, run};
 use label_sets::{Finished, Labels, Target, finish};
 use lists::{List, Plain, Text};
