@@ -68,3 +68,10 @@ abbrev pub needs_no_memory : Event → Bool
 needs_no_memory (Leave id) = true
 needs_no_memory NextRound = true
 needs_no_memory _ = false
+
+-- the events that want memory only where nothing is against them
+abbrev pub checks_first : Event → Bool
+checks_first (Join name reach) = true
+checks_first (Take id) = true
+checks_first (Report collector number target round outcome) = true
+checks_first _ = false

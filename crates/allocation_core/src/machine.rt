@@ -2,8 +2,8 @@ ghost use Rattle.std.specs.Prelude.{◌≡◌, ◌↔◌, ◌+◌, Some, None, O
 ghost use Rattle.scrape_books.specs.Books.{total_of};
 ghost use Rattle.allocation_core.specs.State.{first_state, current_of, held_by, id_named};
 ghost use Rattle.allocation_core.specs.Jobs.{are_jobs};
-ghost use Rattle.allocation_core.specs.Steps.{answer_of, state_after, gained};
-ghost use Rattle.allocation_core.specs.Answers.{needs_no_memory};
+ghost use Rattle.allocation_core.specs.Steps.{answer_of, refusal_of, state_after, gained};
+ghost use Rattle.allocation_core.specs.Answers.{checks_first, needs_no_memory};
 
 mod discovering;
 mod installing;
@@ -89,6 +89,7 @@ impl Core {
         ensures total { IfOk result (λ a. total_of self.new.booked ≡ total_of self.old.booked + gained event a) }
         ensures err { OnErr result (self.new ≡ self.old) }
         ensures memory { needs_no_memory event ≡ true → IsOk result }
+        ensures late { checks_first event ≡ true → OnErr result (refusal_of self.old event ≡ None) }
     {
         match event {
             Event::Discover {

@@ -1,5 +1,5 @@
-ghost use Rattle.std.specs.Prelude.{◌≡◌, IfOk, OnOk, OnErr};
-ghost use Rattle.allocation_core.specs.Steps.{answer_of, state_after};
+ghost use Rattle.std.specs.Prelude.{◌≡◌, None, IfOk, OnOk, OnErr};
+ghost use Rattle.allocation_core.specs.Steps.{answer_of, refusal_of, state_after};
 ghost use Rattle.allocation_core.specs.declared.event.Event.TheVariants.{Join, Leave};
 
 use super::Core;
@@ -25,6 +25,7 @@ impl Core {
         ensures answer { IfOk result (λ a. a ≡ answer_of self.old (Join name reach)) }
         ensures state { OnOk result (self.new ≡ state_after self.old (Join name reach)) }
         ensures err { OnErr result (self.new ≡ self.old) }
+        ensures late { OnErr result (refusal_of self.old (Join name reach) ≡ None) }
     {
         if let Some(id) = id_named(self.collectors.as_slice(), name.as_str()) {
             return Ok(Answer::Not(Refusal::AlreadyJoined(id)));

@@ -1,5 +1,5 @@
-ghost use Rattle.std.specs.Prelude.{◌≡◌, IfOk, OnOk, OnErr};
-ghost use Rattle.allocation_core.specs.Steps.{answer_of, state_after, report_refusal, round_refusal};
+ghost use Rattle.std.specs.Prelude.{◌≡◌, None, IfOk, OnOk, OnErr};
+ghost use Rattle.allocation_core.specs.Steps.{answer_of, refusal_of, state_after, report_refusal, round_refusal};
 ghost use Rattle.allocation_core.specs.declared.event.Event.TheVariants.{Report};
 
 use super::Core;
@@ -23,6 +23,7 @@ impl Core {
         ensures answer { IfOk result (λ a. a ≡ answer_of self.old (Report collector number target round outcome)) }
         ensures state { OnOk result (self.new ≡ state_after self.old (Report collector number target round outcome)) }
         ensures err { OnErr result (self.new ≡ self.old) }
+        ensures late { OnErr result (refusal_of self.old (Report collector number target round outcome) ≡ None) }
     {
         if !has_id(self.collectors.as_slice(), collector) {
             return Ok(Answer::Not(Refusal::UnknownCollector));

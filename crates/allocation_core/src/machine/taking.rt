@@ -1,5 +1,5 @@
-ghost use Rattle.std.specs.Prelude.{◌≡◌, IfOk, OnOk, OnErr};
-ghost use Rattle.allocation_core.specs.Steps.{answer_of, state_after};
+ghost use Rattle.std.specs.Prelude.{◌≡◌, None, IfOk, OnOk, OnErr};
+ghost use Rattle.allocation_core.specs.Steps.{answer_of, refusal_of, state_after};
 ghost use Rattle.allocation_core.specs.declared.event.Event.TheVariants.{NextRound, Take};
 
 use super::Core;
@@ -31,6 +31,7 @@ impl Core {
         ensures answer { IfOk result (λ a. a ≡ answer_of self.old (Take id)) }
         ensures state { OnOk result (self.new ≡ state_after self.old (Take id)) }
         ensures err { OnErr result (self.new ≡ self.old) }
+        ensures late { OnErr result (refusal_of self.old (Take id) ≡ None) }
     {
         if !has_id(self.collectors.as_slice(), id) {
             return Ok(Answer::Not(Refusal::UnknownCollector));
