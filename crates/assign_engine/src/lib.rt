@@ -11,6 +11,7 @@ mod reprice;
 mod search;
 mod seating;
 mod start;
+mod walks;
 #[cfg(test)]
 mod tests;
 
