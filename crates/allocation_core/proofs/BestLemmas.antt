@@ -25,6 +25,7 @@ use Rattle.allocation_core.specs.declared.job.JobSpec.{JobSpec}
 use Rattle.allocation_core.proofs.LiveLemmas.{length-chosen}
 use Rattle.allocation_core.proofs.Shapes.{parts_shaped, bin_below, length-limits}
 use Rattle.allocation_core.proofs.StepLemmas.{step_kept, start_kept, publishes, Publishes}
+use Rattle.allocation_core.proofs.RunLemmas.{state_of_append}
 
 none_some : (b : ℕ) → ◌≡◌ {A = Option ℕ} None (Some b) → {X : Type 0} → X
 none_some b e = cc
@@ -169,3 +170,10 @@ best_after jobs events done left old new opened split is =
     let same : new ≡ state_of (first_state jobs) done = is ∙ ap (λ (m : State). state_of m done) opened in
     subst (λ (m : State). AllBest (first_state jobs) events m) (sym same)
     (λ place less. farther (first_state jobs) events done left place (get_or (state_of (first_state jobs) done).published place []) split (always_best jobs done place less))
+
+-- the same, after earlier events
+pub best_after_earlier : (jobs : List JobSpec) (earlier events done left : List Event) (old new : State) → old ≡ state_of (first_state jobs) earlier → events ≡ done ++ left → new ≡ state_of old done → AllBest (first_state jobs) (earlier ++ events) new
+best_after_earlier jobs earlier events done left old new reached split is =
+    best_after jobs (earlier ++ events) (earlier ++ done) left (first_state jobs) new refl
+    (ap (λ (es : List Event). earlier ++ es) split ∙ sym (append_assoc earlier done left))
+    (is ∙ ap (λ (m : State). state_of m done) reached ∙ sym (state_of_append (first_state jobs) earlier done))

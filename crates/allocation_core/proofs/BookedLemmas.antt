@@ -30,6 +30,7 @@ use Rattle.allocation_core.specs.declared.answer.Refusal.{Refusal}
 use Rattle.allocation_core.proofs.Admission.{Admitted, admitted}
 use Rattle.allocation_core.proofs.BestLemmas.{Grows, step_grows}
 use Rattle.allocation_core.proofs.StepLemmas.{step_kept, start_kept}
+use Rattle.allocation_core.proofs.RunLemmas.{state_of_append}
 
 -- an event books nothing, or it is a Report that nothing is against
 pub record Books (m : State) (e : Event) : Type 0 where
@@ -264,3 +265,10 @@ nothing_against m collector number target round outcome joined free = cond-true 
 pub booked_answer : (m : State) (collector number target round : ℕ) (outcome : Outcome) → is_joined m collector ≡ true → report_refusal m collector number target round ≡ None → Booked ≡ answer_of m (Report collector number target round outcome)
 unfolding answer_of
 booked_answer m collector number target round outcome joined free = ap (λ (o : Option Refusal). answer_by o Booked) (sym (nothing_against m collector number target round outcome joined free))
+
+-- the same, after earlier events
+pub booked_after_earlier : (jobs : List JobSpec) (earlier events done left : List Event) (old new : State) → old ≡ state_of (first_state jobs) earlier → events ≡ done ++ left → new ≡ state_of old done → AllBooked (first_state jobs) (earlier ++ events) new
+booked_after_earlier jobs earlier events done left old new reached split is =
+    booked_after jobs (earlier ++ events) (earlier ++ done) left (first_state jobs) new refl
+    (ap (λ (es : List Event). earlier ++ es) split ∙ sym (append_assoc earlier done left))
+    (is ∙ ap (λ (m : State). state_of m done) reached ∙ sym (state_of_append (first_state jobs) earlier done))

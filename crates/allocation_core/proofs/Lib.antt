@@ -15,3 +15,4 @@ pub mod CountLemmas
 pub mod FitLemmas
 pub mod PairLemmas
 pub mod TransferLemmas
+pub mod InstalledLemmas

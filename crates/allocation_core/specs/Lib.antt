@@ -10,3 +10,4 @@ pub mod Live
 pub mod Runs
 pub mod State
 pub mod Steps
+pub mod Installed

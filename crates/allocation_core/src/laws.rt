@@ -3,6 +3,7 @@ ghost use Rattle.allocation_core.specs.Steps.{answer_of};
 ghost use Rattle.allocation_core.specs.Answers.{IsAnswerTo};
 ghost use Rattle.allocation_core.specs.Best.{AlwaysBest};
 ghost use Rattle.allocation_core.specs.Booked.{AlwaysBooked};
+ghost use Rattle.allocation_core.specs.Installed.{CertifiedAreInstalled};
 ghost use Rattle.allocation_core.specs.declared.event.Event.{Event};
 
 /// Over every list of events, each published allocation is the best of the moment just before its Install. It is sound:
@@ -22,4 +23,10 @@ pub fn booked_by_holders()
 /// Each event has only answers of its kind.
 pub fn answers_fit()
     ensures { (m : State) (event : Event) → IsAnswerTo event (answer_of m event) }
+{}
+
+/// Over every list of events, an Install of a plan that is certified for the instance of the moment is published, unless its
+/// pairs are those of the current allocation or the last number is given.
+pub fn certified_are_installed()
+    ensures { CertifiedAreInstalled }
 {}

@@ -4,6 +4,7 @@ ghost use Rattle.allocation_core.specs.State.{first_state, current_of, held_by, 
 ghost use Rattle.allocation_core.specs.Jobs.{are_jobs};
 ghost use Rattle.allocation_core.specs.Steps.{answer_of, refusal_of, state_after, gained};
 ghost use Rattle.allocation_core.specs.Answers.{checks_first, needs_no_memory};
+ghost use Rattle.allocation_core.specs.Installed.{IsAnswerToCertified};
 
 mod discovering;
 mod installing;
@@ -89,6 +90,7 @@ impl Core {
         ensures total { IfOk result (λ a. total_of self.new.booked ≡ total_of self.old.booked + gained event a) }
         ensures err { OnErr result (self.new ≡ self.old) }
         ensures memory { needs_no_memory event ≡ true → IsOk result }
+        ensures certified { IfOk result (IsAnswerToCertified self.old event) }
         ensures late { checks_first event ≡ true → OnErr result (refusal_of self.old event ≡ None) }
     {
         match event {

@@ -1,9 +1,11 @@
-ghost use Rattle.std.specs.Prelude.{◌≡◌, List, IfOk, IfErr, OnOk};
+ghost use Rattle.std.specs.Prelude.{◌≡◌, ◌++◌, List, IfOk, IfErr, OnOk};
 ghost use Rattle.allocation_core.specs.declared.job.JobSpec.{JobSpec};
 ghost use Rattle.allocation_core.specs.State.{first_state};
 ghost use Rattle.allocation_core.specs.Best.{AllBest};
 ghost use Rattle.allocation_core.specs.Booked.{AllBooked};
 ghost use Rattle.allocation_core.specs.Runs.{answers_of, state_of, StopsAt};
+
+ghost use Rattle.allocation_core.specs.declared.event.Event.{Event};
 
 use crate::answer::Answer;
 use crate::event::Event;
@@ -21,8 +23,8 @@ pub struct Stopped {
 pub fn run(core: &mut Core, events: Vec<Event>) -> Result<Vec<Answer>, Stopped>
     ensures answers { IfOk result (λ v. v.items ≡ answers_of core.old events.items) }
     ensures state { OnOk result (core.new ≡ state_of core.old events.items) }
-    ensures best { (jobs : List JobSpec) → core.old ≡ first_state jobs → AllBest (first_state jobs) events.items core.new }
-    ensures booked { (jobs : List JobSpec) → core.old ≡ first_state jobs → AllBooked (first_state jobs) events.items core.new }
+    ensures best { (jobs : List JobSpec) (earlier : List Event) → core.old ≡ state_of (first_state jobs) earlier → AllBest (first_state jobs) (earlier ++ events.items) core.new }
+    ensures booked { (jobs : List JobSpec) (earlier : List Event) → core.old ≡ state_of (first_state jobs) earlier → AllBooked (first_state jobs) (earlier ++ events.items) core.new }
     ensures stopped { IfErr result (λ s. StopsAt core.old events.items s.answers.items core.new) }
 {
     let mut answers = Vec::new(*events.allocator());

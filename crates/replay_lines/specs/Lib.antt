@@ -3,3 +3,4 @@ pub mod Events
 pub mod Configurations
 pub mod Replays
 pub mod Lines
+pub mod AsRuns

@@ -2,6 +2,7 @@ ghost use Rattle.std.specs.Prelude.{◌≡◌, IfOk, OnOk, OnErr};
 ghost use Rattle.price_certificate.specs.Faults.{fault_of};
 ghost use Rattle.allocation_core.specs.Instances.{instance_of, allocation_of};
 ghost use Rattle.allocation_core.specs.Steps.{answer_of, state_after};
+ghost use Rattle.allocation_core.specs.Installed.{IsCertifiedNow, IsInstalled};
 ghost use Rattle.allocation_core.specs.declared.event.Event.TheVariants.{Install};
 
 use super::Core;
@@ -50,11 +51,12 @@ impl Core {
     }
 
     /// A plan is published, where the check against the instance of this moment finds no fault.
-    #[tactic(auto, unfolding(crate::specs::Steps::answer_of, crate::specs::Steps::state_after))]
+    #[tactic(auto, using(crate::proofs::InstalledLemmas::installed), unfolding(crate::specs::Steps::answer_of, crate::specs::Steps::state_after))]
     pub(super) fn install(&mut self, plan: Plan) -> Result<Answer, AllocError>
         ensures answer { IfOk result (λ a. a ≡ answer_of self.old (Install plan)) }
         ensures state { OnOk result (self.new ≡ state_after self.old (Install plan)) }
         ensures err { OnErr result (self.new ≡ self.old) }
+        ensures certified { IsCertifiedNow self.old plan → IfOk result (IsInstalled self.old) }
     {
         let instance = self.instance()?;
         if let Some(fault) = fault_in(self.alloc, &instance, &plan)? {

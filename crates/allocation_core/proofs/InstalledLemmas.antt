@@ -1,0 +1,40 @@
+-- An Install of a certified plan is refused by no fault.
+use Rattle.std.proofs.Common.{◌≡◌, ◌+◌, List, [], ◌∷◌, Option, Some, None, Bool, true, false, refl, inl, inr}
+use Rattle.std.specs.Prelude.{if◌then◌else◌, nat_lt}
+use Rattle.price_certificate.specs.Faults.{fault_of}
+use Rattle.price_certificate.specs.declared.plan.Plan.{Plan}
+use Rattle.price_certificate.specs.declared.verdict.Fault.{Fault}
+use Rattle.price_certificate.proofs.Verdicts.{certified_none}
+use Rattle.allocation_core.specs.State.{State, first_state, current_of, current_pairs}
+use Rattle.allocation_core.specs.Instances.{instance_of, allocation_of}
+use Rattle.allocation_core.specs.Steps.{answer_of, answer_by, state_after, plan_refusal, same_pairs}
+use Rattle.allocation_core.specs.Runs.{state_of}
+use Rattle.allocation_core.specs.Kept.{IsKept}
+use Rattle.allocation_core.specs.Installed.{IsInstalled, IsCertifiedNow, CertifiedAreInstalled}
+use Rattle.allocation_core.specs.declared.job.JobSpec.{JobSpec}
+use Rattle.allocation_core.specs.declared.event.Event.{Event}
+use Rattle.allocation_core.specs.declared.event.Event.TheVariants.{Install}
+use Rattle.allocation_core.specs.declared.answer.Answer.TheVariants.{Published}
+use Rattle.allocation_core.specs.declared.answer.Refusal.TheVariants.{Unchanged, NumbersSpent}
+use Rattle.allocation_core.proofs.BestLemmas.{problem_is}
+use Rattle.allocation_core.proofs.StepLemmas.{step_kept, start_kept}
+
+numbered : (m : State) (same room : Bool) → IsInstalled m (answer_by (if same then Some (Unchanged (current_of m)) else if room then None else Some NumbersSpent) (Published (current_of m + 1)))
+numbered m true room = inr (inl refl)
+numbered m false true = inl refl
+numbered m false false = inr (inr refl)
+
+faultless : (m : State) (plan : Plan) (fault : Option Fault) → fault ≡ None → IsInstalled m (answer_by (plan_refusal m plan fault) (Published (current_of m + 1)))
+faultless m plan None e = numbered m (same_pairs (allocation_of m plan.pairs) (current_pairs m)) (nat_lt (current_of m) 4294967295)
+faultless m plan (Some fault) e = cc
+
+pub installed : (m : State) (plan : Plan) → IsKept m → IsCertifiedNow m plan → IsInstalled m (answer_of m (Install plan))
+unfolding answer_of
+installed m plan kept h = faultless m plan (fault_of (instance_of m) plan.pairs plan.item_prices plan.bin_prices) (certified_none (instance_of m) plan.pairs plan.item_prices plan.bin_prices (problem_is m kept) h)
+
+run_kept : (m : State) (es : List Event) → IsKept m → IsKept (state_of m es)
+run_kept m [] kept = kept
+run_kept m (e ∷ es) kept = run_kept (state_after m e) es (step_kept m e kept)
+
+pub certified_are_installed : CertifiedAreInstalled
+certified_are_installed jobs events plan h = installed (state_of (first_state jobs) events) plan (run_kept (first_state jobs) events (start_kept jobs)) h

@@ -1,0 +1,31 @@
+-- What an Install of a certified plan is answered.
+use Rattle.std.specs.Prelude.{◌≡◌, ◌⊎◌, ◌+◌, List}
+use Rattle.price_certificate.specs.Certificate.{IsCertified}
+use Rattle.price_certificate.specs.declared.plan.Plan.{Plan}
+use Rattle.allocation_core.specs.State.{State, first_state, current_of}
+use Rattle.allocation_core.specs.Instances.{instance_of}
+use Rattle.allocation_core.specs.Steps.{answer_of}
+use Rattle.allocation_core.specs.Runs.{state_of}
+use Rattle.allocation_core.specs.declared.job.JobSpec.{JobSpec}
+use Rattle.allocation_core.specs.declared.event.Event.{Event}
+use Rattle.allocation_core.specs.declared.event.Event.TheVariants.{Install}
+use Rattle.allocation_core.specs.declared.answer.Answer.{Answer}
+use Rattle.allocation_core.specs.declared.answer.Answer.TheVariants.{Published, Not}
+use Rattle.allocation_core.specs.declared.answer.Refusal.TheVariants.{Unchanged, NumbersSpent}
+
+-- the plan is published, or its pairs are those of the current allocation, or the last number is given
+abbrev pub IsInstalled : State → Answer → Type 0
+IsInstalled m answer = (answer ≡ Published (current_of m + 1)) ⊎ ((answer ≡ Not (Unchanged (current_of m))) ⊎ (answer ≡ Not NumbersSpent))
+
+-- the prices certify the plan for the instance of the moment
+abbrev pub IsCertifiedNow : State → Plan → Type 0
+IsCertifiedNow m plan = IsCertified (instance_of m) plan.pairs plan.item_prices plan.bin_prices
+
+-- over every list of jobs and of events
+abbrev pub CertifiedAreInstalled : Type 0
+CertifiedAreInstalled = (jobs : List JobSpec) (events : List Event) (plan : Plan) → IsCertifiedNow (state_of (first_state jobs) events) plan → IsInstalled (state_of (first_state jobs) events) (answer_of (state_of (first_state jobs) events) (Install plan))
+
+-- an Install of a certified plan is installed; of other events and plans nothing is said
+abbrev pub IsAnswerToCertified : State → Event → Answer → Type 0
+IsAnswerToCertified m (Install plan) answer = IsCertifiedNow m plan → IsInstalled m answer
+IsAnswerToCertified m _ answer = Unit {0}
