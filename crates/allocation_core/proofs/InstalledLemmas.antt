@@ -17,7 +17,7 @@ use Rattle.allocation_core.specs.declared.event.Event.TheVariants.{Install}
 use Rattle.allocation_core.specs.declared.answer.Answer.TheVariants.{Published}
 use Rattle.allocation_core.specs.declared.answer.Refusal.TheVariants.{Unchanged, NumbersSpent}
 use Rattle.allocation_core.proofs.BestLemmas.{problem_is}
-use Rattle.allocation_core.proofs.StepLemmas.{step_kept, start_kept}
+use Rattle.allocation_core.proofs.StepLemmas.{run_kept, start_kept}
 
 numbered : (m : State) (same room : Bool) → IsInstalled m (answer_by (if same then Some (Unchanged (current_of m)) else if room then None else Some NumbersSpent) (Published (current_of m + 1)))
 numbered m true room = inr (inl refl)
@@ -31,10 +31,6 @@ faultless m plan (Some fault) e = cc
 pub installed : (m : State) (plan : Plan) → IsKept m → IsCertifiedNow m plan → IsInstalled m (answer_of m (Install plan))
 unfolding answer_of
 installed m plan kept h = faultless m plan (fault_of (instance_of m) plan.pairs plan.item_prices plan.bin_prices) (certified_none (instance_of m) plan.pairs plan.item_prices plan.bin_prices (problem_is m kept) h)
-
-run_kept : (m : State) (es : List Event) → IsKept m → IsKept (state_of m es)
-run_kept m [] kept = kept
-run_kept m (e ∷ es) kept = run_kept (state_after m e) es (step_kept m e kept)
 
 pub certified_are_installed : CertifiedAreInstalled
 certified_are_installed jobs events plan h = installed (state_of (first_state jobs) events) plan (run_kept (first_state jobs) events (start_kept jobs)) h

@@ -16,3 +16,5 @@ pub mod FitLemmas
 pub mod PairLemmas
 pub mod TransferLemmas
 pub mod InstalledLemmas
+pub mod Chosen
+pub mod OrderLemmas

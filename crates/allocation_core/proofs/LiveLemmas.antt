@@ -8,8 +8,9 @@ use Rattle.std.proofs.lemmas.List.Elements.{All-nil, All-push}
 use Rattle.std.proofs.lemmas.Bool.{cases_eq}
 use borrow.Author.Tests.{lt-ltb, le-ltb, ltb-false}
 use Rattle.label_sets.specs.Target.{FinalTarget}
-use Rattle.allocation_core.specs.Live.{chosen_below, count_below, is_listed, mark_at, with_list, AreMarks}
-use Rattle.allocation_core.specs.Known.{known_with, with_known, same_known}
+use Rattle.allocation_core.specs.Live.{chosen_below, count_below, is_in, is_listed, mark_at, with_list, AreMarks}
+use Rattle.allocation_core.specs.Known.{known_with, numbers_of, with_known, same_known}
+use Rattle.allocation_core.specs.Orderly.{IsOrderly}
 use Rattle.allocation_core.specs.Jobs.{sources_at}
 use Rattle.allocation_core.specs.Steps.{crowd_in, IsChange, IsChangeFrom}
 use Rattle.allocation_core.specs.State.{State}
@@ -17,15 +18,9 @@ use Rattle.allocation_core.specs.Kept.{IsKept}
 use Rattle.allocation_core.specs.declared.answer.Refusal.{Refusal}
 use Rattle.allocation_core.specs.declared.answer.Refusal.TheVariants.{TooManyLive, TooManyKnown}
 use Rattle.allocation_core.specs.declared.job.Known.{Known}
+use Rattle.allocation_core.proofs.Chosen.{chosen_all}
+use Rattle.allocation_core.proofs.OrderLemmas.{orderly_discovered}
 use Rattle.allocation_core.proofs.Marks.{count_alike}
-
-all_more : (b : Bool) (n : ℕ) (xs : List ℕ) → All (λ t. t < n) xs → All (λ t. t < suc n) (xs ++ cond b (n ∷ []) [])
-all_more true n xs all = All-push (λ t. t < suc n) xs n (λ k d l. omega (arith, all k d l)) (omega arith)
-all_more false n xs all = subst (λ (ys : List ℕ). All (λ t. t < suc n) ys) (sym (append-nil xs)) (λ k d l. omega (arith, all k d l))
-
-pub chosen_all : (p : ℕ → Bool) (n : ℕ) → All (λ t. t < n) (chosen_below p n)
-chosen_all p zero = All-nil (λ t. t < 0)
-chosen_all p (suc n) = all_more (p n) n (chosen_below p n) (chosen_all p n)
 
 one_more : (b : Bool) (n : ℕ) → length (cond b (n ∷ []) []) ≡ cond b 1 0
 one_more true n = refl
@@ -131,10 +126,15 @@ known_homes jobs job known (t ∷ targets) home all =
     let k : Known = record { job = job; target = t } in
     known_homes jobs job (with_known known k) targets home (home_by (list_any (same_known k) known) jobs known k home all)
 
+-- the numbers of a job's list, once its targets are known
+abbrev pub entered_numbers : State → ℕ → List FinalTarget → List ℕ
+entered_numbers m job targets = chosen_below (is_in (numbers_of m.known job targets)) (length (known_with m.known job targets))
+
 pub discover_kept :
-    (m : State) (job source : ℕ) (numbers : List ℕ) (targets : List FinalTarget) (listed : List (List (List ℕ))) (known : List Known) → IsKept m → job < length m.jobs → listed ≡ with_list m.listed job source numbers → known ≡ known_with m.known job targets
+    (m : State) (job source : ℕ) (targets : List FinalTarget) (listed : List (List (List ℕ))) (known : List Known) → IsKept m → job < length m.jobs → listed ≡ with_list m.listed job source (entered_numbers m job targets) → known ≡ known_with m.known job targets
     → crowd_in listed (length known) ≡ None → IsKept (record m { listed = listed; known = known })
-discover_kept m job source numbers targets listed known kept home is_listed_now is_known crowd =
+discover_kept m job source targets listed known kept home is_listed_now is_known crowd =
+    let numbers : List ℕ = entered_numbers m job targets in
     let sources : List (List ℕ) = get_or m.listed job [] in
     let tests = none_by (nat_lt 16384 (count_below (is_listed listed) (length known))) (nat_lt 65535 (length known)) crowd in
     record {
@@ -150,6 +150,8 @@ discover_kept m job source numbers targets listed known kept home is_listed_now 
       few_live = ltb-false 16384 (count_below (is_listed listed) (length known)) tests.0;
       few_collectors = kept.few_collectors;
       few_bins = kept.few_bins;
+      orderly = subst (λ (ks : List Known). IsOrderly listed ks m.collectors) (sym is_known)
+          (subst (λ (ls : List (List (List ℕ))). IsOrderly ls (known_with m.known job targets) m.collectors) (sym is_listed_now) (orderly_discovered m.listed m.known m.collectors job source targets (omega (arith, kept.each_job)) kept.orderly));
       ascending = kept.ascending;
       were_given = kept.were_given;
       numbered = kept.numbered;
@@ -160,7 +162,7 @@ discover_kept m job source numbers targets listed known kept home is_listed_now 
 
 -- the same, where no limit is passed by what is to be known and listed
 pub relisted_kept :
-    (m : State) (job source : ℕ) (numbers : List ℕ) (targets : List FinalTarget) (listed : List (List (List ℕ))) (known : List Known) → IsKept m → job < length m.jobs → listed ≡ with_list m.listed job source numbers → known ≡ known_with m.known job targets
-    → crowd_in (with_list m.listed job source numbers) (length (known_with m.known job targets)) ≡ None → IsKept (record m { listed = listed; known = known })
-relisted_kept m job source numbers targets listed known kept home l k crowd =
-    discover_kept m job source numbers targets listed known kept home l k ((λ i. crowd_in (l i) (length (k i))) ∙ crowd)
+    (m : State) (job source : ℕ) (targets : List FinalTarget) (listed : List (List (List ℕ))) (known : List Known) → IsKept m → job < length m.jobs → listed ≡ with_list m.listed job source (entered_numbers m job targets) → known ≡ known_with m.known job targets
+    → crowd_in (with_list m.listed job source (entered_numbers m job targets)) (length (known_with m.known job targets)) ≡ None → IsKept (record m { listed = listed; known = known })
+relisted_kept m job source targets listed known kept home l k crowd =
+    discover_kept m job source targets listed known kept home l k ((λ i. crowd_in (l i) (length (k i))) ∙ crowd)

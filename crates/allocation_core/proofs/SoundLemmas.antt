@@ -19,7 +19,7 @@ use Rattle.allocation_core.specs.Kept.{IsKept}
 use Rattle.allocation_core.specs.Best.{IsReached}
 use Rattle.allocation_core.specs.declared.job.Known.{Known}
 use Rattle.allocation_core.specs.declared.job.Collector.{Collector}
-use Rattle.allocation_core.proofs.LiveLemmas.{chosen_all}
+use Rattle.allocation_core.proofs.Chosen.{chosen_ascend, chosen_pass}
 use Rattle.allocation_core.proofs.Shapes.{found_has}
 
 -- a pair is of its target
@@ -41,14 +41,6 @@ live_pairs : (P : ℕ → Type 0) (jobs : ℕ) (cs : List Collector) (f : ℕ �
 live_pairs P jobs cs f item [] all = All-nil (λ (q : ℕ × ℕ). P q.0)
 live_pairs P jobs cs f item (t ∷ live) all =
     live_pair_by P (pair_by jobs cs (f item) t) t (pairs_from jobs cs f (item + 1) live) (pair_first jobs cs (f item) t) (All-head P t live all) (live_pairs P jobs cs f (item + 1) live (All-tail P t live all))
-
-pass_more : (p : ℕ → Bool) (b : Bool) (n : ℕ) (xs : List ℕ) → p n ≡ b → All (λ t. p t ≡ true) xs → All (λ t. p t ≡ true) (xs ++ cond b (n ∷ []) [])
-pass_more p true n xs e all = All-push (λ t. p t ≡ true) xs n all e
-pass_more p false n xs e all = subst (λ (ys : List ℕ). All (λ t. p t ≡ true) ys) (sym (append-nil xs)) all
-
-chosen_pass : (p : ℕ → Bool) (n : ℕ) → All (λ t. p t ≡ true) (chosen_below p n)
-chosen_pass p zero = All-nil (λ t. p t ≡ true)
-chosen_pass p (suc n) = pass_more p (p n) n (chosen_below p n) refl (chosen_pass p n)
 
 -- each number is chosen at most once
 once_more : (b : Bool) (n t : ℕ) (xs : List ℕ) → (n ≤ t → count_by (λ (x : ℕ). eqb x t) xs ≡ 0) × (count_by (λ (x : ℕ). eqb x t) xs ≤ 1) → (suc n ≤ t → count_by (λ (x : ℕ). eqb x t) (xs ++ cond b (n ∷ []) []) ≡ 0) × (count_by (λ (x : ℕ). eqb x t) (xs ++ cond b (n ∷ []) []) ≤ 1)
@@ -78,14 +70,6 @@ once_pairs jobs cs f item t (x ∷ live) =
     once_pair_by (pair_by jobs cs (f item) x) x t (pairs_from jobs cs f (item + 1) live) live (pair_first jobs cs (f item) x) (once_pairs jobs cs f (item + 1) t live)
 
 -- the pairs ascend by target, as the targets do
-ascend_more : (c : Bool) (n : ℕ) (xs : List ℕ) → All (λ t. t < n) xs → AllPairs (λ (a b : ℕ). a < b) xs → AllPairs (λ (a b : ℕ). a < b) (xs ++ cond c (n ∷ []) [])
-ascend_more true n xs below asc = all_pairs_push (λ (a b : ℕ). a < b) xs n asc below
-ascend_more false n xs below asc = subst (λ (ys : List ℕ). AllPairs (λ (a b : ℕ). a < b) ys) (sym (append-nil xs)) asc
-
-chosen_ascend : (p : ℕ → Bool) (n : ℕ) → AllPairs (λ (a b : ℕ). a < b) (chosen_below p n)
-chosen_ascend p zero = λ i j d l less. absurd (omega arith)
-chosen_ascend p (suc n) = ascend_more (p n) n (chosen_below p n) (chosen_all p n) (chosen_ascend p n)
-
 ascend_by :
     (o : Option (ℕ × ℕ)) (target : ℕ) (rest : List (ℕ × ℕ)) → ((q : ℕ × ℕ) → o ≡ Some q → q.0 ≡ target) → All (λ (q : ℕ × ℕ). target < q.0) rest → AllPairs (λ (a b : ℕ × ℕ). a.0 < b.0) rest
     → AllPairs (λ (a b : ℕ × ℕ). a.0 < b.0) (option_to_list o ++ rest)

@@ -27,7 +27,7 @@ use Rattle.allocation_core.specs.declared.event.Event.{Event}
 use Rattle.allocation_core.specs.declared.event.Event.TheVariants.{Discover, Join, Leave, Install, NextRound, Take, Report}
 use Rattle.allocation_core.specs.declared.answer.Refusal.{Refusal}
 use Rattle.allocation_core.specs.declared.answer.Refusal.TheVariants.{UnknownJob, UnknownSource, TooManyCollectors, IdsSpent, Unchanged, NumbersSpent}
-use Rattle.allocation_core.proofs.KeptLemmas.{first_kept, leave_kept}
+use Rattle.allocation_core.proofs.KeptLemmas.{first_kept, joined_kept, leave_kept}
 use Rattle.allocation_core.proofs.LiveLemmas.{relisted_kept}
 use Rattle.allocation_core.proofs.Shapes.{position_below}
 
@@ -45,30 +45,15 @@ room_by true b e = cc
 room_by false false e = cc
 room_by false true e = (refl, refl)
 
-join_kept : (m : State) (name : List ℕ) (reach : List ReachRule) → IsKept m → room_refusal m ≡ None → IsKept (changed m (Join name reach))
-join_kept m name reach kept room =
+join_kept : (m : State) (name : List ℕ) (reach : List ReachRule) → IsKept m → id_named m.collectors name ≡ None → room_refusal m ≡ None → IsKept (changed m (Join name reach))
+join_kept m name reach kept none room =
     let tests = room_by (nat_lt 256 (length m.collectors + 1) || nat_lt 16384 (length m.jobs * (length m.collectors + 1))) (nat_lt m.given 4294967295) room in
     let limits = or_false (nat_lt 256 (length m.collectors + 1)) (nat_lt 16384 (length m.jobs * (length m.collectors + 1))) tests.0 in
     let c : Collector = record { id = m.given + 1; name = name; reach = reach } in
-    let more : length (m.collectors ++ c ∷ []) ≡ length m.collectors + 1 = omega (arith, length-append m.collectors (c ∷ [])) in
-    record {
-      each_job = kept.each_job;
-      each_source = kept.each_source;
-      few_known = kept.few_known;
-      homes = kept.homes;
-      few_live = kept.few_live;
-      few_collectors = omega (arith, more, ltb-false 256 (length m.collectors + 1) limits.0);
-      few_bins = omega (arith, ap (λ (n : ℕ). length m.jobs * n) more, ltb-false 16384 (length m.jobs * (length m.collectors + 1)) limits.1);
-      ascending = all_pairs_push (λ (a b : Collector). a.id < b.id) m.collectors c kept.ascending (λ k d l. omega (arith, kept.were_given k d l));
-      were_given = All-push (λ (x : Collector). x.id ≤ m.given + 1) m.collectors c (λ k d l. omega (arith, kept.were_given k d l)) (omega arith);
-      numbered = omega (arith, ltb-true m.given 4294967295 tests.1);
-      few_published = kept.few_published;
-      opened = kept.opened;
-      past_rounds = kept.past_rounds;
-    }
+    joined_kept m c (m.collectors ++ c ∷ []) kept none refl (ltb-false 256 (length m.collectors + 1) limits.0) (ltb-false 16384 (length m.jobs * (length m.collectors + 1)) limits.1) (ltb-true m.given 4294967295 tests.1) refl
 
-name_by : (m : State) (o : Option ℕ) → name_refusal m o ≡ None → room_refusal m ≡ None
-name_by m None e = e
+name_by : (m : State) (o : Option ℕ) → name_refusal m o ≡ None → (o ≡ None) × (room_refusal m ≡ None)
+name_by m None e = (refl, e)
 name_by m (Some id) e = cc
 
 source_by : (b : Bool) (o : Option Refusal) → cond b o (Some UnknownSource) ≡ None → o ≡ None
@@ -80,7 +65,7 @@ list_by :
     → IsKept (option_map_or (λ (job : ℕ). discovered m job source targets) o m)
 list_by m None source targets home kept e = kept
 list_by m (Some job) source targets home kept e =
-    relisted_kept m job source (chosen_below (is_in (numbers_of m.known job targets)) (length (known_with m.known job targets))) targets _ _ kept (home job refl) refl refl (source_by (nat_lt source (sources_at m.jobs job)) _ e)
+    relisted_kept m job source targets _ _ kept (home job refl) refl refl (source_by (nat_lt source (sources_at m.jobs job)) _ e)
 
 number_by : (same lt : Bool) (u : Refusal) → cond same (Some u) (cond lt None (Some NumbersSpent)) ≡ None → lt ≡ true
 number_by true lt u e = cc
@@ -102,6 +87,7 @@ install_kept m plan kept e =
       few_live = kept.few_live;
       few_collectors = kept.few_collectors;
       few_bins = kept.few_bins;
+      orderly = kept.orderly;
       ascending = kept.ascending;
       were_given = kept.were_given;
       numbered = kept.numbered;
@@ -121,6 +107,7 @@ kept_with m taken round booked kept opened past =
       few_live = kept.few_live;
       few_collectors = kept.few_collectors;
       few_bins = kept.few_bins;
+      orderly = kept.orderly;
       ascending = kept.ascending;
       were_given = kept.were_given;
       numbered = kept.numbered;
@@ -132,7 +119,7 @@ kept_with m taken round booked kept opened past =
 changed_kept : (m : State) (e : Event) → IsKept m → refusal_of m e ≡ None → IsKept (changed m e)
 changed_kept m (Discover name source targets) kept free =
     list_by m (job_named m.jobs name) source targets (λ j s. omega (arith, position_below (λ (job : JobSpec). _) 0 j m.jobs s)) kept free
-changed_kept m (Join name reach) kept free = join_kept m name reach kept (name_by m (id_named m.collectors name) free)
+changed_kept m (Join name reach) kept free = let fine = name_by m (id_named m.collectors name) free in join_kept m name reach kept fine.0 fine.1
 changed_kept m (Leave id) kept free = leave_kept m (λ (c : Collector). _) kept
 changed_kept m (Install plan) kept free = install_kept m plan kept free
 changed_kept m NextRound kept free = kept_with m m.taken (m.round + 1) m.booked kept (omega arith) (λ k d l. omega (arith, kept.past_rounds k d l))

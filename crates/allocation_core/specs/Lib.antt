@@ -11,3 +11,4 @@ pub mod Runs
 pub mod State
 pub mod Steps
 pub mod Installed
+pub mod Orderly

@@ -4,6 +4,7 @@ ghost use Rattle.allocation_core.specs.Answers.{IsAnswerTo};
 ghost use Rattle.allocation_core.specs.Best.{AlwaysBest};
 ghost use Rattle.allocation_core.specs.Booked.{AlwaysBooked};
 ghost use Rattle.allocation_core.specs.Installed.{CertifiedAreInstalled};
+ghost use Rattle.allocation_core.specs.Kept.{AlwaysKept};
 ghost use Rattle.allocation_core.specs.declared.event.Event.{Event};
 
 /// Over every list of events, each published allocation is the best of the moment just before its Install. It is sound:
@@ -29,4 +30,10 @@ pub fn answers_fit()
 /// pairs are those of the current allocation or the last number is given.
 pub fn certified_are_installed()
     ensures { CertifiedAreInstalled }
+{}
+
+/// What every state keeps, over every list of events: no limit is passed, a source lists targets of its own job alone and in
+/// ascending order, no known target and no name of a live collector stands twice.
+pub fn states_are_kept()
+    ensures { AlwaysKept }
 {}

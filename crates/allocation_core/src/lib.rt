@@ -30,7 +30,9 @@ pub use error::OpenError;
 pub use event::Event;
 pub use handover::{CollectorId, TargetId};
 pub use job::JobSpec;
-pub use laws::{answers_fit, booked_by_holders, certified_are_installed, published_are_best};
+pub use laws::{
+    answers_fit, booked_by_holders, certified_are_installed, published_are_best, states_are_kept,
+};
 pub use machine::Core;
 pub use runs::{Stopped, run};
 pub use scrape_books::Outcome;

@@ -5,6 +5,7 @@ ghost use Rattle.allocation_core.specs.Jobs.{are_jobs};
 ghost use Rattle.allocation_core.specs.Steps.{answer_of, refusal_of, state_after, gained};
 ghost use Rattle.allocation_core.specs.Answers.{checks_first, needs_no_memory};
 ghost use Rattle.allocation_core.specs.Installed.{IsAnswerToCertified};
+ghost use Rattle.allocation_core.specs.Kept.{IsKept};
 
 mod discovering;
 mod installing;
@@ -114,9 +115,10 @@ impl Core {
         }
     }
 
-    /// The number of the current allocation, 0 where none is published.
+    /// The number of the current allocation, 0 where none is published. Its contract also says what every state keeps.
     pub fn current(&self) -> u32
-        ensures { result ≡ current_of self.now }
+        ensures number { result ≡ current_of self.now }
+        ensures kept { IsKept self.now }
     {
         self.holders.current()
     }
