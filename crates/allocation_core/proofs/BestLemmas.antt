@@ -12,15 +12,16 @@ use Rattle.handover.specs.Handover.{last_of}
 use Rattle.allocation_core.specs.State.{State, first_state, live_of, is_live, current_pairs}
 use Rattle.handover.specs.Handover.{beside}
 use Rattle.allocation_core.specs.Instances.{instance_of, allocation_of, limits_for, row_in, bin_before_in}
-use Rattle.allocation_core.specs.Steps.{state_after}
+use Rattle.allocation_core.specs.Steps.{answer_of, state_after}
 use Rattle.allocation_core.specs.Runs.{state_of}
 use Rattle.allocation_core.specs.Kept.{IsKept}
-use Rattle.allocation_core.specs.Best.{AllBest, WasBest, AlwaysBest, IsBest, IsSound}
+use Rattle.allocation_core.specs.Best.{AllBest, WasBest, AlwaysBest, IsBest, IsSound, moved_by}
 use Rattle.allocation_core.proofs.SoundLemmas.{allocation_ascending, allocation_live, allocation_once, allocation_reaching}
 use Rattle.allocation_core.proofs.WithinLemmas.{allocation_within}
-use Rattle.allocation_core.proofs.TransferLemmas.{IsOnce, best_of}
+use Rattle.allocation_core.proofs.TransferLemmas.{IsOnce, best_of, moves_alike}
 use Rattle.allocation_core.specs.declared.event.Event.{Event}
 use Rattle.allocation_core.specs.declared.event.Event.TheVariants.{Install}
+use Rattle.allocation_core.specs.declared.answer.Answer.TheVariants.{Published}
 use Rattle.allocation_core.specs.declared.job.JobSpec.{JobSpec}
 use Rattle.allocation_core.proofs.LiveLemmas.{length-chosen}
 use Rattle.allocation_core.proofs.Shapes.{parts_shaped, bin_below, length-limits}
@@ -115,11 +116,13 @@ here_best m e es k kept once low high p =
       later = es;
       split = ap (λ (f : Event). f ∷ es) p.is;
       before = omega (arith, size);
+      answered = ap (λ (f : Event). answer_of m f) (sym p.is) ∙ p.answered ∙ ap (λ (n : ℕ). Published (n + 1)) (let r : length m.published ≡ k = omega (arith, size) in r);
       granted = ap (λ (f : Event). (state_after m f).published) (sym p.is) ∙ p.grown ∙ ap (λ (ps : List (ℕ × ℕ)). m.published ++ ps ∷ []) (sym is);
-      best = subst (λ (ps : List (ℕ × ℕ)). IsBest m ps) (sym is) (best_of m p.plan.pairs kept problem (last_once m.published once) sound optimal_plan);
+      best = subst (λ (ps : List (ℕ × ℕ)). IsBest m ps) (sym is) (best_of m p.plan.pairs kept (last_once m.published once) sound optimal_plan);
       ascending = subst (λ (ps : List (ℕ × ℕ)). AllPairs (λ (a b : ℕ × ℕ). a.0 < b.0) ps) (sym is) (allocation_ascending m p.plan.pairs);
       published = is;
       optimal = optimal_plan;
+      moves = moves_alike m p.plan.pairs kept (last_once m.published once) sound optimal_plan.feasible ∙ ap (λ (ps : List (ℕ × ℕ)). moved_by m ps) (sym is);
     }
 
 run_best : (m : State) (es : List Event) (k : ℕ) → IsKept m → All IsOnce m.published → length m.published ≤ k → k < length (state_of m es).published → WasBest m es k (get_or (state_of m es).published k [])
@@ -137,11 +140,13 @@ run_best m (e ∷ es) k kept once low high = elim (cases_lt k (length (state_aft
         later = later.later;
         split = ap (λ (fs : List Event). e ∷ fs) later.split;
         before = later.before;
+        answered = later.answered;
         granted = later.granted;
         best = later.best;
         ascending = later.ascending;
         published = later.published;
         optimal = later.optimal;
+        moves = later.moves;
       }
 ]
 
@@ -157,11 +162,13 @@ farther first events done left place pairs e was =
       later = was.later ++ left;
       split = e ∙ ap (λ (es : List Event). es ++ left) was.split ∙ append_assoc was.earlier (Install was.plan ∷ was.later) left;
       before = was.before;
+      answered = was.answered;
       granted = was.granted;
       best = was.best;
       ascending = was.ascending;
       published = was.published;
       optimal = was.optimal;
+      moves = was.moves;
     }
 
 -- a run that did the first of the events

@@ -69,7 +69,8 @@ absent_by : (c d s : Bool) (n : ℕ) → (let r : ℕ = cond c 1 0 in r) + n ≡
 absent_by true d s n e h = absurd (omega arith)
 absent_by false d s n e h = h (omega arith)
 
-absent : (pairs : List (ℕ × ℕ)) (q : ℕ × ℕ) → count_by (λ (r : ℕ × ℕ). eqb r.0 q.0) pairs ≡ 0 → stands_in pairs q ≡ false
+-- a pair of a target that no pair has does not stand in the list
+pub absent : (pairs : List (ℕ × ℕ)) (q : ℕ × ℕ) → count_by (λ (r : ℕ × ℕ). eqb r.0 q.0) pairs ≡ 0 → stands_in pairs q ≡ false
 absent [] q e = refl
 absent (x ∷ pairs) q e =
     absent_by (eqb x.0 q.0) (eqb x.1 q.1) (stands_in pairs q) (count_by (λ (r : ℕ × ℕ). eqb r.0 q.0) pairs) (omega (arith, e, sum_by-cons (λ (r : ℕ × ℕ). cond (eqb r.0 q.0) 1 0) x pairs)) (absent pairs q)

@@ -17,6 +17,7 @@ use Rattle.allocation_core.specs.Kept.{IsKept}
 use Rattle.allocation_core.specs.Best.{IsReached, is_of_job}
 use Rattle.allocation_core.specs.declared.job.Known.{Known}
 use Rattle.allocation_core.specs.declared.job.Collector.{Collector}
+use Rattle.allocation_core.proofs.Chosen.{chosen_has}
 use Rattle.allocation_core.proofs.Shapes.{found_has}
 use Rattle.allocation_core.proofs.SoundLemmas.{row_is_from, row_at_item, same_some}
 use Rattle.allocation_core.proofs.WithinLemmas.{one_place}
@@ -113,18 +114,6 @@ index_has : (xs : List ℕ) (number : ℕ) → Contains xs number → (index_of 
 index_has [] number (i, l, at) = absurd (omega arith)
 index_has (x ∷ xs) number (zero, l, at) = index_by (eqb x number) x number (index_of xs number) xs (λ e. at) (λ e. absurd (eqb-false x number e at))
 index_has (x ∷ xs) number (suc i, l, at) = index_by (eqb x number) x number (index_of xs number) xs (λ e. eqb-true x number e) (λ e. index_has xs number (i, omega arith, at))
-
-chosen_here : (c : Bool) (n number : ℕ) → c ≡ true → n ≡ number → Contains (cond c (n ∷ []) []) number
-chosen_here true n number e is = (0, omega arith, is)
-chosen_here false n number e is = cc
-
--- each number below that passes is chosen
-chosen_has : (p : ℕ → Bool) (n number : ℕ) → number < n → p number ≡ true → Contains (chosen_below p n) number
-chosen_has p zero number l e = absurd (omega arith)
-chosen_has p (suc n) number l e = elim (cases_eq n number) [
-  | inl s ↦ Contains-append_right (chosen_below p n) (cond (p n) (n ∷ []) []) number (chosen_here (p n) n number (ap p s ∙ e) s)
-  | inr d ↦ Contains-append_left (chosen_below p n) (cond (p n) (n ∷ []) []) number (chosen_has p n number (omega arith) e)
-]
 
 known_below : (known : List Known) (number : ℕ) (k : Known) → slice_get known number ≡ Some k → number < length known
 known_below [] number k e = cc

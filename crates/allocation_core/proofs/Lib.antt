@@ -18,3 +18,4 @@ pub mod TransferLemmas
 pub mod InstalledLemmas
 pub mod Chosen
 pub mod OrderLemmas
+pub mod MovedLemmas

@@ -94,7 +94,7 @@ known_once known job (t ∷ targets) once =
     known_once (with_known known k) job targets (once_with known k (list_any (same_known k) known) refl once)
 
 -- what holds of each number of a list holds of each that is in it
-in_all : (P : ℕ → Type 0) (numbers : List ℕ) (n : ℕ) → All P numbers → is_in numbers n ≡ true → P n
+pub in_all : (P : ℕ → Type 0) (numbers : List ℕ) (n : ℕ) → All P numbers → is_in numbers n ≡ true → P n
 in_all P numbers n all e =
     let found = Any-from_list_any (λ (x : ℕ). eqb x n) numbers e in
     subst P (found.3 ∙ eqb-true found.1 n found.4) (all found.0 found.1 found.2)

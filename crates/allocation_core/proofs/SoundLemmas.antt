@@ -19,7 +19,7 @@ use Rattle.allocation_core.specs.Kept.{IsKept}
 use Rattle.allocation_core.specs.Best.{IsReached}
 use Rattle.allocation_core.specs.declared.job.Known.{Known}
 use Rattle.allocation_core.specs.declared.job.Collector.{Collector}
-use Rattle.allocation_core.proofs.Chosen.{chosen_ascend, chosen_pass}
+use Rattle.allocation_core.proofs.Chosen.{chosen_ascend, chosen_once, chosen_pass}
 use Rattle.allocation_core.proofs.Shapes.{found_has}
 
 -- a pair is of its target
@@ -41,21 +41,6 @@ live_pairs : (P : ℕ → Type 0) (jobs : ℕ) (cs : List Collector) (f : ℕ �
 live_pairs P jobs cs f item [] all = All-nil (λ (q : ℕ × ℕ). P q.0)
 live_pairs P jobs cs f item (t ∷ live) all =
     live_pair_by P (pair_by jobs cs (f item) t) t (pairs_from jobs cs f (item + 1) live) (pair_first jobs cs (f item) t) (All-head P t live all) (live_pairs P jobs cs f (item + 1) live (All-tail P t live all))
-
--- each number is chosen at most once
-once_more : (b : Bool) (n t : ℕ) (xs : List ℕ) → (n ≤ t → count_by (λ (x : ℕ). eqb x t) xs ≡ 0) × (count_by (λ (x : ℕ). eqb x t) xs ≤ 1) → (suc n ≤ t → count_by (λ (x : ℕ). eqb x t) (xs ++ cond b (n ∷ []) []) ≡ 0) × (count_by (λ (x : ℕ). eqb x t) (xs ++ cond b (n ∷ []) []) ≤ 1)
-once_more false n t xs h = rw (append-nil xs) (λ l. h.0 (omega arith), h.1)
-once_more true n t xs h =
-    let more = sum_by-append (λ (x : ℕ). cond (eqb x t) 1 0) xs (n ∷ []) in
-    let one = sum_by-cons (λ (x : ℕ). cond (eqb x t) 1 0) n [] in
-    elim (cases_eq n t) [
-      | inl e ↦ (λ l. absurd (omega arith), omega (arith, more, one, h.0 (omega arith), ap (λ (c : Bool). (let r : ℕ = cond c 1 0 in r)) (eq-eqb n t e)))
-      | inr d ↦ (λ l. omega (arith, more, one, h.0 (omega arith), ap (λ (c : Bool). (let r : ℕ = cond c 1 0 in r)) (ne_eqb n t d)), omega (arith, more, one, h.1, ap (λ (c : Bool). (let r : ℕ = cond c 1 0 in r)) (ne_eqb n t d)))
-    ]
-
-chosen_once : (p : ℕ → Bool) (n t : ℕ) → (n ≤ t → count_by (λ (x : ℕ). eqb x t) (chosen_below p n) ≡ 0) × (count_by (λ (x : ℕ). eqb x t) (chosen_below p n) ≤ 1)
-chosen_once p zero t = (λ l. refl, omega arith)
-chosen_once p (suc n) t = once_more (p n) n t (chosen_below p n) (chosen_once p n t)
 
 once_pair_by :
     (o : Option (ℕ × ℕ)) (target t : ℕ) (rest : List (ℕ × ℕ)) (live : List ℕ) → ((q : ℕ × ℕ) → o ≡ Some q → q.0 ≡ target) → count_by (λ (q : ℕ × ℕ). eqb q.0 t) rest ≤ count_by (λ (x : ℕ). eqb x t) live

@@ -18,13 +18,14 @@ use Rattle.scrape_books.specs.declared.report.Entry.{Entry}
 use Rattle.allocation_core.proofs.Admission.{admitted}
 use Rattle.allocation_core.specs.State.{State, first_state, current_of, current_pairs, id_named}
 use Rattle.allocation_core.specs.Instances.{instance_of, allocation_of}
-use Rattle.allocation_core.specs.Steps.{state_after, changed, entry_of, refusal_of, discovered, source_refusal, name_refusal, room_refusal, plan_refusal, number_refusal, same_pairs}
+use Rattle.allocation_core.specs.Steps.{answer_by, answer_of, state_after, changed, entry_of, refusal_of, discovered, source_refusal, name_refusal, room_refusal, plan_refusal, number_refusal, same_pairs}
 use Rattle.allocation_core.specs.Runs.{state_of}
 use Rattle.allocation_core.specs.Kept.{IsKept}
 use Rattle.allocation_core.specs.declared.job.JobSpec.{JobSpec}
 use Rattle.allocation_core.specs.declared.job.Collector.{Collector}
 use Rattle.allocation_core.specs.declared.event.Event.{Event}
 use Rattle.allocation_core.specs.declared.event.Event.TheVariants.{Discover, Join, Leave, Install, NextRound, Take, Report}
+use Rattle.allocation_core.specs.declared.answer.Answer.TheVariants.{Published}
 use Rattle.allocation_core.specs.declared.answer.Refusal.{Refusal}
 use Rattle.allocation_core.specs.declared.answer.Refusal.TheVariants.{UnknownJob, UnknownSource, TooManyCollectors, IdsSpent, Unchanged, NumbersSpent}
 use Rattle.allocation_core.proofs.KeptLemmas.{first_kept, joined_kept, leave_kept}
@@ -149,20 +150,24 @@ pub record Publishes (m : State) (e : Event) : Type 0 where
   pub plan : Plan
   pub is : e ≡ Install plan
   pub fine : fault_of (instance_of m) plan.pairs plan.item_prices plan.bin_prices ≡ None
+  pub answered : answer_of m e ≡ Published (current_of m + 1)
   pub grown : (state_after m e).published ≡ m.published ++ allocation_of m plan.pairs ∷ []
 
 same_by : (m n : State) (o : Option Refusal) → n.published ≡ m.published → (if is_some o then m else n).published ≡ m.published
 same_by m n None e = e
 same_by m n (Some r) e = refl
 
-install_by :
-    (m : State) (plan : Plan) (o : Option Refusal) → (o ≡ None → fault_of (instance_of m) plan.pairs plan.item_prices plan.bin_prices ≡ None)
-    → ((if is_some o then m else changed m (Install plan)).published ≡ m.published) ⊎ ((fault_of (instance_of m) plan.pairs plan.item_prices plan.bin_prices ≡ None) × ((if is_some o then m else changed m (Install plan)).published ≡ m.published ++ allocation_of m plan.pairs ∷ []))
-install_by m plan None fine = inr (fine refl, refl)
+-- an Install that nothing is against, and what it gives
+abbrev Installs : State → Plan → Option Refusal → Type 0
+Installs m plan o =
+    (fault_of (instance_of m) plan.pairs plan.item_prices plan.bin_prices ≡ None) × (answer_by o (Published (current_of m + 1)) ≡ Published (current_of m + 1)) × ((if is_some o then m else changed m (Install plan)).published ≡ m.published ++ allocation_of m plan.pairs ∷ [])
+
+install_by : (m : State) (plan : Plan) (o : Option Refusal) → (o ≡ None → fault_of (instance_of m) plan.pairs plan.item_prices plan.bin_prices ≡ None) → ((if is_some o then m else changed m (Install plan)).published ≡ m.published) ⊎ Installs m plan o
+install_by m plan None fine = inr (fine refl, refl, refl)
 install_by m plan (Some r) fine = inl refl
 
 pub publishes : (m : State) (e : Event) → ((state_after m e).published ≡ m.published) ⊎ Publishes m e
-unfolding state_after
+unfolding state_after answer_of
 publishes m (Discover name source targets) = inl (same_by m _ (refusal_of m (Discover name source targets)) (listed_same m (job_named m.jobs name) source targets))
 publishes m (Join name reach) = inl (same_by m _ (refusal_of m (Join name reach)) refl)
 publishes m (Leave id) = inl (same_by m _ (refusal_of m (Leave id)) refl)
@@ -172,5 +177,5 @@ publishes m (Report collector number target round outcome) = inl (same_by m _ (r
 publishes m (Install plan) =
     elim (install_by m plan (refusal_of m (Install plan)) (λ e. (plan_by m plan (fault_of (instance_of m) plan.pairs plan.item_prices plan.bin_prices) e).0)) [
       | inl same ↦ inl same
-      | inr grown ↦ inr (record { plan = plan; is = refl; fine = grown.0; grown = grown.1 })
+      | inr grown ↦ inr (record { plan = plan; is = refl; fine = grown.0; answered = grown.1; grown = grown.2 })
     ]

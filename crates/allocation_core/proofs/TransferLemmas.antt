@@ -8,20 +8,21 @@ use Rattle.std.proofs.lemmas.List.Elements.{All-map}
 use Rattle.std.proofs.lemmas.List.Sums.{count_by-le-length}
 use Rattle.std.proofs.lemmas.Bool.{cases_eq, eq-eqb, ne_eqb, eqb-true, eqb-false, and_from}
 use Rattle.price_certificate.specs.Problem.{IsProblem, IsAllowed, before_of, before_count, capacity_by, is_bin, items_of, was_in}
-use Rattle.price_certificate.specs.Assignment.{IsFeasible, IsOptimal, kept, uses_of_bin, uses_of_item}
+use Rattle.price_certificate.specs.Assignment.{IsFeasible, IsOptimal, kept, moved, uses_of_bin, uses_of_item}
 use Rattle.price_certificate.proofs.Duality.{allowed_item}
 use Rattle.price_certificate.proofs.Sums.{sum_by-same}
 use Rattle.allocation_core.specs.State.{State, live_of, current_pairs}
 use Rattle.handover.specs.Handover.{beside}
 use Rattle.allocation_core.specs.Instances.{instance_of, allocation_of, bin_in, bin_before, place_of}
 use Rattle.allocation_core.specs.Kept.{IsKept}
-use Rattle.allocation_core.specs.Best.{IsBest, IsSound, is_of_job, limit_at, moved_from, share_of, stands_in}
+use Rattle.allocation_core.specs.Best.{IsBest, IsSound, is_of_job, limit_at, moved_by, share_of, stands_in}
 use Rattle.allocation_core.specs.declared.job.Known.{Known}
 use Rattle.allocation_core.specs.declared.job.Collector.{Collector}
 use Rattle.allocation_core.proofs.SoundLemmas.{same_some}
 use Rattle.allocation_core.proofs.WithinLemmas.{HasId, find_id, got, limit_of_bin, one_place}
-use Rattle.allocation_core.proofs.CountLemmas.{both_count, count_weaker, kept_most, ones, pairs_most, passes_or, stands_beside, sum_by-map}
+use Rattle.allocation_core.proofs.CountLemmas.{count_weaker, ones, pairs_most, passes_or, stands_beside, sum_by-map}
 use Rattle.allocation_core.proofs.FitLemmas.{Fits, allowed_fits, bin_is, bin_of, fits_allowed, item_of, place_by, position_none, reached_fits, same_bin}
+use Rattle.allocation_core.proofs.MovedLemmas.{before_can, loses_the_rest}
 use Rattle.allocation_core.proofs.PairLemmas.{meant, sum_meant}
 
 -- no target twice
@@ -156,22 +157,27 @@ allocation_keeps m plan is_kept once feasible =
     let q : ℕ × ℕ = get_or plan k d in
     ap (λ (b : Bool). (let r : ℕ = cond b 1 0 in r)) (sym (was_stands m q.0 q.1 _ _ is_kept once (allowed_fits m q.0 q.1 is_kept (feasible.allowed k d l)))))
 
-fewer : (before a b c d size other : ℕ) → before - a ≤ before - b → a ≤ before → b ≤ before → a + c ≡ size → b + d ≡ other → other ≡ size → c ≤ d
-fewer before a b c d size other l most least e f same = omega arith
+fewer : (before a b c d : ℕ) → before - a ≤ before - b → c + a ≡ before → d + b ≡ before → c ≤ d
+fewer before a b c d l e f = omega arith
+
+-- what the allocation of a feasible plan moves is what the plan moves
+pub moves_alike :
+    (m : State) (plan : List (ℕ × ℕ)) → IsKept m → IsOnce (current_pairs m) → IsSound m (allocation_of m plan) → IsFeasible (instance_of m) plan → moved (instance_of m) plan ≡ moved_by m (allocation_of m plan)
+moves_alike m plan is_kept once sound feasible = omega (arith, before_can m is_kept once, loses_the_rest m (allocation_of m plan) sound once, allocation_keeps m plan is_kept once feasible)
 
 -- the allocation of an optimal plan is the best
-pub best_of :
-    (m : State) (plan : List (ℕ × ℕ)) → IsKept m → IsProblem (instance_of m) → IsOnce (current_pairs m) → IsSound m (allocation_of m plan) → IsOptimal (instance_of m) plan → IsBest m (allocation_of m plan)
-best_of m plan is_kept valid once sound optimal =
-    let before : List (ℕ × ℕ) = current_pairs m in
+pub best_of : (m : State) (plan : List (ℕ × ℕ)) → IsKept m → IsOnce (current_pairs m) → IsSound m (allocation_of m plan) → IsOptimal (instance_of m) plan → IsBest m (allocation_of m plan)
+best_of m plan is_kept once sound optimal =
     let size = allocation_size m plan is_kept optimal.feasible in
+    let before = before_can m is_kept once in
     record {
       sound = sound;
       covers = λ others fine. omega (arith, optimal.covers_most (plan_from m others) (plan_feasible m others is_kept fine), length-map others (λ (q : ℕ × ℕ). (let r : ℕ × ℕ = (item_of m q.0, bin_of m q.0 q.1) in r)), size);
       moves = λ others fine same.
           let feasible = plan_feasible m others is_kept fine in
           let long : length (plan_from m others) ≡ length others = length-map others (λ (q : ℕ × ℕ). (let r : ℕ × ℕ = (item_of m q.0, bin_of m q.0 q.1) in r)) in
-          fewer (before_count (instance_of m)) (kept (instance_of m) plan) (kept (instance_of m) (plan_from m others)) (moved_from before (allocation_of m plan)) (moved_from before others) (length (allocation_of m plan)) (length others)
-          (optimal.moves_least (plan_from m others) feasible (long ∙ same ∙ size)) (kept_most (instance_of m) plan valid optimal.feasible) (kept_most (instance_of m) (plan_from m others) valid feasible)
-          (omega (arith, both_count (stands_in before) (allocation_of m plan), allocation_keeps m plan is_kept once optimal.feasible)) (omega (arith, both_count (stands_in before) others, plan_keeps m others is_kept once fine)) same;
+          fewer (before_count (instance_of m)) (kept (instance_of m) plan) (kept (instance_of m) (plan_from m others)) (moved_by m (allocation_of m plan)) (moved_by m others)
+          (optimal.moves_least (plan_from m others) feasible (long ∙ same ∙ size))
+          (omega (arith, before, loses_the_rest m (allocation_of m plan) sound once, allocation_keeps m plan is_kept once optimal.feasible))
+          (omega (arith, before, loses_the_rest m others fine once, plan_keeps m others is_kept once fine));
     }
