@@ -1,10 +1,9 @@
 -- An Install of a certified plan is refused by no fault.
 use Rattle.std.proofs.Common.{◌≡◌, ◌+◌, List, [], ◌∷◌, Option, Some, None, Bool, true, false, refl, inl, inr}
 use Rattle.std.specs.Prelude.{if◌then◌else◌, nat_lt}
-use Rattle.price_certificate.specs.Faults.{fault_of}
+use Rattle.price_certificate.specs.Faults.{NoFaultIsCertified, fault_of}
 use Rattle.price_certificate.specs.declared.plan.Plan.{Plan}
 use Rattle.price_certificate.specs.declared.verdict.Fault.{Fault}
-use Rattle.price_certificate.proofs.Verdicts.{certified_none}
 use Rattle.allocation_core.specs.State.{State, first_state, current_of, current_pairs}
 use Rattle.allocation_core.specs.Instances.{instance_of, allocation_of}
 use Rattle.allocation_core.specs.Steps.{answer_of, answer_by, state_after, plan_refusal, same_pairs}
@@ -28,9 +27,9 @@ faultless : (m : State) (plan : Plan) (fault : Option Fault) → fault ≡ None 
 faultless m plan None e = numbered m (same_pairs (allocation_of m plan.pairs) (current_pairs m)) (nat_lt (current_of m) 4294967295)
 faultless m plan (Some fault) e = cc
 
-pub installed : (m : State) (plan : Plan) → IsKept m → IsCertifiedNow m plan → IsInstalled m (answer_of m (Install plan))
+pub installed : NoFaultIsCertified → (m : State) (plan : Plan) → IsKept m → IsCertifiedNow m plan → IsInstalled m (answer_of m (Install plan))
 unfolding answer_of
-installed m plan kept h = faultless m plan (fault_of (instance_of m) plan.pairs plan.item_prices plan.bin_prices) (certified_none (instance_of m) plan.pairs plan.item_prices plan.bin_prices (problem_is m kept) h)
+installed law m plan kept h = faultless m plan (fault_of (instance_of m) plan.pairs plan.item_prices plan.bin_prices) ((law (instance_of m) plan.pairs plan.item_prices plan.bin_prices (problem_is m kept)).1 h)
 
-pub certified_are_installed : CertifiedAreInstalled
-certified_are_installed jobs events plan h = installed (state_of (first_state jobs) events) plan (run_kept (first_state jobs) events (start_kept jobs)) h
+pub certified_are_installed : NoFaultIsCertified → CertifiedAreInstalled
+certified_are_installed law jobs events plan h = installed law (state_of (first_state jobs) events) plan (run_kept (first_state jobs) events (start_kept jobs)) h

@@ -1,3 +1,4 @@
+//! Laws over all lists of events.
 ghost use Rattle.allocation_core.specs.State.{State};
 ghost use Rattle.allocation_core.specs.Steps.{answer_of};
 ghost use Rattle.allocation_core.specs.Answers.{IsAnswerTo};
@@ -6,6 +7,8 @@ ghost use Rattle.allocation_core.specs.Booked.{AlwaysBooked};
 ghost use Rattle.allocation_core.specs.Installed.{CertifiedAreInstalled};
 ghost use Rattle.allocation_core.specs.Kept.{AlwaysKept};
 ghost use Rattle.allocation_core.specs.declared.event.Event.{Event};
+
+use price_certificate::no_fault_is_certified;
 
 /// Over every list of events, each published allocation is the best of the moment just before its Install. It is sound:
 /// only live targets, each at most once and in ascending order, each at a live collector that reaches it, and no collector
@@ -30,7 +33,9 @@ pub fn answers_fit()
 /// pairs are those of the current allocation or the last number is given.
 pub fn certified_are_installed()
     ensures { CertifiedAreInstalled }
-{}
+{
+    no_fault_is_certified();
+}
 
 /// What every state keeps, over every list of events: no limit is passed, a source lists targets of its own job alone and in
 /// ascending order, no known target and no name of a live collector stands twice.

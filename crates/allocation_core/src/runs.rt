@@ -1,10 +1,10 @@
+//! Runs of the machine over a list of events.
 ghost use Rattle.std.specs.Prelude.{◌≡◌, ◌++◌, List, IfOk, IfErr, OnOk};
 ghost use Rattle.allocation_core.specs.declared.job.JobSpec.{JobSpec};
 ghost use Rattle.allocation_core.specs.State.{first_state};
 ghost use Rattle.allocation_core.specs.Best.{AllBest};
 ghost use Rattle.allocation_core.specs.Booked.{AllBooked};
 ghost use Rattle.allocation_core.specs.Runs.{answers_of, state_of, StopsAt};
-
 ghost use Rattle.allocation_core.specs.declared.event.Event.{Event};
 
 use crate::answer::Answer;
@@ -17,9 +17,9 @@ pub struct Stopped {
     pub answers: Vec<Answer>,
 }
 
-/// Applies events in order, and stops at the first want of memory. Each allocation of a core that was just opened is then
-/// the best of its moment, in the sense of `published_are_best`, and each booked report is one of the target's holder, in the
-/// sense of `booked_by_holders`.
+/// Applies events in order, and stops at the first want of memory, with that event and those behind it left. Whatever events
+/// the core had before, each of its allocations is then the best of its moment, in the sense of `published_are_best`, and each
+/// booked report is one of the target's holder, in the sense of `booked_by_holders`.
 pub fn run(core: &mut Core, events: Vec<Event>) -> Result<Vec<Answer>, Stopped>
     ensures answers { IfOk result (λ v. v.items ≡ answers_of core.old events.items) }
     ensures state { OnOk result (core.new ≡ state_of core.old events.items) }

@@ -11,3 +11,4 @@ pub mod Placing
 pub mod First
 pub mod Finding
 pub mod Verdicts
+pub mod LeastFault

@@ -1,3 +1,4 @@
+//! The instance of a moment, and the plans that are installed.
 ghost use Rattle.std.specs.Prelude.{◌≡◌, IfOk, OnOk, OnErr};
 ghost use Rattle.price_certificate.specs.Faults.{fault_of};
 ghost use Rattle.allocation_core.specs.Instances.{instance_of, allocation_of};
@@ -13,7 +14,7 @@ use crate::pairs::same_pairs;
 use crate::problem::instance;
 use handover::HoldersError;
 use lists::List;
-use price_certificate::{Fault, Instance, Plan, Verdict, check};
+use price_certificate::{Fault, Instance, Plan, Verdict, check, no_fault_is_certified};
 use std::alloc::{AllocError, Global};
 
 impl Core {
@@ -51,13 +52,14 @@ impl Core {
     }
 
     /// A plan is published, where the check against the instance of this moment finds no fault.
-    #[tactic(auto, using(crate::proofs::InstalledLemmas::installed), unfolding(crate::specs::Steps::answer_of, crate::specs::Steps::state_after))]
+    #[tactic(auto, unfolding(crate::specs::Steps::answer_of, crate::specs::Steps::state_after))]
     pub(super) fn install(&mut self, plan: Plan) -> Result<Answer, AllocError>
         ensures answer { IfOk result (λ a. a ≡ answer_of self.old (Install plan)) }
         ensures state { OnOk result (self.new ≡ state_after self.old (Install plan)) }
         ensures err { OnErr result (self.new ≡ self.old) }
         ensures certified { IsCertifiedNow self.old plan → IfOk result (IsInstalled self.old) }
     {
+        no_fault_is_certified();
         let instance = self.instance()?;
         if let Some(fault) = fault_in(self.alloc, &instance, &plan)? {
             return Ok(Answer::Not(Refusal::Refused(fault)));
