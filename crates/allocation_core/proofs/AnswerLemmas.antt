@@ -15,10 +15,10 @@ use Rattle.allocation_core.specs.Instances.{instance_of, allocation_of}
 use Rattle.allocation_core.specs.Steps.{answer_of, answer_by, source_refusal, discovered, name_refusal, plan_refusal, same_pairs, is_booked, is_holder, report_refusal}
 use Rattle.allocation_core.specs.Answers.{IsAnswerTo, is_discover_answer, is_join_answer, is_leave_answer, is_install_answer, is_round_answer, is_take_answer, is_report_answer}
 use Rattle.allocation_core.specs.declared.job.Collector.{Collector}
-use Rattle.allocation_core.specs.declared.event.Event.{Event}
-use Rattle.allocation_core.specs.declared.event.Event.TheVariants.{Discover, Join, Leave, Install, NextRound, Take, Report}
-use Rattle.allocation_core.specs.declared.answer.Answer.TheVariants.{Discovered, Joined, Left, Published, RoundOpen, Taken, Booked}
-use Rattle.allocation_core.specs.declared.answer.Refusal.TheVariants.{UnknownJob, UnknownSource, TooManyLive, TooManyKnown, TooManyCollectors, IdsSpent, UnknownCollector, Unchanged, NumbersSpent, RoundsSpent, NotTaken, UnknownTarget, NotHolder, RoundClosed, RoundNotOpen, AlreadyBooked}
+use Rattle.fleet_events.specs.declared.event.Event.{Event}
+use Rattle.fleet_events.specs.declared.event.Event.TheVariants.{Discover, Join, Leave, Install, NextRound, Take, Report}
+use Rattle.fleet_events.specs.declared.answer.Answer.TheVariants.{Discovered, Joined, Left, Published, RoundOpen, Taken, Booked}
+use Rattle.fleet_events.specs.declared.refusal.Refusal.TheVariants.{UnknownJob, UnknownSource, TooManyLive, TooManyKnown, TooManyCollectors, IdsSpent, UnknownCollector, Unchanged, NumbersSpent, RoundsSpent, NotTaken, UnknownTarget, NotHolder, RoundClosed, RoundNotOpen, AlreadyBooked}
 
 source_answer : (s a b : Bool) (x y : ℕ) → IsTrue (is_discover_answer (answer_by (cond s (cond a (Some TooManyLive) (cond b (Some TooManyKnown) None)) (Some UnknownSource)) (Discovered x y)))
 source_answer false a b x y = refl
@@ -82,6 +82,6 @@ answers_fit m (Leave id) = leave_answer (is_joined m id)
 answers_fit m (Install plan) = install_answer m plan (fault_of (instance_of m) plan.pairs plan.item_prices plan.bin_prices) (current_of m + 1)
 answers_fit m NextRound = round_answer (nat_lt m.round 4294967295) (m.round + 1)
 answers_fit m (Take id) = take_answer (is_joined m id) (current_of m) m.round (held_by m id)
-answers_fit m (Report collector number target round outcome) =
-    let holder : Option ℕ = holder_in m.published number target in
-    report_answer (is_joined m collector) (taken_by m.taken collector == number) (nat_lt target (length m.known)) (is_holder holder collector) (nat_lt round m.round) (nat_lt m.round round) (is_booked m.booked target round) (taken_by m.taken collector) m.round holder
+answers_fit m (Report report) =
+    let holder : Option ℕ = holder_in m.published report.allocation report.target in
+    report_answer (is_joined m report.collector) (taken_by m.taken report.collector == report.allocation) (nat_lt report.target (length m.known)) (is_holder holder report.collector) (nat_lt report.round m.round) (nat_lt m.round report.round) (is_booked m.booked report.target report.round) (taken_by m.taken report.collector) m.round holder

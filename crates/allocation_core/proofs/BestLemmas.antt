@@ -19,9 +19,9 @@ use Rattle.allocation_core.specs.Best.{AllBest, WasBest, AlwaysBest, IsBest, IsS
 use Rattle.allocation_core.proofs.SoundLemmas.{allocation_ascending, allocation_live, allocation_once, allocation_reaching}
 use Rattle.allocation_core.proofs.WithinLemmas.{allocation_within}
 use Rattle.allocation_core.proofs.TransferLemmas.{IsOnce, best_of, moves_alike}
-use Rattle.allocation_core.specs.declared.event.Event.{Event}
-use Rattle.allocation_core.specs.declared.event.Event.TheVariants.{Install}
-use Rattle.allocation_core.specs.declared.answer.Answer.TheVariants.{Published}
+use Rattle.fleet_events.specs.declared.event.Event.{Event}
+use Rattle.fleet_events.specs.declared.event.Event.TheVariants.{Install}
+use Rattle.fleet_events.specs.declared.answer.Answer.TheVariants.{Published}
 use Rattle.allocation_core.specs.declared.job.JobSpec.{JobSpec}
 use Rattle.allocation_core.proofs.LiveLemmas.{length-chosen}
 use Rattle.allocation_core.proofs.Shapes.{parts_shaped, bin_below, length-limits}

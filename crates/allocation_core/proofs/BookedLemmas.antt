@@ -22,11 +22,11 @@ use Rattle.allocation_core.specs.Runs.{state_of}
 use Rattle.allocation_core.specs.Kept.{IsKept}
 use Rattle.allocation_core.specs.Booked.{AllBooked, AlwaysBooked, WasBooked, report_of}
 use Rattle.allocation_core.specs.declared.job.JobSpec.{JobSpec}
-use Rattle.allocation_core.specs.declared.event.Event.{Event}
-use Rattle.allocation_core.specs.declared.event.Event.TheVariants.{Discover, Join, Leave, Install, NextRound, Take, Report}
-use Rattle.allocation_core.specs.declared.answer.Answer.{Answer}
-use Rattle.allocation_core.specs.declared.answer.Answer.TheVariants.{Booked}
-use Rattle.allocation_core.specs.declared.answer.Refusal.{Refusal}
+use Rattle.fleet_events.specs.declared.event.Event.{Event}
+use Rattle.fleet_events.specs.declared.event.Event.TheVariants.{Discover, Join, Leave, Install, NextRound, Take, Report}
+use Rattle.fleet_events.specs.declared.answer.Answer.{Answer}
+use Rattle.fleet_events.specs.declared.answer.Answer.TheVariants.{Booked}
+use Rattle.fleet_events.specs.declared.refusal.Refusal.{Refusal}
 use Rattle.allocation_core.proofs.Admission.{Admitted, admitted}
 use Rattle.allocation_core.proofs.BestLemmas.{Grows, step_grows}
 use Rattle.allocation_core.proofs.StepLemmas.{step_kept, start_kept}
@@ -62,9 +62,9 @@ books m (Leave id) = inl (same_by m _ (refusal_of m (Leave id)) refl)
 books m (Install plan) = inl (same_by m _ (refusal_of m (Install plan)) refl)
 books m NextRound = inl (same_by m _ (refusal_of m NextRound) refl)
 books m (Take id) = inl (same_by m _ (refusal_of m (Take id)) refl)
-books m (Report collector number target round outcome) =
-    let entry : ℕ × Entry = (target, entry_of collector number round outcome) in
-    elim (report_by m (changed m (report_of entry)) entry (refusal_of m (report_of entry)) (admitted m collector number target round outcome) refl) [
+books m (Report report) =
+    let entry : ℕ × Entry = (report.target, entry_of report.collector report.allocation report.round report.outcome) in
+    elim (report_by m (changed m (report_of entry)) entry (refusal_of m (report_of entry)) (admitted m report.collector report.allocation report.target report.round report.outcome) refl) [
       | inl same ↦ inl same
       | inr grown ↦ inr (record { entry = entry; is = refl; free = grown.0; answered = grown.1; grown = grown.2 })
     ]
@@ -237,7 +237,7 @@ booked_after jobs events done left old new opened split is =
 
 -- the total rises by what an event books
 gained_by : (m n : State) (collector number target round : ℕ) (outcome : Outcome) (o : Option Refusal) → n.booked ≡ m.booked ++ (target, entry_of collector number round outcome) ∷ []
-    → total_of (if is_some o then m else n).booked ≡ total_of m.booked + gained (Report collector number target round outcome) (answer_by o Booked)
+    → total_of (if is_some o then m else n).booked ≡ total_of m.booked + gained (report_of (target, entry_of collector number round outcome)) (answer_by o Booked)
 gained_by m n collector number target round outcome None grown =
     let b : ℕ × Entry = (target, entry_of collector number round outcome) in
     let more = sum_by-append (λ (q : ℕ × Entry). samples_of q.1.outcome) m.booked (b ∷ []) in
@@ -256,13 +256,13 @@ total_rises m (Leave id) = nothing_by m (changed m (Leave id)) (refusal_of m (Le
 total_rises m (Install plan) = nothing_by m (changed m (Install plan)) (refusal_of m (Install plan)) refl
 total_rises m NextRound = nothing_by m (changed m NextRound) (refusal_of m NextRound) refl
 total_rises m (Take id) = nothing_by m (changed m (Take id)) (refusal_of m (Take id)) refl
-total_rises m (Report collector number target round outcome) =
-    gained_by m (changed m (Report collector number target round outcome)) collector number target round outcome (refusal_of m (Report collector number target round outcome)) refl
+total_rises m (Report report) =
+    gained_by m (changed m (Report report)) report.collector report.allocation report.target report.round report.outcome (refusal_of m (Report report)) refl
 
-nothing_against : (m : State) (collector number target round : ℕ) (outcome : Outcome) → is_joined m collector ≡ true → report_refusal m collector number target round ≡ None → refusal_of m (Report collector number target round outcome) ≡ None
+nothing_against : (m : State) (collector number target round : ℕ) (outcome : Outcome) → is_joined m collector ≡ true → report_refusal m collector number target round ≡ None → refusal_of m (report_of (target, entry_of collector number round outcome)) ≡ None
 nothing_against m collector number target round outcome joined free = cond-true (is_joined m collector) _ _ joined ∙ free
 
-pub booked_answer : (m : State) (collector number target round : ℕ) (outcome : Outcome) → is_joined m collector ≡ true → report_refusal m collector number target round ≡ None → Booked ≡ answer_of m (Report collector number target round outcome)
+pub booked_answer : (m : State) (collector number target round : ℕ) (outcome : Outcome) → is_joined m collector ≡ true → report_refusal m collector number target round ≡ None → Booked ≡ answer_of m (report_of (target, entry_of collector number round outcome))
 unfolding answer_of
 booked_answer m collector number target round outcome joined free = ap (λ (o : Option Refusal). answer_by o Booked) (sym (nothing_against m collector number target round outcome joined free))
 

@@ -11,10 +11,10 @@ use Rattle.allocation_core.specs.Runs.{state_of}
 use Rattle.allocation_core.specs.Kept.{IsKept}
 use Rattle.allocation_core.specs.Installed.{IsInstalled, IsCertifiedNow, CertifiedAreInstalled}
 use Rattle.allocation_core.specs.declared.job.JobSpec.{JobSpec}
-use Rattle.allocation_core.specs.declared.event.Event.{Event}
-use Rattle.allocation_core.specs.declared.event.Event.TheVariants.{Install}
-use Rattle.allocation_core.specs.declared.answer.Answer.TheVariants.{Published}
-use Rattle.allocation_core.specs.declared.answer.Refusal.TheVariants.{Unchanged, NumbersSpent}
+use Rattle.fleet_events.specs.declared.event.Event.{Event}
+use Rattle.fleet_events.specs.declared.event.Event.TheVariants.{Install}
+use Rattle.fleet_events.specs.declared.answer.Answer.TheVariants.{Published}
+use Rattle.fleet_events.specs.declared.refusal.Refusal.TheVariants.{Unchanged, NumbersSpent}
 use Rattle.allocation_core.proofs.BestLemmas.{problem_is}
 use Rattle.allocation_core.proofs.StepLemmas.{run_kept, start_kept}
 

@@ -15,8 +15,8 @@ use Rattle.allocation_core.specs.Jobs.{sources_at}
 use Rattle.allocation_core.specs.Steps.{crowd_in, IsChange, IsChangeFrom}
 use Rattle.allocation_core.specs.State.{State}
 use Rattle.allocation_core.specs.Kept.{IsKept}
-use Rattle.allocation_core.specs.declared.answer.Refusal.{Refusal}
-use Rattle.allocation_core.specs.declared.answer.Refusal.TheVariants.{TooManyLive, TooManyKnown}
+use Rattle.fleet_events.specs.declared.refusal.Refusal.{Refusal}
+use Rattle.fleet_events.specs.declared.refusal.Refusal.TheVariants.{TooManyLive, TooManyKnown}
 use Rattle.allocation_core.specs.declared.job.Known.{Known}
 use Rattle.allocation_core.proofs.Chosen.{chosen_all}
 use Rattle.allocation_core.proofs.OrderLemmas.{orderly_discovered}

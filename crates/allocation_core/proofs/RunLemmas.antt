@@ -3,8 +3,8 @@ use Rattle.std.proofs.Common.{◌≡◌, ◌<◌, List, [], ◌∷◌, ◌++◌,
 use Rattle.allocation_core.specs.State.{State}
 use Rattle.allocation_core.specs.Steps.{answer_of, state_after}
 use Rattle.allocation_core.specs.Runs.{answers_of, state_of, StopsAt}
-use Rattle.allocation_core.specs.declared.event.Event.{Event}
-use Rattle.allocation_core.specs.declared.answer.Answer.{Answer}
+use Rattle.fleet_events.specs.declared.event.Event.{Event}
+use Rattle.fleet_events.specs.declared.answer.Answer.{Answer}
 
 pub state_of_push : (m : State) (es : List Event) (e : Event) → state_of m (es ++ e ∷ []) ≡ state_after (state_of m es) e
 state_of_push m [] e = refl

@@ -23,11 +23,11 @@ use Rattle.allocation_core.specs.Runs.{state_of}
 use Rattle.allocation_core.specs.Kept.{IsKept}
 use Rattle.allocation_core.specs.declared.job.JobSpec.{JobSpec}
 use Rattle.allocation_core.specs.declared.job.Collector.{Collector}
-use Rattle.allocation_core.specs.declared.event.Event.{Event}
-use Rattle.allocation_core.specs.declared.event.Event.TheVariants.{Discover, Join, Leave, Install, NextRound, Take, Report}
-use Rattle.allocation_core.specs.declared.answer.Answer.TheVariants.{Published}
-use Rattle.allocation_core.specs.declared.answer.Refusal.{Refusal}
-use Rattle.allocation_core.specs.declared.answer.Refusal.TheVariants.{UnknownJob, UnknownSource, TooManyCollectors, IdsSpent, Unchanged, NumbersSpent}
+use Rattle.fleet_events.specs.declared.event.Event.{Event}
+use Rattle.fleet_events.specs.declared.event.Event.TheVariants.{Discover, Join, Leave, Install, NextRound, Take, Report}
+use Rattle.fleet_events.specs.declared.answer.Answer.TheVariants.{Published}
+use Rattle.fleet_events.specs.declared.refusal.Refusal.{Refusal}
+use Rattle.fleet_events.specs.declared.refusal.Refusal.TheVariants.{UnknownJob, UnknownSource, TooManyCollectors, IdsSpent, Unchanged, NumbersSpent}
 use Rattle.allocation_core.proofs.KeptLemmas.{first_kept, joined_kept, leave_kept}
 use Rattle.allocation_core.proofs.LiveLemmas.{relisted_kept}
 use Rattle.allocation_core.proofs.Shapes.{position_below}
@@ -125,9 +125,9 @@ changed_kept m (Leave id) kept free = leave_kept m (λ (c : Collector). _) kept
 changed_kept m (Install plan) kept free = install_kept m plan kept free
 changed_kept m NextRound kept free = kept_with m m.taken (m.round + 1) m.booked kept (omega arith) (λ k d l. omega (arith, kept.past_rounds k d l))
 changed_kept m (Take id) kept free = kept_with m (with_taken m.taken id (current_of m)) m.round m.booked kept kept.opened kept.past_rounds
-changed_kept m (Report collector number target round outcome) kept free =
-    let b : ℕ × Entry = (target, entry_of collector number round outcome) in
-    let opened : m.round ≡ round = (admitted m collector number target round outcome free).opened in
+changed_kept m (Report report) kept free =
+    let b : ℕ × Entry = (report.target, entry_of report.collector report.allocation report.round report.outcome) in
+    let opened : m.round ≡ report.round = (admitted m report.collector report.allocation report.target report.round report.outcome free).opened in
     kept_with m m.taken m.round (m.booked ++ b ∷ []) kept kept.opened (All-push (λ (x : ℕ × Entry). x.1.round ≤ m.round) m.booked b kept.past_rounds (omega (arith, opened)))
 
 pub step_kept : (m : State) (e : Event) → IsKept m → IsKept (state_after m e)
@@ -173,7 +173,7 @@ publishes m (Join name reach) = inl (same_by m _ (refusal_of m (Join name reach)
 publishes m (Leave id) = inl (same_by m _ (refusal_of m (Leave id)) refl)
 publishes m NextRound = inl (same_by m _ (refusal_of m NextRound) refl)
 publishes m (Take id) = inl (same_by m _ (refusal_of m (Take id)) refl)
-publishes m (Report collector number target round outcome) = inl (same_by m _ (refusal_of m (Report collector number target round outcome)) refl)
+publishes m (Report report) = inl (same_by m _ (refusal_of m (Report report)) refl)
 publishes m (Install plan) =
     elim (install_by m plan (refusal_of m (Install plan)) (λ e. (plan_by m plan (fault_of (instance_of m) plan.pairs plan.item_prices plan.bin_prices) e).0)) [
       | inl same ↦ inl same

@@ -12,9 +12,9 @@ use Rattle.allocation_core.specs.Instances.{instance_of, allocation_of}
 use Rattle.allocation_core.specs.Steps.{answer_of, state_after}
 use Rattle.allocation_core.specs.Runs.{state_of}
 use Rattle.allocation_core.specs.declared.job.JobSpec.{JobSpec}
-use Rattle.allocation_core.specs.declared.event.Event.{Event}
-use Rattle.allocation_core.specs.declared.event.Event.TheVariants.{Install}
-use Rattle.allocation_core.specs.declared.answer.Answer.TheVariants.{Published}
+use Rattle.fleet_events.specs.declared.event.Event.{Event}
+use Rattle.fleet_events.specs.declared.event.Event.TheVariants.{Install}
+use Rattle.fleet_events.specs.declared.answer.Answer.TheVariants.{Published}
 
 -- a live collector of this number reaches the target
 pub record IsReached (m : State) (target collector : ℕ) : Type 0 where

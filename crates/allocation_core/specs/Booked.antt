@@ -7,13 +7,13 @@ use Rattle.allocation_core.specs.State.{State, first_state, is_joined}
 use Rattle.allocation_core.specs.Steps.{answer_of}
 use Rattle.allocation_core.specs.Runs.{state_of}
 use Rattle.allocation_core.specs.declared.job.JobSpec.{JobSpec}
-use Rattle.allocation_core.specs.declared.event.Event.{Event}
-use Rattle.allocation_core.specs.declared.event.Event.TheVariants.{Report}
-use Rattle.allocation_core.specs.declared.answer.Answer.TheVariants.{Booked}
+use Rattle.fleet_events.specs.declared.event.Event.{Event}
+use Rattle.fleet_events.specs.declared.event.Event.TheVariants.{Report}
+use Rattle.fleet_events.specs.declared.answer.Answer.TheVariants.{Booked}
 
 -- The Report that books an entry of a target.
 abbrev pub report_of : ℕ × Entry → Event
-report_of b = Report b.1.collector b.1.number b.0 b.1.round b.1.outcome
+report_of b = Report (record { collector = b.1.collector; allocation = b.1.number; target = b.0; round = b.1.round; outcome = b.1.outcome })
 
 -- A Report among the events booked the entry, in this place. Just before that event its collector was live, had last taken the
 -- allocation that the report names, and held the target there; and the round was the open one.

@@ -7,11 +7,11 @@ use Rattle.allocation_core.specs.Instances.{instance_of}
 use Rattle.allocation_core.specs.Steps.{answer_of}
 use Rattle.allocation_core.specs.Runs.{state_of}
 use Rattle.allocation_core.specs.declared.job.JobSpec.{JobSpec}
-use Rattle.allocation_core.specs.declared.event.Event.{Event}
-use Rattle.allocation_core.specs.declared.event.Event.TheVariants.{Install}
-use Rattle.allocation_core.specs.declared.answer.Answer.{Answer}
-use Rattle.allocation_core.specs.declared.answer.Answer.TheVariants.{Published, Not}
-use Rattle.allocation_core.specs.declared.answer.Refusal.TheVariants.{Unchanged, NumbersSpent}
+use Rattle.fleet_events.specs.declared.event.Event.{Event}
+use Rattle.fleet_events.specs.declared.event.Event.TheVariants.{Install}
+use Rattle.fleet_events.specs.declared.answer.Answer.{Answer}
+use Rattle.fleet_events.specs.declared.answer.Answer.TheVariants.{Published, Not}
+use Rattle.fleet_events.specs.declared.refusal.Refusal.TheVariants.{Unchanged, NumbersSpent}
 
 -- the plan is published, or its pairs are those of the current allocation, or the last number is given
 abbrev pub IsInstalled : State → Answer → Type 0

@@ -6,7 +6,7 @@ use Rattle.allocation_core.specs.Runs.{state_of}
 use Rattle.allocation_core.specs.Live.{count_below}
 use Rattle.allocation_core.specs.Jobs.{sources_at}
 use Rattle.allocation_core.specs.Orderly.{IsOrderly}
-use Rattle.allocation_core.specs.declared.event.Event.{Event}
+use Rattle.fleet_events.specs.declared.event.Event.{Event}
 use Rattle.allocation_core.specs.declared.job.JobSpec.{JobSpec}
 use Rattle.allocation_core.specs.declared.job.Known.{Known}
 use Rattle.allocation_core.specs.declared.job.Collector.{Collector}

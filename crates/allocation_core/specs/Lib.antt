@@ -5,7 +5,6 @@ pub mod Instances
 pub mod Jobs
 pub mod Kept
 pub mod Known
-pub mod Lines
 pub mod Live
 pub mod Runs
 pub mod State

@@ -2,8 +2,8 @@
 use Rattle.std.specs.Prelude.{◌≡◌, List, [], ◌∷◌, ◌++◌}
 use Rattle.allocation_core.specs.State.{State}
 use Rattle.allocation_core.specs.Steps.{answer_of, state_after}
-use Rattle.allocation_core.specs.declared.event.Event.{Event}
-use Rattle.allocation_core.specs.declared.answer.Answer.{Answer}
+use Rattle.fleet_events.specs.declared.event.Event.{Event}
+use Rattle.fleet_events.specs.declared.answer.Answer.{Answer}
 
 abbrev pub answers_of : State → List Event → List Answer
 answers_of m [] = []

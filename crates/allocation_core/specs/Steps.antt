@@ -17,12 +17,12 @@ use Rattle.allocation_core.specs.Known.{known_with, numbers_of}
 use Rattle.allocation_core.specs.Jobs.{job_named, sources_at}
 use Rattle.allocation_core.specs.Instances.{instance_of, allocation_of}
 use Rattle.allocation_core.specs.declared.job.Collector.{Collector}
-use Rattle.allocation_core.specs.declared.event.Event.{Event}
-use Rattle.allocation_core.specs.declared.event.Event.TheVariants.{Discover, Join, Leave, Install, NextRound, Take, Report}
-use Rattle.allocation_core.specs.declared.answer.Answer.{Answer}
-use Rattle.allocation_core.specs.declared.answer.Answer.TheVariants.{Discovered, Joined, Left, Published, RoundOpen, Taken, Booked, Not}
-use Rattle.allocation_core.specs.declared.answer.Refusal.{Refusal}
-use Rattle.allocation_core.specs.declared.answer.Refusal.TheVariants.{UnknownJob, UnknownSource, TooManyLive, TooManyKnown, AlreadyJoined, TooManyCollectors, IdsSpent, UnknownCollector, Refused, Unchanged, NumbersSpent, RoundsSpent, NotTaken, UnknownTarget, NotHolder, RoundClosed, RoundNotOpen, AlreadyBooked}
+use Rattle.fleet_events.specs.declared.event.Event.{Event}
+use Rattle.fleet_events.specs.declared.event.Event.TheVariants.{Discover, Join, Leave, Install, NextRound, Take, Report}
+use Rattle.fleet_events.specs.declared.answer.Answer.{Answer}
+use Rattle.fleet_events.specs.declared.answer.Answer.TheVariants.{Discovered, Joined, Left, Published, RoundOpen, Taken, Booked, Not}
+use Rattle.fleet_events.specs.declared.refusal.Refusal.{Refusal}
+use Rattle.fleet_events.specs.declared.refusal.Refusal.TheVariants.{UnknownJob, UnknownSource, TooManyLive, TooManyKnown, AlreadyJoined, TooManyCollectors, IdsSpent, UnknownCollector, Refused, Unchanged, NumbersSpent, RoundsSpent, NotTaken, UnknownTarget, NotHolder, RoundClosed, RoundNotOpen, AlreadyBooked}
 
 -- the state where a source of a job lists these targets, in place of those that it listed before
 abbrev pub discovered : State → ℕ → ℕ → List FinalTarget → State
@@ -98,7 +98,7 @@ refusal_of m (Leave id) = unless_unknown m id None
 refusal_of m (Install plan) = plan_refusal m plan (fault_of (instance_of m) plan.pairs plan.item_prices plan.bin_prices)
 refusal_of m NextRound = if nat_lt m.round 4294967295 then None else Some RoundsSpent
 refusal_of m (Take id) = unless_unknown m id None
-refusal_of m (Report collector number target round outcome) = unless_unknown m collector (report_refusal m collector number target round)
+refusal_of m (Report report) = unless_unknown m report.collector (report_refusal m report.collector report.allocation report.target report.round)
 
 -- a report as it is booked
 abbrev pub entry_of : ℕ → ℕ → ℕ → Outcome → Entry
@@ -112,7 +112,7 @@ changed m (Leave id) = record m { collectors = filter (λ (c : Collector). not (
 changed m (Install plan) = record m { published = m.published ++ allocation_of m plan.pairs ∷ []; problem = instance_of m; plan = plan }
 changed m NextRound = record m { round = m.round + 1 }
 changed m (Take id) = record m { taken = with_taken m.taken id (current_of m) }
-changed m (Report collector number target round outcome) = record m { booked = m.booked ++ (target, entry_of collector number round outcome) ∷ [] }
+changed m (Report report) = record m { booked = m.booked ++ (report.target, entry_of report.collector report.allocation report.round report.outcome) ∷ [] }
 
 -- the targets that became live, and those that are live no longer
 abbrev pub difference : State → State → Answer
@@ -126,7 +126,7 @@ granted m (Leave id) = Left
 granted m (Install plan) = Published (current_of m + 1)
 granted m NextRound = RoundOpen (m.round + 1)
 granted m (Take id) = Taken (current_of m) m.round (held_by m id)
-granted m (Report collector number target round outcome) = Booked
+granted m (Report report) = Booked
 
 abbrev pub answer_by : Option Refusal → Answer → Answer
 answer_by None granted = granted
@@ -140,7 +140,7 @@ state_after m event = if is_some (refusal_of m event) then m else changed m even
 
 -- the samples that an event booked, by its answer
 abbrev pub gained : Event → Answer → ℕ
-gained (Report collector number target round outcome) Booked = samples_of outcome
+gained (Report report) Booked = samples_of report.outcome
 gained event answer = 0
 
 -- what a change of the lists comes to: how many targets of so many known ones became live and are live no longer, or what is against it

@@ -6,7 +6,7 @@ ghost use Rattle.allocation_core.specs.Best.{AlwaysBest};
 ghost use Rattle.allocation_core.specs.Booked.{AlwaysBooked};
 ghost use Rattle.allocation_core.specs.Installed.{CertifiedAreInstalled};
 ghost use Rattle.allocation_core.specs.Kept.{AlwaysKept};
-ghost use Rattle.allocation_core.specs.declared.event.Event.{Event};
+ghost use Rattle.fleet_events.specs.declared.event.Event.{Event};
 
 use price_certificate::no_fault_is_certified;
 

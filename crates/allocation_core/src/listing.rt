@@ -3,7 +3,7 @@ ghost use Rattle.allocation_core.specs.Known.{known_with, numbers_of};
 ghost use Rattle.allocation_core.specs.Live.{chosen_below, count_below, is_in, is_listed, mark_at, with_list, AreMarks};
 ghost use Rattle.allocation_core.specs.Steps.{IsChange, IsChangeFrom, kept_unless};
 
-use crate::answer::Refusal;
+use fleet_events::Refusal;
 use crate::job::Known;
 use crate::live::{chosen, count_marks, count_only, listed_marks, number_marks};
 use indexmap::IndexSet;

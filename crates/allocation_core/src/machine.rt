@@ -13,14 +13,13 @@ mod joining;
 mod reporting;
 mod taking;
 
-use crate::answer::Answer;
 use crate::collectors::id_named;
 use crate::error::OpenError;
-use crate::event::Event;
 use crate::job::{Collector, JobSpec, Known};
 use crate::jobs::{are_jobs, nothing_listed};
 use crate::problem::{empty_instance, empty_plan};
-use handover::{CollectorId, Holders, TargetId};
+use fleet_events::{Answer, CollectorId, Event, TargetId};
+use handover::Holders;
 use indexmap::IndexSet;
 use label_sets::Target;
 use lists::{List, Plain};
@@ -105,13 +104,7 @@ impl Core {
             Event::Install(plan) => self.install(plan),
             Event::NextRound => Ok(self.next_round()),
             Event::Take(collector) => self.take(collector),
-            Event::Report {
-                collector,
-                number,
-                target,
-                round,
-                outcome,
-            } => self.report(collector, number, target, round, outcome),
+            Event::Report(report) => self.report(report),
         }
     }
 

@@ -5,10 +5,9 @@ ghost use Rattle.allocation_core.specs.State.{first_state};
 ghost use Rattle.allocation_core.specs.Best.{AllBest};
 ghost use Rattle.allocation_core.specs.Booked.{AllBooked};
 ghost use Rattle.allocation_core.specs.Runs.{answers_of, state_of, StopsAt};
-ghost use Rattle.allocation_core.specs.declared.event.Event.{Event};
+ghost use Rattle.fleet_events.specs.declared.event.Event.{Event};
 
-use crate::answer::Answer;
-use crate::event::Event;
+use fleet_events::{Answer, Event};
 use crate::machine::Core;
 
 /// A run that stopped for want of memory. The core is as after the events that were answered.

@@ -8,10 +8,10 @@ use Rattle.allocation_core.specs.Steps.{answer_of, state_after}
 use Rattle.allocation_core.specs.Runs.{answers_of, state_of}
 use Rattle.allocation_core.specs.Best.{AlwaysBest}
 use Rattle.allocation_core.specs.Booked.{AlwaysBooked}
-use Rattle.allocation_core.specs.declared.event.Event.{Event}
+use Rattle.fleet_events.specs.declared.event.Event.{Event}
 use Rattle.allocation_core.specs.declared.job.JobSpec.{JobSpec}
 use Rattle.replay_lines.specs.Configurations.{opened}
-use Rattle.replay_lines.specs.Events.{event_in}
+use Rattle.fleet_events.specs.Reading.{event_of}
 use Rattle.replay_lines.specs.Replays.{Written, answered, answered_line, total_line, totalled, unreadable_at, unreadable_line, written_from, written_by, lines_in, replay_of}
 use Rattle.replay_lines.specs.AsRuns.{answered_lines, events_of, IsRunFrom, IsRun, IsRunOf, ReplaysAreRuns}
 use Rattle.replay_lines.specs.declared.run.Ended.TheVariants.{Done, Unreadable}
@@ -37,7 +37,7 @@ unfolding written_from events_of
 run_from number m [] = record { last = total_line m; text = refl; total = λ e. refl }
 run_from number m (line ∷ lines) =
     by_line m (bytes_eq line []) (events_of lines) _ (written_from (number + 1) m lines) _ (run_from (number + 1) m lines)
-    (by_event number m (event_in line) (events_of lines) (λ event. written_from (number + 1) (state_after m event) lines) (λ event. run_from (number + 1) (state_after m event) lines))
+    (by_event number m (event_of line) (events_of lines) (λ event. written_from (number + 1) (state_after m event) lines) (λ event. run_from (number + 1) (state_after m event) lines))
 
 opens : (lines : List (List ℕ)) (jobs : List JobSpec) (found : Option State) → found ≡ Some (first_state jobs) → option_map_or (λ m. written_from 2 m lines) found (unreadable_at 1) ≡ written_from 2 (first_state jobs) lines
 opens lines jobs found e = ap (λ (o : Option State). option_map_or (λ m. written_from 2 m lines) o (unreadable_at 1)) e

@@ -2,13 +2,13 @@
 use Rattle.std.specs.Prelude.{◌≡◌, ℕ, List, [], ◌∷◌, ◌++◌, Some, if◌then◌else◌}
 use Rattle.std.specs.Option.{option_map_or}
 use Rattle.std.specs.Str.{bytes_eq}
-use Rattle.replay_lines.specs.Events.{event_in}
+use Rattle.fleet_events.specs.Reading.{event_of}
 use Rattle.allocation_core.specs.State.{State, first_state}
 use Rattle.allocation_core.specs.Runs.{answers_of, state_of}
 use Rattle.allocation_core.specs.Best.{AllBest}
 use Rattle.allocation_core.specs.Booked.{AllBooked}
-use Rattle.allocation_core.specs.declared.answer.Answer.{Answer}
-use Rattle.allocation_core.specs.declared.event.Event.{Event}
+use Rattle.fleet_events.specs.declared.answer.Answer.{Answer}
+use Rattle.fleet_events.specs.declared.event.Event.{Event}
 use Rattle.allocation_core.specs.declared.job.JobSpec.{JobSpec}
 use Rattle.replay_lines.specs.Configurations.{opened}
 use Rattle.replay_lines.specs.Replays.{Written, answered_line, total_line, written_by, lines_in}
@@ -22,7 +22,7 @@ answered_lines (answer ∷ answers) = answered_line answer ++ answered_lines ans
 -- the events that the lines say, up to the first line that is neither empty nor an event
 unfoldable pub events_of : List (List ℕ) → List Event
 events_of [] = []
-events_of (line ∷ lines) = if bytes_eq line [] then events_of lines else option_map_or (λ event. event ∷ events_of lines) (event_in line) []
+events_of (line ∷ lines) = if bytes_eq line [] then events_of lines else option_map_or (λ event. event ∷ events_of lines) (event_of line) []
 
 -- What is written are the lines of the answers to these events, and then one more: the total of the last state where the replay is done.
 pub record IsRunFrom (m : State) (events : List Event) (written : Written) : Type 0 where

@@ -1,5 +1,3 @@
-pub mod Targets
-pub mod Events
 pub mod Configurations
 pub mod Replays
 pub mod Lines

@@ -4,11 +4,9 @@
 #![tactic(auto)]
 
 mod configuration;
-mod event;
 mod laws;
 mod line;
 mod run;
-mod target;
 #[cfg(test)]
 mod tests;
 

@@ -6,9 +6,9 @@ ghost use Rattle.replay_lines.specs.AsRuns.{IsRunOf};
 ghost use Rattle.replay_lines.specs.Replays.{answered_line, totalled, unreadable_at, written_from, replay_of};
 
 use crate::configuration::open_core;
-use crate::event::read_event;
 use crate::line::first_line;
-use allocation_core::{Core, Event, booked_by_holders, published_are_best};
+use allocation_core::{Core, booked_by_holders, published_are_best};
+use fleet_events::{Event, read_event};
 use std::alloc::{AllocError, Global};
 
 /// How a replay ended.

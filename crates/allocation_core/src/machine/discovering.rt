@@ -1,10 +1,10 @@
 ghost use Rattle.std.specs.Prelude.{◌≡◌, ◌<◌, IfOk, OnOk, OnErr, length};
 ghost use Rattle.allocation_core.specs.Jobs.{sources_at};
 ghost use Rattle.allocation_core.specs.Steps.{answer_of, state_after, discovered, IsChange, state_unless};
-ghost use Rattle.allocation_core.specs.declared.event.Event.TheVariants.{Discover};
+ghost use Rattle.fleet_events.specs.declared.event.Event.TheVariants.{Discover};
 
 use super::Core;
-use crate::answer::{Answer, Refusal};
+use fleet_events::{Answer, Refusal};
 use crate::jobs::{job_named, sources_at};
 use crate::listing::list;
 use label_sets::Target;

@@ -4,11 +4,11 @@ ghost use Rattle.price_certificate.specs.Faults.{fault_of};
 ghost use Rattle.allocation_core.specs.Instances.{instance_of, allocation_of};
 ghost use Rattle.allocation_core.specs.Steps.{answer_of, state_after};
 ghost use Rattle.allocation_core.specs.Installed.{IsCertifiedNow, IsInstalled};
-ghost use Rattle.allocation_core.specs.declared.event.Event.TheVariants.{Install};
+ghost use Rattle.fleet_events.specs.declared.event.Event.TheVariants.{Install};
 
 use super::Core;
 use crate::allocation::allocation;
-use crate::answer::{Answer, Refusal};
+use fleet_events::{Answer, Refusal};
 use crate::live::live_numbers;
 use crate::pairs::same_pairs;
 use crate::problem::instance;

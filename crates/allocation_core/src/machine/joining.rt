@@ -1,9 +1,9 @@
 ghost use Rattle.std.specs.Prelude.{◌≡◌, None, IfOk, OnOk, OnErr};
 ghost use Rattle.allocation_core.specs.Steps.{answer_of, refusal_of, state_after};
-ghost use Rattle.allocation_core.specs.declared.event.Event.TheVariants.{Join, Leave};
+ghost use Rattle.fleet_events.specs.declared.event.Event.TheVariants.{Join, Leave};
 
 use super::Core;
-use crate::answer::{Answer, Refusal};
+use fleet_events::{Answer, Refusal};
 use crate::collectors::{has_id, id_named, take_out};
 use crate::job::Collector;
 use reach_rules::{CollectorName, Reach};

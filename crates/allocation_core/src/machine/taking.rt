@@ -1,11 +1,10 @@
 ghost use Rattle.std.specs.Prelude.{◌≡◌, None, IfOk, OnOk, OnErr};
 ghost use Rattle.allocation_core.specs.Steps.{answer_of, refusal_of, state_after};
-ghost use Rattle.allocation_core.specs.declared.event.Event.TheVariants.{NextRound, Take};
+ghost use Rattle.fleet_events.specs.declared.event.Event.TheVariants.{NextRound, Take};
 
 use super::Core;
-use crate::answer::{Answer, Refusal};
+use fleet_events::{Answer, CollectorId, Refusal};
 use crate::collectors::has_id;
-use handover::CollectorId;
 use std::alloc::AllocError;
 
 /// The last round.
@@ -37,13 +36,13 @@ impl Core {
             return Ok(Answer::Not(Refusal::UnknownCollector));
         }
         let held = self.held(id)?;
-        let number = self.holders.current();
-        if self.holders.take(id, number).is_err() {
+        let allocation = self.holders.current();
+        if self.holders.take(id, allocation).is_err() {
             return Err(AllocError);
         }
         let round = self.round;
         Ok(Answer::Taken {
-            number,
+            allocation,
             round,
             held,
         })

@@ -1,11 +1,13 @@
+//! What the allocator is asked.
+use crate::ids::CollectorId;
+use crate::report::Report;
 use label_sets::Target;
 use lists::{List, Plain, Text};
 use price_certificate::Plan;
 use reach_rules::{CollectorName, Reach};
-use scrape_books::Outcome;
 use std::alloc::AllocError;
 
-/// What the machine is asked.
+/// What the allocator is asked.
 #[derive(Debug, Drop)]
 pub enum Event {
     /// A source of a job lists these targets, in place of those that it listed before.
@@ -20,21 +22,15 @@ pub enum Event {
         reach: Reach,
     },
     /// The collector leaves.
-    Leave(u32),
+    Leave(CollectorId),
     /// A plan is to be published.
     Install(Plan),
     /// The next round opens.
     NextRound,
     /// The collector takes the current allocation.
-    Take(u32),
-    /// The collector reports what a scrape of the target came to in a round, as its holder in the allocation of a number.
-    Report {
-        collector: u32,
-        number: u32,
-        target: u32,
-        round: u32,
-        outcome: Outcome,
-    },
+    Take(CollectorId),
+    /// A collector reports what a scrape came to.
+    Report(Report),
 }
 
 impl Plain for Event {
@@ -62,19 +58,7 @@ impl Plain for Event {
             Event::Install(plan) => Ok(Event::Install(plan.copy()?)),
             Event::NextRound => Ok(Event::NextRound),
             Event::Take(collector) => Ok(Event::Take(*collector)),
-            Event::Report {
-                collector,
-                number,
-                target,
-                round,
-                outcome,
-            } => Ok(Event::Report {
-                collector: *collector,
-                number: *number,
-                target: *target,
-                round: *round,
-                outcome: *outcome,
-            }),
+            Event::Report(report) => Ok(Event::Report(*report)),
         }
     }
 
@@ -107,28 +91,7 @@ impl Plain for Event {
             (Event::Take(collector), Event::Take(other_collector)) => {
                 *collector == *other_collector
             }
-            (
-                Event::Report {
-                    collector,
-                    number,
-                    target,
-                    round,
-                    outcome,
-                },
-                Event::Report {
-                    collector: other_collector,
-                    number: other_number,
-                    target: other_target,
-                    round: other_round,
-                    outcome: other_outcome,
-                },
-            ) => {
-                *collector == *other_collector
-                    && *number == *other_number
-                    && *target == *other_target
-                    && *round == *other_round
-                    && *outcome == *other_outcome
-            }
+            (Event::Report(report), Event::Report(other_report)) => *report == *other_report,
             _ => false,
         }
     }

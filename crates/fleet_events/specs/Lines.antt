@@ -2,10 +2,10 @@
 use Rattle.std.specs.Prelude.{ℕ, List, [], ◌∷◌, ◌++◌, Option, Some, None, codes}
 use Rattle.std.specs.Fmt.{decimal}
 use Rattle.price_certificate.specs.Lines.{fault_line}
-use Rattle.allocation_core.specs.declared.answer.Answer.{Answer}
-use Rattle.allocation_core.specs.declared.answer.Answer.TheVariants.{Discovered, Joined, Left, Published, RoundOpen, Taken, Booked, Not}
-use Rattle.allocation_core.specs.declared.answer.Refusal.{Refusal}
-use Rattle.allocation_core.specs.declared.answer.Refusal.TheVariants.{UnknownJob, UnknownSource, TooManyLive, TooManyKnown, AlreadyJoined, TooManyCollectors, IdsSpent, UnknownCollector, Refused, Unchanged, NumbersSpent, RoundsSpent, NotTaken, UnknownTarget, NotHolder, RoundClosed, RoundNotOpen, AlreadyBooked}
+use Rattle.fleet_events.specs.declared.answer.Answer.{Answer}
+use Rattle.fleet_events.specs.declared.answer.Answer.TheVariants.{Discovered, Joined, Left, Published, RoundOpen, Taken, Booked, Not}
+use Rattle.fleet_events.specs.declared.refusal.Refusal.{Refusal}
+use Rattle.fleet_events.specs.declared.refusal.Refusal.TheVariants.{UnknownJob, UnknownSource, TooManyLive, TooManyKnown, AlreadyJoined, TooManyCollectors, IdsSpent, UnknownCollector, Refused, Unchanged, NumbersSpent, RoundsSpent, NotTaken, UnknownTarget, NotHolder, RoundClosed, RoundNotOpen, AlreadyBooked}
 
 -- a holder's number, or none
 abbrev pub holder_line : Option ℕ → List ℕ
@@ -48,6 +48,6 @@ answer_line (Joined collector) = codes "Joined " ++ decimal collector
 answer_line Left = codes "Left"
 answer_line (Published number) = codes "Published " ++ decimal number
 answer_line (RoundOpen round) = codes "RoundOpen " ++ decimal round
-answer_line (Taken number round held) = codes "Taken " ++ (decimal number ++ (codes " " ++ (decimal round ++ (codes " " ++ numbers_line held))))
+answer_line (Taken allocation round held) = codes "Taken " ++ (decimal allocation ++ (codes " " ++ (decimal round ++ (codes " " ++ numbers_line held))))
 answer_line Booked = codes "Booked"
 answer_line (Not refusal) = refusal_line refusal
