@@ -1,0 +1,5 @@
+pub mod Chosen
+pub mod KeptLemmas
+pub mod LiveLemmas
+pub mod Marks
+pub mod OrderLemmas
