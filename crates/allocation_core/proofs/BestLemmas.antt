@@ -28,28 +28,6 @@ use Rattle.allocation_core.proofs.Shapes.{parts_shaped, bin_below, length-limits
 use Rattle.allocation_core.proofs.StepLemmas.{step_kept, start_kept, publishes, Publishes}
 use Rattle.allocation_core.proofs.RunLemmas.{state_of_append}
 
-none_some : (b : ℕ) → ◌≡◌ {A = Option ℕ} None (Some b) → {X : Type 0} → X
-none_some b e = cc
-
--- the instance of a moment is one
-pub problem_is : (m : State) → IsKept m → IsProblem (instance_of m)
-unfolding instance_of
-problem_is m kept =
-    let j : ℕ = length m.jobs in
-    let live : List ℕ = live_of m in
-    let few : length live ≤ 16384 = omega (arith, length-chosen (is_live m) (length m.known), kept.few_live) in
-    let shaped = parts_shaped m.jobs m.collectors m.known live [] (limits_for m.jobs m.collectors) (map (row_in j m.collectors m.known) live) _ kept.homes kept.few_bins kept.few_collectors few refl refl refl in
-    let bins = length-limits m.jobs m.collectors in
-    record {
-      reach = shaped.reach;
-      items = length-map live (bin_before_in j m.collectors m.known (current_pairs m)) ∙ sym (length-map live (row_in j m.collectors m.known));
-      before_in_range = λ item bin e. elim (cases_lt item (length live)) [
-        | inl l ↦ bin_below j (length (limits_for m.jobs m.collectors)) bin (get_or live item 0) m.collectors m.known (beside (current_pairs m) (get_or live item 0)) kept.homes (omega (arith, bins))
-            (sym (get_or-map (bin_before_in j m.collectors m.known (current_pairs m)) live item 0 None l) ∙ e)
-        | inr past ↦ none_some bin (sym (get_or_past (map (bin_before_in j m.collectors m.known (current_pairs m)) live) item None (omega (arith, length-map live (bin_before_in j m.collectors m.known (current_pairs m))))) ∙ e)
-      ];
-    }
-
 -- what is published stays
 pub record Grows (old new : List (List (ℕ × ℕ))) : Type 0 where
   pub more : List (List (ℕ × ℕ))
