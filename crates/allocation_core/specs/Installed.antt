@@ -2,11 +2,10 @@
 use Rattle.std.specs.Prelude.{◌≡◌, ◌⊎◌, ◌+◌, List}
 use Rattle.price_certificate.specs.Certificate.{IsCertified}
 use Rattle.price_certificate.specs.declared.plan.Plan.{Plan}
-use Rattle.allocation_core.specs.State.{State, first_state, current_of}
-use Rattle.allocation_core.specs.Instances.{instance_of}
+use Rattle.allocation_core.specs.State.{State, current_of, first_state, instance_at}
 use Rattle.allocation_core.specs.Steps.{answer_of}
 use Rattle.allocation_core.specs.Runs.{state_of}
-use Rattle.allocation_core.specs.declared.job.JobSpec.{JobSpec}
+use Rattle.fleet.specs.declared.job.JobSpec.{JobSpec}
 use Rattle.fleet_events.specs.declared.event.Event.{Event}
 use Rattle.fleet_events.specs.declared.event.Event.TheVariants.{Install}
 use Rattle.fleet_events.specs.declared.answer.Answer.{Answer}
@@ -19,7 +18,7 @@ IsInstalled m answer = (answer ≡ Published (current_of m + 1)) ⊎ ((answer �
 
 -- the prices certify the plan for the instance of the moment
 abbrev pub IsCertifiedNow : State → Plan → Type 0
-IsCertifiedNow m plan = IsCertified (instance_of m) plan.pairs plan.item_prices plan.bin_prices
+IsCertifiedNow m plan = IsCertified (instance_at m) plan.pairs plan.item_prices plan.bin_prices
 
 -- over every list of jobs and of events
 abbrev pub CertifiedAreInstalled : Type 0

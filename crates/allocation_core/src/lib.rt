@@ -5,26 +5,15 @@
 //! answer, and the state after it.
 #![tactic(auto)]
 
-mod allocation;
-mod collectors;
-mod error;
-mod job;
-mod jobs;
-mod known;
+mod certificate;
 mod laws;
-mod listing;
-mod live;
 mod machine;
-mod pairs;
-mod places;
-mod problem;
 mod runs;
 #[cfg(test)]
 mod tests;
 
-pub use error::OpenError;
 pub use fleet_events::{Answer, CollectorId, Event, Outcome, Refusal, Report, TargetId};
-pub use job::JobSpec;
+pub use fleet::{JobSpec, OpenError};
 pub use laws::{
     answers_fit, booked_by_holders, certified_are_installed, published_are_best, states_are_kept,
 };

@@ -1,6 +1,6 @@
 //! Runs of the machine over a list of events.
 ghost use Rattle.std.specs.Prelude.{◌≡◌, ◌++◌, List, IfOk, IfErr, OnOk};
-ghost use Rattle.allocation_core.specs.declared.job.JobSpec.{JobSpec};
+ghost use Rattle.fleet.specs.declared.job.JobSpec.{JobSpec};
 ghost use Rattle.allocation_core.specs.State.{first_state};
 ghost use Rattle.allocation_core.specs.Best.{AllBest};
 ghost use Rattle.allocation_core.specs.Booked.{AllBooked};
@@ -8,6 +8,7 @@ ghost use Rattle.allocation_core.specs.Runs.{answers_of, state_of, StopsAt};
 ghost use Rattle.fleet_events.specs.declared.event.Event.{Event};
 
 use fleet_events::{Answer, Event};
+use crate::laws::{booked_by_holders, published_are_best};
 use crate::machine::Core;
 
 /// A run that stopped for want of memory. The core is as after the events that were answered.
@@ -26,6 +27,8 @@ pub fn run(core: &mut Core, events: Vec<Event>) -> Result<Vec<Answer>, Stopped>
     ensures booked { (jobs : List JobSpec) (earlier : List Event) → core.old ≡ state_of (first_state jobs) earlier → AllBooked (first_state jobs) (earlier ++ events.items) core.new }
     ensures stopped { IfErr result (λ s. StopsAt core.old events.items s.answers.items core.new) }
 {
+    published_are_best();
+    booked_by_holders();
     let mut answers = Vec::new(*events.allocator());
     if answers.reserve(events.len()).is_err() {
         return Err(Stopped { answers });

@@ -1,3 +1,4 @@
+pub mod ChangeLemmas
 pub mod Chosen
 pub mod KeptLemmas
 pub mod LiveLemmas

@@ -11,6 +11,7 @@ use Rattle.std.proofs.lemmas.List.Sums.{sum_by-cons}
 use Rattle.std.proofs.lemmas.Bool.{cases_eq, eq-eqb, ne_eqb}
 use Rattle.price_certificate.specs.Problem.{Problem, IsShaped, IsRow, IsPreceding, IsProblemOf, bin_in as bin_of_item}
 use Rattle.reach_rules.specs.Rules.{reaches}
+use Rattle.fleet.proofs.ChangeLemmas.{position_below}
 use Rattle.fleet_assignment.specs.Instance.{limits_for, row_from, row_in, place_of, bin_in, bin_before_in, problem_of}
 use Rattle.fleet_assignment.specs.Tables.{preceding_from, ArePlaced}
 use Rattle.fleet.specs.declared.job.JobSpec.{JobSpec}
@@ -137,14 +138,6 @@ pre_place f (t ∷ live) item zero n l e = here_by (f t) item n (preceding_from 
 pre_place f (t ∷ live) item (suc k) n l e = skip_by (f t) item n (preceding_from f (item + 1) live) (λ s. absurd (omega arith)) ∙ pre_place f live (item + 1) k n (omega arith) (omega arith)
 
 -- the bin of a live collector is in range
-position_by : (c : Bool) (i n more : ℕ) (o : Option ℕ) → (o ≡ Some n → n < i + 1 + more) → cond c (Some i) o ≡ Some n → n < i + suc more
-position_by true i n more o h e = let s : i ≡ n = cc in omega arith
-position_by false i n more o h e = omega (arith, h e)
-
-pub position_below : {X : Type 0} (p : X → Bool) (i n : ℕ) (xs : List X) → position_from p i xs ≡ Some n → n < i + length xs
-position_below p i n [] e = cc
-position_below p i n (x ∷ xs) e = position_by (p x) i n (length xs) (position_from p (i + 1) xs) (λ s. position_below p (i + 1) n xs s) e
-
 bin_below_by :
     (jobs n bins b : ℕ) (k : Option KnownTarget) (place : Option ℕ) → ((x : KnownTarget) → k ≡ Some x → x.job < jobs) → ((p : ℕ) → place ≡ Some p → p < n) → jobs * n ≤ bins
     → option_and_then (λ (x : KnownTarget). option_map (λ (p : ℕ). p * jobs + x.job) place) k ≡ Some b → b < bins

@@ -3,7 +3,6 @@ ghost use Rattle.std.specs.Prelude.{◌≡◌, None, IfOk, OnOk, OnErr};
 ghost use Rattle.allocation_core.specs.Steps.{answer_of, refusal_of, state_after, report_refusal, round_refusal};
 
 use super::Core;
-use crate::collectors::has_id;
 use fleet_events::{Answer, Event, Refusal, Report, Round, TargetId};
 use scrape_books::Entry;
 use std::alloc::AllocError;
@@ -17,7 +16,7 @@ impl Core {
         ensures err { OnErr result (self.new ≡ self.old) }
         ensures late { OnErr result (refusal_of self.old (Event.Report report) ≡ None) }
     {
-        if !has_id(self.collectors.as_slice(), report.collector) {
+        if !self.fleet.is_joined(report.collector) {
             return Ok(Answer::Not(Refusal::UnknownCollector));
         }
         if let Some(refusal) = self.report_refusal(report) {
@@ -43,7 +42,7 @@ impl Core {
         if taken != report.allocation {
             return Some(Refusal::NotTaken(taken));
         }
-        if report.target as usize >= self.known.len() {
+        if report.target as usize >= self.fleet.known().len() {
             return Some(Refusal::UnknownTarget);
         }
         let holder = self.holders.holder(report.allocation, report.target);

@@ -1,10 +1,10 @@
+//! Rounds that open, and allocations that are taken.
 ghost use Rattle.std.specs.Prelude.{◌≡◌, None, IfOk, OnOk, OnErr};
 ghost use Rattle.allocation_core.specs.Steps.{answer_of, refusal_of, state_after};
 ghost use Rattle.fleet_events.specs.declared.event.Event.TheVariants.{NextRound, Take};
 
 use super::Core;
 use fleet_events::{Answer, CollectorId, Refusal};
-use crate::collectors::has_id;
 use std::alloc::AllocError;
 
 /// The last round.
@@ -32,7 +32,7 @@ impl Core {
         ensures err { OnErr result (self.new ≡ self.old) }
         ensures late { OnErr result (refusal_of self.old (Take id) ≡ None) }
     {
-        if !has_id(self.collectors.as_slice(), id) {
+        if !self.fleet.is_joined(id) {
             return Ok(Answer::Not(Refusal::UnknownCollector));
         }
         let held = self.held(id)?;
