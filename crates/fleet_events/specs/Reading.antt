@@ -1,17 +1,15 @@
 -- The event that a JSON object says: its member `event` is the event's name. Members that the event does not have don't
 -- matter.
 use Rattle.std.specs.Prelude.{ℕ, zero, suc, Bool, true, false, List, Option, Some, None, option_map, option_and_then, codes, if◌then◌else◌}
-use Rattle.std.specs.Result.{result_ok}
 use Rattle.std.specs.Str.{bytes_eq}
 use Rattle.serde_json.specs.Data.{Data}
 use Rattle.serde_json.specs.Find.{as_bool, as_str, get}
 use Rattle.json_values.specs.Texts.{json_of}
-use Rattle.json_values.specs.Spelling.{number_in, pair_in, list_in, member_in}
+use Rattle.json_values.specs.Spelling.{number_in, list_in, member_in}
 use Rattle.label_sets.specs.Target.{FinalTarget}
-use Rattle.price_certificate.specs.declared.plan.Plan.{Plan}
-use Rattle.reach_rules.specs.Name.{is_collector_name}
-use Rattle.reach_rules.specs.Spelling.{reach_spelled}
-use Rattle.reach_rules.specs.declared.rule.ReachRule.{ReachRule}
+use Rattle.price_certificate.specs.Plan.{plan_in}
+use Rattle.reach_rules.specs.Name.{name_in}
+use Rattle.reach_rules.specs.Spelling.{reach_in}
 use Rattle.scrape_books.specs.declared.report.Outcome.{Outcome}
 use Rattle.scrape_books.specs.declared.report.Outcome.TheVariants.{Up, Down}
 use Rattle.fleet_events.specs.declared.event.Event.{Event}
@@ -32,17 +30,7 @@ discover_in d =
 
 -- ---- join
 
--- the name of a collector
-abbrev pub collector_name : List ℕ → Option (List ℕ)
-collector_name name = if is_collector_name name then Some name else None
-
-abbrev pub name_in : Data → Option (List ℕ)
-name_in d = option_and_then collector_name (as_str d)
-
--- the rules by which a collector reaches targets
-abbrev pub reach_in : Data → Option (List ReachRule)
-reach_in d = result_ok (reach_spelled d)
-
+-- a collector's name, and the rules by which it reaches targets
 unfoldable pub join_in : Data → Option Event
 join_in d = option_and_then (λ name. option_map (Join name) (member_in reach_in (codes "reach") d)) (member_in name_in (codes "name") d)
 
@@ -60,15 +48,7 @@ take_in d = option_map Take (collector_in d)
 
 -- ---- install
 
--- the pairs of a plan, and its prices
-abbrev pub plan_of : List (ℕ × ℕ) → List ℕ → List ℕ → Plan
-plan_of pairs item_prices bin_prices = record { pairs = pairs; item_prices = item_prices; bin_prices = bin_prices }
-
-unfoldable pub plan_in : Data → Option Plan
-plan_in d =
-    option_and_then (λ pairs. option_and_then (λ item_prices. option_map (plan_of pairs item_prices) (member_in (list_in number_in) (codes "bin_prices") d)) (member_in (list_in number_in) (codes "item_prices") d))
-    (member_in (list_in pair_in) (codes "pairs") d)
-
+-- a plan
 abbrev pub install_in : Data → Option Event
 install_in d = option_map Install (plan_in d)
 

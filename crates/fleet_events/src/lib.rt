@@ -13,6 +13,7 @@ mod reading;
 mod refusal;
 mod report;
 mod target;
+mod writing;
 
 pub use answer::Answer;
 pub use event::Event;

@@ -2,16 +2,15 @@
 ghost use Rattle.std.specs.Prelude.{◌≡◌, IfOk, codes, true, false};
 ghost use Rattle.serde_json.specs.View.{view};
 ghost use Rattle.json_values.specs.Spelling.{member_in};
-ghost use Rattle.fleet_events.specs.Reading.{collector_name, name_in, reach_in, targets_in, discover_in, join_in, leave_in, plan_in, install_in, take_in, report_in, outcome_in, outcome_by, event_named, event_in, event_of};
+ghost use Rattle.fleet_events.specs.Reading.{targets_in, discover_in, join_in, leave_in, install_in, take_in, report_in, outcome_in, outcome_by, event_named, event_in, event_of};
 
 use crate::event::Event;
 use crate::report::Report;
 use crate::target::read_targets;
-use json_values::{member, number, parse};
+use json_values::{Spelled, member, number, parse};
 use label_sets::Target;
 use lists::List;
 use price_certificate::Plan;
-use reach_rules::{CollectorName, NameError, Reach, ReachError};
 use scrape_books::Outcome;
 use serde_json::Value;
 use std::alloc::{AllocError, Global};
@@ -85,53 +84,13 @@ fn read_listed(alloc: Global, value: &Value) -> Result<Option<List<Target>>, All
 fn read_join(alloc: Global, value: &Value) -> Result<Option<Event>, AllocError>
     ensures { IfOk result (λ o. o ≡ join_in (view value.now)) }
 {
-    let Some(name) = read_name(alloc, value)? else {
+    let Some(name) = member(alloc, value, "name")? else {
         return Ok(None);
     };
-    let Some(reach) = read_reach(alloc, value)? else {
+    let Some(reach) = member(alloc, value, "reach")? else {
         return Ok(None);
     };
     Ok(Some(Event::Join { name, reach }))
-}
-
-/// The collector's name.
-fn read_name(alloc: Global, value: &Value) -> Result<Option<CollectorName>, AllocError>
-    ensures { IfOk result (λ o. o ≡ member_in name_in (codes "name") (view value.now)) }
-{
-    match value.get("name").and_then(Value::as_str) {
-        Some(name) => name_from(alloc, name),
-        None => Ok(None),
-    }
-}
-
-fn name_from(alloc: Global, name: &str) -> Result<Option<CollectorName>, AllocError>
-    ensures { IfOk result (λ o. o ≡ collector_name name.now) }
-{
-    match CollectorName::read(alloc, name) {
-        Ok(name) => Ok(Some(name)),
-        Err(NameError::BadName) => Ok(None),
-        Err(NameError::Memory) => Err(AllocError),
-    }
-}
-
-/// The collector's reach.
-fn read_reach(alloc: Global, value: &Value) -> Result<Option<Reach>, AllocError>
-    ensures { IfOk result (λ o. o ≡ member_in reach_in (codes "reach") (view value.now)) }
-{
-    match value.get("reach") {
-        Some(reach) => reach_from(alloc, reach),
-        None => Ok(None),
-    }
-}
-
-fn reach_from(alloc: Global, value: &Value) -> Result<Option<Reach>, AllocError>
-    ensures { IfOk result (λ o. o ≡ reach_in (view value.now)) }
-{
-    match Reach::read(alloc, value) {
-        Ok(reach) => Ok(Some(reach)),
-        Err(ReachError::Memory) => Err(AllocError),
-        Err(_) => Ok(None),
-    }
 }
 
 fn read_leave(alloc: Global, value: &Value) -> Result<Option<Event>, AllocError>
@@ -146,30 +105,10 @@ fn read_leave(alloc: Global, value: &Value) -> Result<Option<Event>, AllocError>
 fn read_install(alloc: Global, value: &Value) -> Result<Option<Event>, AllocError>
     ensures { IfOk result (λ o. o ≡ install_in (view value.now)) }
 {
-    match read_plan(alloc, value)? {
+    match Plan::read(alloc, value)? {
         Some(plan) => Ok(Some(Event::Install(plan))),
         None => Ok(None),
     }
-}
-
-#[tactic(auto, unfolding(crate::specs::Reading::plan_in))]
-fn read_plan(alloc: Global, value: &Value) -> Result<Option<Plan>, AllocError>
-    ensures { IfOk result (λ o. o ≡ plan_in (view value.now)) }
-{
-    let Some(pairs) = member(alloc, value, "pairs")? else {
-        return Ok(None);
-    };
-    let Some(item_prices) = member(alloc, value, "item_prices")? else {
-        return Ok(None);
-    };
-    let Some(bin_prices) = member(alloc, value, "bin_prices")? else {
-        return Ok(None);
-    };
-    Ok(Some(Plan {
-        pairs,
-        item_prices,
-        bin_prices,
-    }))
 }
 
 fn read_take(alloc: Global, value: &Value) -> Result<Option<Event>, AllocError>

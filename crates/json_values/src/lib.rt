@@ -1,5 +1,5 @@
-//! What JSON values spell: whole numbers, texts, pairs, lists, and members of objects. Every JSON document of the
-//! program is read with these words.
+//! What JSON values spell: whole numbers, texts, pairs, lists, and members of objects; and JSON texts,
+//! in both directions.
 //!
 //! Contracts see a JSON text as the data that `serde_json` reads of it.
 #![tactic(auto)]
@@ -8,6 +8,8 @@ mod parsing;
 mod spelled;
 #[cfg(test)]
 mod tests;
+mod written;
 
 pub use parsing::parse;
 pub use spelled::{Spelled, array_of, member, number};
+pub use written::text_of;

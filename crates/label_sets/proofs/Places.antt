@@ -14,7 +14,7 @@ use Rattle.label_sets.specs.Places.{IsHere, IsGap}
 pub turned : (x y : List ℕ) (o : Ordering) → byte_cmp x y ≡ o → byte_cmp y x ≡ ordering_reverse o
 turned x y o e = nat_list_cmp_total.antisymm y x ∙ ap ordering_reverse e
 
-is_less : (o : Ordering) → is_lt o ≡ true → o ≡ Less
+pub is_less : (o : Ordering) → is_lt o ≡ true → o ≡ Less
 is_less Less e = refl
 is_less Equal e = cc
 is_less Greater e = cc

@@ -19,6 +19,6 @@ mod texts;
 pub use error::LabelError;
 pub use finishing::{Finished, finish};
 pub use labels::Labels;
-pub use laws::{map_laws, text_decides};
+pub use laws::{finishes_again, map_laws, text_decides};
 pub use name::LabelName;
 pub use target::Target;
