@@ -1,8 +1,8 @@
 //! What the allocator is asked and what it answers: events, answers and refusals, the texts of answers, and events as
 //! JSON objects.
 //!
-//! Contracts see an event and an answer as they are declared, a text as its bytes, and a JSON value as the data that
-//! `serde_json` reads. `read_event` gives exactly the event that a text says.
+//! Contracts see an event and an answer as they are declared, and a text as its bytes. `read_event` gives exactly the event
+//! that a text says, and `Event::to_json` writes each event in one form that reads back as the event.
 #![tactic(auto)]
 
 mod answer;
@@ -13,6 +13,8 @@ mod reading;
 mod refusal;
 mod report;
 mod target;
+#[cfg(test)]
+mod tests;
 mod writing;
 
 pub use answer::Answer;

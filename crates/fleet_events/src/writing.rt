@@ -1,7 +1,9 @@
 //! Events as JSON texts.
-ghost use Rattle.std.specs.Prelude.{◌≡◌, Some, IfOk, codes};
+ghost use Rattle.std.specs.Prelude.{◌≡◌, Some, false, IfOk, codes};
+ghost use Rattle.std.specs.List.{list_any};
 ghost use Rattle.serde_json.specs.View.{view, items_view};
 ghost use Rattle.json_values.specs.Spelling.{all_in, items_data};
+ghost use Rattle.json_values.specs.Texts.{is_line_feed};
 ghost use Rattle.label_sets.specs.Target.{target_data};
 ghost use Rattle.fleet_events.specs.Targets.{target_in};
 ghost use Rattle.fleet_events.specs.Reading.{event_in, event_of, reported};
@@ -20,9 +22,10 @@ use serde_json::{Value, json};
 use std::alloc::{AllocError, Global};
 
 impl Event {
-    /// The event as one compact JSON object, which reads back as the event.
+    /// The event as one compact JSON object. It has no line feed, and reads back as the event.
     pub fn to_json(&self, alloc: Global) -> Result<Text, AllocError>
         ensures form { IfOk result (λ t. t ≡ event_text self.now) }
+        ensures one_line { IfOk result (λ t. list_any is_line_feed t ≡ false) }
         ensures reads_back { IfOk result (λ t. event_of t ≡ Some self.now) }
     {
         let value = self.to_value(alloc)?;

@@ -12,6 +12,10 @@ returns-clause-form c =
     let form = c.in_ok-value.ensures.form in
     IfOk-weaker c.text_of.result _ _ (λ t text. text (ap has_float form ∙ event_no_float c.args.self.now) ∙ ap compact_text form) c.text_of.ensures.form
 
+pub returns-clause-one_line : goal.returns-clause-one_line
+returns-clause-one_line c =
+    IfOk-weaker c.text_of.result _ _ (λ t line. line (ap has_float c.in_ok-value.ensures.form ∙ event_no_float c.args.self.now)) c.text_of.ensures.one_line
+
 pub returns-clause-reads_back : goal.returns-clause-reads_back
 returns-clause-reads_back c =
     let shallow = subst (λ (d : Data). depth d ≤ max_depth) (sym c.in_ok-value.ensures.form) (event_levels c.args.self.now) in
