@@ -1,6 +1,5 @@
 //! The configuration: its jobs, and the scrape configs as they were read.
-ghost use Rattle.std.specs.Prelude.{◌≡◌, ◌≢◌, IfOk, false};
-ghost use Rattle.serde_json.specs.Data.{Data};
+ghost use Rattle.std.specs.Prelude.{◌≡◌, IfOk, false};
 ghost use Rattle.serde_json.specs.View.{view};
 ghost use Rattle.serde_json.specs.Written.{has_float, compact_text};
 
@@ -25,6 +24,8 @@ pub struct Config {
     pub jobs: List<Job>,
     /// An object with each scrape config, as read, under the name of its job.
     pub kept: Value,
+    // So its text is exact.
+    pub ghost no_float: { has_float (view kept) ≡ false },
 }
 
 /// A scrape config.
@@ -53,8 +54,7 @@ pub struct Param {
 
 /// The scrape configs as one compact JSON object, the members in byte order at every depth.
 pub fn scrape_configs_text(alloc: Global, config: &Config) -> Result<Text, AllocError>
-    // A configuration that was read has no float.
-    ensures { IfOk result (λ t. has_float (view config.now.kept) ≡ false → t ≡ compact_text (view config.now.kept)) }
+    ensures { IfOk result (λ t. t ≡ compact_text (view config.now.kept)) }
 {
     Ok(Text::from_string(config.kept.to_string(alloc)?))
 }
