@@ -1,4 +1,5 @@
 pub mod Blanks
+pub mod FirstLabelsLaws
 pub mod Joined
 pub mod NoFloat
 pub mod Told

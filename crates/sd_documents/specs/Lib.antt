@@ -8,3 +8,4 @@ pub mod Seen
 pub mod FirstLabels
 pub mod Limits
 pub mod Names
+pub mod Laws

@@ -11,6 +11,7 @@ mod group;
 mod groups;
 mod json;
 mod labelling;
+mod laws;
 mod media;
 #[cfg(test)]
 mod tests;
@@ -21,5 +22,6 @@ pub use error::{DocumentError, Limit, Member};
 pub use group::Group;
 pub use groups::{read_group, read_groups};
 pub use labelling::first_labels;
+pub use laws::first_labels_laws;
 pub use media::is_json_media;
 pub use written::write_groups;
