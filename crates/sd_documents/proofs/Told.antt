@@ -15,6 +15,7 @@ use Rattle.sd_documents.specs.declared.error.DocumentError.TheVariants.{NotJson,
 use Rattle.sd_documents.specs.declared.error.Limit.TheVariants.{Jobs, Sources, Rules, Targets}
 use Rattle.sd_documents.specs.declared.error.Member.{Member}
 use Rattle.sd_documents.specs.declared.error.Member.TheVariants.{ScrapeConfigs, JobName, Number, MetricsPath, Scheme, TargetLimit, Params, StaticConfigs, HttpSdConfigs, RelabelConfigs}
+use Rattle.sd_documents.specs.declared.limits.TheConstants.{MOST_JOBS, MOST_URLS, MOST_RULES, MOST_TARGETS}
 use Rattle.sd_documents.specs.declared.group.Group.{Group}
 use Rattle.sd_documents.specs.declared.config.Param.{Param}
 use Rattle.sd_documents.specs.Reading.{◌>>=◌, Gives, each_said, text_said, texts_said}
@@ -85,7 +86,7 @@ group_told : (place : ℕ) (part : Member) (d : Data) → IsTold (group_said pla
 group_told place part d = branch (is_some (as_object d)) (group.parts_said place part d) (Err (Shape place part)) (group_parts place part d) (shape place part)
 
 few_targets_told : (groups : List Group) → IsTold (few_targets groups)
-few_targets_told groups = branch (nat_le (sum_by (λ (g : Group). length g.targets) groups) 16384) (Ok groups) (Err (TooMany Targets)) (value groups) (λ is. cc)
+few_targets_told groups = branch (nat_le (sum_by (λ (g : Group). length g.targets) groups) MOST_TARGETS) (Ok groups) (Err (TooMany Targets)) (value groups) (λ is. cc)
 
 pub groups_told : (place : ℕ) (part : Member) (d : Data) → IsTold (groups_said place part d)
 groups_told place part d =
@@ -121,7 +122,7 @@ static_told place None = value []
 static_told place (Some d) = groups_told place StaticConfigs d
 
 few_urls_told : (urls : List (List ℕ)) → IsTold (few_urls urls)
-few_urls_told urls = branch (nat_le (length urls) 64) (Ok urls) (Err (TooMany Sources)) (value urls) (λ is. cc)
+few_urls_told urls = branch (nat_le (length urls) MOST_URLS) (Ok urls) (Err (TooMany Sources)) (value urls) (λ is. cc)
 
 urls_told : (place : ℕ) (o : Option Data) → IsTold (urls_said place o)
 urls_told place None = value []
@@ -132,7 +133,7 @@ urls_told place (Some d) =
     few_urls_told
 
 few_rules_told : (ds : Items) → IsTold (few_rules ds)
-few_rules_told ds = branch (nat_le (items_len ds) 256) (Ok ds) (Err (TooMany Rules)) (value ds) (λ is. cc)
+few_rules_told ds = branch (nat_le (items_len ds) MOST_RULES) (Ok ds) (Err (TooMany Rules)) (value ds) (λ is. cc)
 
 rules_told : (place : ℕ) (o : Option Data) → IsTold (rules_said place o)
 rules_told place None = value no_items
@@ -197,7 +198,7 @@ entries_in_told None = value no_items
 entries_in_told (Some d) = found (as_array d) 0 ScrapeConfigs
 
 few_entries_told : (ds : Items) → IsTold (few_entries ds)
-few_entries_told ds = branch (nat_le (items_len ds) 1024) (Ok ds) (Err (TooMany Jobs)) (value ds) (λ is. cc)
+few_entries_told ds = branch (nat_le (items_len ds) MOST_JOBS) (Ok ds) (Err (TooMany Jobs)) (value ds) (λ is. cc)
 
 entries_told : (d : Data) → IsTold (listed_entries d)
 entries_told d =

@@ -15,6 +15,7 @@ use Rattle.sd_documents.specs.declared.error.DocumentError.{DocumentError}
 use Rattle.sd_documents.specs.declared.error.DocumentError.TheVariants.{Shape, RepeatedJob, UnsupportedDiscovery, TooMany}
 use Rattle.sd_documents.specs.declared.error.Limit.TheVariants.{Jobs, Sources, Rules, Targets}
 use Rattle.sd_documents.specs.declared.error.Member.TheVariants.{JobName, Number, MetricsPath, Scheme, StaticConfigs, HttpSdConfigs, RelabelConfigs}
+use Rattle.sd_documents.specs.declared.limits.TheConstants.{MOST_JOBS, MOST_URLS, MOST_RULES, MOST_TARGETS}
 use Rattle.sd_documents.specs.declared.group.Group.{Group}
 use Rattle.sd_documents.specs.declared.config.Job.{Job}
 use Rattle.sd_documents.specs.declared.config.Param.{Param}
@@ -65,9 +66,9 @@ four_ok (Err e) b c d y made is = cc
 
 pub record IsSound (job : JobData) : Type 0 where
   pub named : bytes_eq job.settings.name [] ≡ false
-  pub targets : sum_by (λ (group : Group). length group.targets) job.parts.static_groups ≤ 16384
-  pub urls : length job.parts.http_urls ≤ 64
-  pub rules : items_len job.parts.rules ≤ 256
+  pub targets : sum_by (λ (group : Group). length group.targets) job.parts.static_groups ≤ MOST_TARGETS
+  pub urls : length job.parts.http_urls ≤ MOST_URLS
+  pub rules : items_len job.parts.rules ≤ MOST_RULES
 
 name_filled : (place : ℕ) (o : Option Data) (name : List ℕ) → name_said place o ≡ Ok name → bytes_eq name [] ≡ false
 name_filled place o name e =
@@ -82,32 +83,32 @@ settings_named place d settings e =
     let read = four_ok (name_said place (get (codes "job_name") d)) (text_or (codes "/metrics") place MetricsPath (get (codes "metrics_path") d)) (text_or (codes "http") place Scheme (get (codes "scheme") d)) (limit_said place (get (codes "target_limit") d)) made settings e in
     subst (λ (s : SettingsData). bytes_eq s.name [] ≡ false) read.is (name_filled place (get (codes "job_name") d) read.p read.of_a)
 
-groups_few : (place : ℕ) (o : Option Data) (groups : List Group) → static_said place o ≡ Ok groups → sum_by (λ (group : Group). length group.targets) groups ≤ 16384
-groups_few place None groups e = let none : [] ≡ groups = cc in subst (λ (gs : List Group). sum_by (λ (group : Group). length group.targets) gs ≤ 16384) none (omega arith)
+groups_few : (place : ℕ) (o : Option Data) (groups : List Group) → static_said place o ≡ Ok groups → sum_by (λ (group : Group). length group.targets) groups ≤ MOST_TARGETS
+groups_few place None groups e = let none : [] ≡ groups = cc in subst (λ (gs : List Group). sum_by (λ (group : Group). length group.targets) gs ≤ MOST_TARGETS) none (omega arith)
 groups_few place (Some d) groups e =
     let all = bind_ok (ok_or (as_array d) (Shape place StaticConfigs) >>= each_said (group_said place StaticConfigs)) few_targets groups e in
-    let test = passed (nat_le (sum_by (λ (group : Group). length group.targets) all.0) 16384) all.0 groups (TooMany Targets) all.2 in
-    subst (λ (gs : List Group). sum_by (λ (group : Group). length group.targets) gs ≤ 16384) test.1 (leb-true (sum_by (λ (group : Group). length group.targets) all.0) 16384 test.0)
+    let test = passed (nat_le (sum_by (λ (group : Group). length group.targets) all.0) MOST_TARGETS) all.0 groups (TooMany Targets) all.2 in
+    subst (λ (gs : List Group). sum_by (λ (group : Group). length group.targets) gs ≤ MOST_TARGETS) test.1 (leb-true (sum_by (λ (group : Group). length group.targets) all.0) MOST_TARGETS test.0)
 
-urls_few : (place : ℕ) (o : Option Data) (urls : List (List ℕ)) → urls_said place o ≡ Ok urls → length urls ≤ 64
-urls_few place None urls e = let none : [] ≡ urls = cc in subst (λ (us : List (List ℕ)). length us ≤ 64) none (omega arith)
+urls_few : (place : ℕ) (o : Option Data) (urls : List (List ℕ)) → urls_said place o ≡ Ok urls → length urls ≤ MOST_URLS
+urls_few place None urls e = let none : [] ≡ urls = cc in subst (λ (us : List (List ℕ)). length us ≤ MOST_URLS) none (omega arith)
 urls_few place (Some d) urls e =
     let all = bind_ok (ok_or (as_array d) (Shape place HttpSdConfigs) >>= each_said (url_said place)) few_urls urls e in
-    let test = passed (nat_le (length all.0) 64) all.0 urls (TooMany Sources) all.2 in
-    subst (λ (us : List (List ℕ)). length us ≤ 64) test.1 (leb-true (length all.0) 64 test.0)
+    let test = passed (nat_le (length all.0) MOST_URLS) all.0 urls (TooMany Sources) all.2 in
+    subst (λ (us : List (List ℕ)). length us ≤ MOST_URLS) test.1 (leb-true (length all.0) MOST_URLS test.0)
 
-rules_few : (place : ℕ) (o : Option Data) (rules : Items) → rules_said place o ≡ Ok rules → items_len rules ≤ 256
-rules_few place None rules e = let none : no_items ≡ rules = cc in subst (λ (rs : Items). items_len rs ≤ 256) none (omega arith)
+rules_few : (place : ℕ) (o : Option Data) (rules : Items) → rules_said place o ≡ Ok rules → items_len rules ≤ MOST_RULES
+rules_few place None rules e = let none : no_items ≡ rules = cc in subst (λ (rs : Items). items_len rs ≤ MOST_RULES) none (omega arith)
 rules_few place (Some d) rules e =
     let all = bind_ok (ok_or (as_array d) (Shape place RelabelConfigs)) (λ ds. cond (all_objects ds) (few_rules ds) (Err (Shape place RelabelConfigs))) rules e in
     let few = went (all_objects all.0) (few_rules all.0) rules (Shape place RelabelConfigs) all.2 in
-    let test = passed (nat_le (items_len all.0) 256) all.0 rules (TooMany Rules) few in
-    subst (λ (rs : Items). items_len rs ≤ 256) test.1 (leb-true (items_len all.0) 256 test.0)
+    let test = passed (nat_le (items_len all.0) MOST_RULES) all.0 rules (TooMany Rules) few in
+    subst (λ (rs : Items). items_len rs ≤ MOST_RULES) test.1 (leb-true (items_len all.0) MOST_RULES test.0)
 
 pub record PartsFew (parts : PartsData) : Type 0 where
-  pub targets : sum_by (λ (group : Group). length group.targets) parts.static_groups ≤ 16384
-  pub urls : length parts.http_urls ≤ 64
-  pub rules : items_len parts.rules ≤ 256
+  pub targets : sum_by (λ (group : Group). length group.targets) parts.static_groups ≤ MOST_TARGETS
+  pub urls : length parts.http_urls ≤ MOST_URLS
+  pub rules : items_len parts.rules ≤ MOST_RULES
 
 parts_few : (place : ℕ) (d : Data) (parts : PartsData) → parts_said place d ≡ Ok parts → PartsFew parts
 unfolding parts_said
@@ -201,11 +202,11 @@ jobs_count place jobs more (item d ds) e =
     let test = failed (is_taken jobs job.0.settings.name) (jobs ++ job.0 ∷ []) next.0 (RepeatedJob place) job.2 in
     omega (arith, jobs_count (place + 1) next.0 more ds next.2, ap length test.1, length-append jobs (job.0 ∷ []))
 
-entries_few : (d : Data) (entries : Items) → listed_entries d ≡ Ok entries → items_len entries ≤ 1024
+entries_few : (d : Data) (entries : Items) → listed_entries d ≡ Ok entries → items_len entries ≤ MOST_JOBS
 entries_few d entries e =
     let all = bind_ok (entries_said d) few_entries entries e in
-    let test = passed (nat_le (items_len all.0) 1024) all.0 entries (TooMany Jobs) all.2 in
-    subst (λ (ds : Items). items_len ds ≤ 1024) test.1 (leb-true (items_len all.0) 1024 test.0)
+    let test = passed (nat_le (items_len all.0) MOST_JOBS) all.0 entries (TooMany Jobs) all.2 in
+    subst (λ (ds : Items). items_len ds ≤ MOST_JOBS) test.1 (leb-true (items_len all.0) MOST_JOBS test.0)
 
 -- ---- the jobs as the program has them
 

@@ -16,6 +16,7 @@ use Rattle.sd_documents.specs.declared.error.DocumentError.TheVariants.{Shape, R
 use Rattle.sd_documents.specs.declared.error.Member.TheVariants.{ScrapeConfigs, JobName, Number, MetricsPath, Scheme, TargetLimit, Params, StaticConfigs, HttpSdConfigs, RelabelConfigs}
 use Rattle.sd_documents.specs.declared.error.Member.{Member}
 use Rattle.sd_documents.specs.declared.error.Limit.TheVariants.{Jobs, Sources, Rules}
+use Rattle.sd_documents.specs.declared.limits.TheConstants.{MOST_JOBS, MOST_URLS, MOST_RULES}
 use Rattle.sd_documents.specs.declared.group.Group.{Group}
 use Rattle.sd_documents.specs.declared.config.Config.{Config}
 use Rattle.sd_documents.specs.declared.config.Job.{Job}
@@ -92,7 +93,7 @@ abbrev pub url_said : ℕ → Data → Result (List ℕ) DocumentError
 url_said place d = ok_or (option_and_then as_str (get (codes "url") d)) (Shape place HttpSdConfigs)
 
 abbrev pub few_urls : List (List ℕ) → Result (List (List ℕ)) DocumentError
-few_urls urls = if nat_le (length urls) 64 then Ok urls else Err (TooMany Sources)
+few_urls urls = if nat_le (length urls) MOST_URLS then Ok urls else Err (TooMany Sources)
 
 abbrev pub urls_said : ℕ → Option Data → Result (List (List ℕ)) DocumentError
 urls_said place None = Ok []
@@ -103,7 +104,7 @@ all_objects no_items = true
 all_objects (item d ds) = is_some (as_object d) && all_objects ds
 
 abbrev pub few_rules : Items → Result Items DocumentError
-few_rules ds = if nat_le (items_len ds) 256 then Ok ds else Err (TooMany Rules)
+few_rules ds = if nat_le (items_len ds) MOST_RULES then Ok ds else Err (TooMany Rules)
 
 -- a list of objects, which are read with the rules
 abbrev pub rules_said : ℕ → Option Data → Result Items DocumentError
@@ -180,9 +181,9 @@ abbrev pub entries_said : Data → Result Items DocumentError
 entries_said d = if is_some (as_object d) then entries_in (get (codes "scrape_configs") d) else Err (Shape 0 ScrapeConfigs)
 
 abbrev pub few_entries : Items → Result Items DocumentError
-few_entries entries = if nat_le (items_len entries) 1024 then Ok entries else Err (TooMany Jobs)
+few_entries entries = if nat_le (items_len entries) MOST_JOBS then Ok entries else Err (TooMany Jobs)
 
--- at most 1,024 scrape configs
+-- the scrape configs, which are not too many
 abbrev pub listed_entries : Data → Result Items DocumentError
 listed_entries d = entries_said d >>= few_entries
 

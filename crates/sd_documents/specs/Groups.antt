@@ -11,6 +11,7 @@ use Rattle.sd_documents.specs.declared.error.DocumentError.TheVariants.{Shape, B
 use Rattle.sd_documents.specs.declared.error.Member.{Member}
 use Rattle.sd_documents.specs.declared.error.Member.TheVariants.{Groups}
 use Rattle.sd_documents.specs.declared.error.Limit.TheVariants.{Targets}
+use Rattle.sd_documents.specs.declared.limits.TheConstants.{MOST_TARGETS}
 use Rattle.sd_documents.specs.declared.group.Group.{Group}
 use Rattle.sd_documents.specs.Reading.{◌>>=◌, json_said, each_said, text_said, texts_said}
 
@@ -45,9 +46,9 @@ parts_said place part d =
 abbrev pub group_said : ℕ → Member → Data → Result Group DocumentError
 group_said place part d = if is_some (as_object d) then parts_said place part d else Err (Shape place part)
 
--- at most 16,384 targets in all groups
+-- the groups, if they have not too many targets together
 abbrev pub few_targets : List Group → Result (List Group) DocumentError
-few_targets groups = if nat_le (sum_by (λ (group : Group). length group.targets) groups) 16384 then Ok groups else Err (TooMany Targets)
+few_targets groups = if nat_le (sum_by (λ (group : Group). length group.targets) groups) MOST_TARGETS then Ok groups else Err (TooMany Targets)
 
 abbrev pub groups_said : ℕ → Member → Data → Result (List Group) DocumentError
 groups_said place part d = ok_or (as_array d) (Shape place part) >>= each_said (group_said place part) >>= few_targets

@@ -2,12 +2,14 @@
 ghost use Rattle.std.specs.Prelude.{◌≡◌, None, [], option_map, sum_by, length, nat_le};
 ghost use Rattle.serde_json.specs.View.{view, items_view, members_view};
 ghost use Rattle.json_values.specs.Texts.{json_of};
+ghost use Rattle.sd_documents.specs.declared.limits.TheConstants.{MOST_TARGETS};
 ghost use Rattle.sd_documents.specs.Reading.{Gives, each_said};
 ghost use Rattle.sd_documents.specs.Groups.{filled as filled_data, targets_said, label_said, labels_from, labels_said, parts_said, group_said, groups_said, groups_read, few_targets};
 
 use crate::error::{DocumentError, Limit, Member};
 use crate::group::Group;
 use crate::json::{json_in, texts_in};
+use crate::limits::MOST_TARGETS;
 use label_sets::{LabelName, Labels};
 use lists::{List, Text};
 use serde_json::{Map, Value};
@@ -53,11 +55,9 @@ fn few_targets_of(groups: List<Group>) -> Result<List<Group>, DocumentError>
     Ok(groups)
 }
 
-const MOST_TARGETS: usize = 16384;
-
 /// Whether the groups have no more than the most targets.
 fn has_few_targets(groups: &[Group]) -> bool
-    ensures { result ≡ nat_le (sum_by (λ g. length g.targets) groups.now) 16384 }
+    ensures { result ≡ nat_le (sum_by (λ g. length g.targets) groups.now) MOST_TARGETS }
 {
     let mut left = MOST_TARGETS;
     for group in groups {

@@ -12,6 +12,7 @@ mod groups;
 mod json;
 mod labelling;
 mod laws;
+mod limits;
 mod media;
 #[cfg(test)]
 mod tests;
@@ -23,5 +24,6 @@ pub use group::Group;
 pub use groups::{read_group, read_groups};
 pub use labelling::first_labels;
 pub use laws::first_labels_laws;
+pub use limits::{MOST_JOBS, MOST_RULES, MOST_TARGETS, MOST_URLS};
 pub use media::is_json_media;
 pub use written::write_groups;

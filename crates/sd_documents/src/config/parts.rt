@@ -11,6 +11,7 @@ use crate::error::{DocumentError, Limit, Member};
 use crate::group::Group;
 use crate::groups::groups_in;
 use crate::json::texts_in;
+use crate::limits::{MOST_RULES, MOST_URLS};
 use lists::{List, Text};
 use serde_json::{Map, Value};
 use std::alloc::{AllocError, Global};
@@ -84,8 +85,6 @@ fn static_in(
     }
 }
 
-const MOST_URLS: usize = 64;
-
 fn urls_in(alloc: Global, place: usize, found: Option<&Value>) -> Result<List<Text>, DocumentError>
     ensures { Gives (λ u. u) result (urls_said place (option_map (λ v. view v.now) found.entry)) }
 {
@@ -130,8 +129,6 @@ fn url_in(alloc: Global, place: usize, value: &Value) -> Result<Text, DocumentEr
     let url = Text::from_str(alloc, url)?;
     Ok(url)
 }
-
-const MOST_RULES: usize = 256;
 
 fn rules_in(
     alloc: Global,

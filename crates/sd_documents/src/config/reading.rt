@@ -12,6 +12,7 @@ use crate::config::kept::kept_of;
 use crate::config::members::count_of;
 use crate::error::{DocumentError, Limit, Member};
 use crate::json::json_in;
+use crate::limits::MOST_JOBS;
 use serde_json::Value;
 use std::alloc::Global;
 
@@ -37,8 +38,6 @@ fn config_in(alloc: Global, value: &Value) -> Result<Config, DocumentError>
     let kept = kept_of(alloc, entries)?;
     Ok(Config { jobs, kept })
 }
-
-const MOST_JOBS: usize = 1024;
 
 fn few_entries_in(value: &Value) -> Result<&[Value], DocumentError>
     ensures { Gives (λ s. items_view s.now) result (listed_entries (view value.now)) }
