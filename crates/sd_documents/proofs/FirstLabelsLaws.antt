@@ -1,17 +1,15 @@
 -- Where each of a target's first labels comes from, from the laws of label sets.
-use Rattle.std.proofs.Common.{◌≡◌, ◌≢◌, ℕ, eqb-true, ◌-◌, arith, get_or, Bool, true, false, cond, List, [], ◌∷◌, ◌++◌, Option, Some, None, refl, sym, ap, ◌∙◌, subst, drop}
-use Rattle.std.specs.Prelude.{◌==◌, slice_get, slice_index_or, codes, IsTrue}
+use Rattle.std.proofs.Common.{◌≡◌, ◌≢◌, ℕ, eqb-true, ◌-◌, arith, get_or, Bool, true, false, cond, List, [], ◌∷◌, ◌++◌, Option, Some, None, refl, sym, ap, ◌∙◌, drop}
+use Rattle.std.specs.Prelude.{◌==◌, slice_get, slice_index_or, codes}
 use Rattle.std.specs.Option.{option_map_or}
-use Rattle.std.specs.List.{AllByRecursion}
 use Rattle.std.specs.Str.{bytes_eq}
 use Rattle.label_sets.specs.Name.{is_label_name}
 use Rattle.label_sets.specs.Labels.{LabelList, label_text, with_label}
 use Rattle.label_sets.specs.Laws.{SetGivesText}
-use Rattle.sd_documents.specs.declared.group.Group.{Group}
 use Rattle.sd_documents.specs.declared.config.Job.{Job}
 use Rattle.sd_documents.specs.declared.config.Param.{Param}
-use Rattle.sd_documents.specs.FirstLabels.{or_label, with_url, param_label, with_value, with_param, with_params, with_address, with_settings, first_labels}
-use Rattle.sd_documents.specs.Laws.{NoneIsNamed, IsOther, AreFirstLabels, FirstLabelsAreFirst}
+use Rattle.sd_documents.specs.FirstLabels.{or_label, with_url, param_label, with_value, with_param, with_params, with_address, with_settings}
+use Rattle.sd_documents.specs.Laws.{NoneIsNamed, FirstLabelsAreFirst}
 
 -- the name has the same text in both
 abbrev Same : LabelList → LabelList → List ℕ → Type 0
@@ -169,20 +167,20 @@ first_labels_are_first set job group target source =
     let later : (q : List ℕ) → ((rest : List ℕ) → q ≢ param_label rest) → label_text (with_params whole job.params) q ≡ label_text whole q = λ q ne. params_other set whole job.params q ne in
     let at_first : (q : List ℕ) → q ≢ codes "__address__" → q ≢ codes "__meta_url" → label_text there q ≡ label_text group.labels q = λ q ne_address ne_url. address_other set group.labels urls source target q ne_address ne_url in
     let url_at_end : label_text (with_params whole job.params) (codes "__meta_url") ≡ label_text (with_url group.labels urls source) (codes "__meta_url") =
-        later (codes "__meta_url") url_no_param ∙ settings_other set there job (codes "__meta_url") (apart (codes "__meta_url") (codes "job") 0 (λ d. omega (arith, d))) (apart (codes "__meta_url") (codes "__scheme__") 2 (λ d. omega (arith, d))) (apart (codes "__meta_url") (codes "__metrics_path__") 5 (λ d. omega (arith, d))) ∙ (set (with_url group.labels urls source) (codes "__address__") target).others (codes "__meta_url") (apart (codes "__meta_url") (codes "__address__") 2 (λ d. omega (arith, d))) in
+    later (codes "__meta_url") url_no_param ∙ settings_other set there job (codes "__meta_url") (apart (codes "__meta_url") (codes "job") 0 (λ d. omega (arith, d))) (apart (codes "__meta_url") (codes "__scheme__") 2 (λ d. omega (arith, d))) (apart (codes "__meta_url") (codes "__metrics_path__") 5 (λ d. omega (arith, d))) ∙ (set (with_url group.labels urls source) (codes "__address__") target).others (codes "__meta_url") (apart (codes "__meta_url") (codes "__address__") 2 (λ d. omega (arith, d))) in
     record {
       address = later (codes "__address__") address_no_param ∙ settings_other set there job (codes "__address__") (apart (codes "__address__") (codes "job") 0 (λ d. omega (arith, d))) (apart (codes "__address__") (codes "__scheme__") 2 (λ d. omega (arith, d))) (apart (codes "__address__") (codes "__metrics_path__") 2 (λ d. omega (arith, d))) ∙ (set (with_url group.labels urls source) (codes "__address__") target).this;
       url = λ some. url_at_end ∙ url_given set group.labels urls source some;
       no_url = λ none. url_at_end ∙ url_not_given group.labels urls source none;
       stays = λ name has ne_address ne_url.
-        let first = at_first name ne_address ne_url in
-        let second = settings_filled set there job name (λ e. has (sym first ∙ e)) ∙ first in
-        params_filled set whole job.params name (λ e. has (sym second ∙ e)) ∙ second;
+          let first = at_first name ne_address ne_url in
+          let second = settings_filled set there job name (λ e. has (sym first ∙ e)) ∙ first in
+          params_filled set whole job.params name (λ e. has (sym second ∙ e)) ∙ second;
       job_name = λ missing. later (codes "job") job_no_param ∙ job_given set there job (at_first (codes "job") (apart (codes "job") (codes "__address__") 0 (λ d. omega (arith, d))) (apart (codes "job") (codes "__meta_url") 0 (λ d. omega (arith, d))) ∙ missing);
       scheme = λ missing. later (codes "__scheme__") scheme_no_param ∙ scheme_given set there job (at_first (codes "__scheme__") (apart (codes "__scheme__") (codes "__address__") 2 (λ d. omega (arith, d))) (apart (codes "__scheme__") (codes "__meta_url") 2 (λ d. omega (arith, d))) ∙ missing);
       path = λ missing. later (codes "__metrics_path__") path_no_param ∙ path_given set there job (at_first (codes "__metrics_path__") (apart (codes "__metrics_path__") (codes "__address__") 2 (λ d. omega (arith, d))) (apart (codes "__metrics_path__") (codes "__meta_url") 5 (λ d. omega (arith, d))) ∙ missing);
       param = λ before others param value split none first filled named missing.
-        let lacking : label_text whole (param_label param.name) ≡ [] = settings_other set there job (param_label param.name) (λ e. job_no_param param.name (sym e)) (λ e. scheme_no_param param.name (sym e)) (λ e. path_no_param param.name (sym e)) ∙ at_first (param_label param.name) (λ e. address_no_param param.name (sym e)) (λ e. url_no_param param.name (sym e)) ∙ missing in
-        ap (λ (params : List Param). label_text (with_params whole params) (param_label param.name)) split ∙ params_given set whole before others param value none first filled named lacking;
+          let lacking : label_text whole (param_label param.name) ≡ [] = settings_other set there job (param_label param.name) (λ e. job_no_param param.name (sym e)) (λ e. scheme_no_param param.name (sym e)) (λ e. path_no_param param.name (sym e)) ∙ at_first (param_label param.name) (λ e. address_no_param param.name (sym e)) (λ e. url_no_param param.name (sym e)) ∙ missing in
+          ap (λ (params : List Param). label_text (with_params whole params) (param_label param.name)) split ∙ params_given set whole before others param value none first filled named lacking;
       others = λ name other. later name other.param ∙ settings_other set there job name other.job other.scheme other.path ∙ at_first name other.address other.url;
     }

@@ -1,3 +1,5 @@
+pub mod AcceptedConfig
+pub mod AcceptedGroups
 pub mod Blanks
 pub mod FirstLabelsLaws
 pub mod Joined

@@ -26,20 +26,20 @@ use Rattle.sd_documents.specs.Limits.{are_new, IsWithinLimits, AreJobs}
 use Rattle.sd_documents.proofs.NoFloat.{bind_ok}
 
 -- what passed a test
-passed : {A : Type 0} (b : Bool) (x y : A) (e : DocumentError) → cond b (Ok x) (Err e) ≡ Ok y → (b ≡ true) × (x ≡ y)
+pub passed : {A : Type 0} (b : Bool) (x y : A) (e : DocumentError) → cond b (Ok x) (Err e) ≡ Ok y → (b ≡ true) × (x ≡ y)
 passed true x y e is = (refl, cc)
 passed false x y e is = cc
 
 -- what failed one
-failed : {A : Type 0} (b : Bool) (x y : A) (e : DocumentError) → cond b (Err e) (Ok x) ≡ Ok y → (b ≡ false) × (x ≡ y)
+pub failed : {A : Type 0} (b : Bool) (x y : A) (e : DocumentError) → cond b (Err e) (Ok x) ≡ Ok y → (b ≡ false) × (x ≡ y)
 failed true x y e is = cc
 failed false x y e is = (refl, cc)
 
-went : {A : Type 0} (b : Bool) (r : Result A DocumentError) (y : A) (e : DocumentError) → cond b r (Err e) ≡ Ok y → r ≡ Ok y
+pub went : {A : Type 0} (b : Bool) (r : Result A DocumentError) (y : A) (e : DocumentError) → cond b r (Err e) ≡ Ok y → r ≡ Ok y
 went true r y e is = is
 went false r y e is = cc
 
-went_on : {A : Type 0} (b : Bool) (r : Result A DocumentError) (y : A) (e : DocumentError) → cond b (Err e) r ≡ Ok y → r ≡ Ok y
+pub went_on : {A : Type 0} (b : Bool) (r : Result A DocumentError) (y : A) (e : DocumentError) → cond b (Err e) r ≡ Ok y → r ≡ Ok y
 went_on true r y e is = cc
 went_on false r y e is = is
 
@@ -54,7 +54,7 @@ pub record Four {A B C D Y : Type 0} (a : Result A DocumentError) (b : Result B 
   pub of_d : d ≡ Ok s
   pub is : y p q r s ≡ made
 
-four_ok : {A B C D Y : Type 0} (a : Result A DocumentError) (b : Result B DocumentError) (c : Result C DocumentError) (d : Result D DocumentError) (y : A → B → C → D → Y) (made : Y)
+pub four_ok : {A B C D Y : Type 0} (a : Result A DocumentError) (b : Result B DocumentError) (c : Result C DocumentError) (d : Result D DocumentError) (y : A → B → C → D → Y) (made : Y)
     → (a >>= λ p. b >>= λ q. c >>= λ r. d >>= λ s. Ok (y p q r s)) ≡ Ok made → Four a b c d y made
 four_ok (Ok p) (Ok q) (Ok r) (Ok s) y made e = record { p = p; q = q; r = r; s = s; of_a = refl; of_b = refl; of_c = refl; of_d = refl; is = cc }
 four_ok (Ok p) (Ok q) (Ok r) (Err e) y made is = cc
@@ -110,7 +110,7 @@ pub record PartsFew (parts : PartsData) : Type 0 where
   pub urls : length parts.http_urls ≤ MOST_URLS
   pub rules : items_len parts.rules ≤ MOST_RULES
 
-parts_few : (place : ℕ) (d : Data) (parts : PartsData) → parts_said place d ≡ Ok parts → PartsFew parts
+pub parts_few : (place : ℕ) (d : Data) (parts : PartsData) → parts_said place d ≡ Ok parts → PartsFew parts
 unfolding parts_said
 parts_few place d parts e =
     let made : List Param → List Group → List (List ℕ) → Items → PartsData = λ params static_groups http_urls rules. record { params = params; static_groups = static_groups; http_urls = http_urls; rules = rules } in
@@ -122,7 +122,7 @@ parts_few place d parts e =
     } in
     subst (λ (ps : PartsData). PartsFew ps) read.is few
 
-kept_job : (o : Option (List ℕ)) (job other : JobData) → option_map_or (λ name. Err (UnsupportedDiscovery name)) o (Ok job) ≡ Ok other → job ≡ other
+pub kept_job : (o : Option (List ℕ)) (job other : JobData) → option_map_or (λ name. Err (UnsupportedDiscovery name)) o (Ok job) ≡ Ok other → job ≡ other
 kept_job None job other e = cc
 kept_job (Some name) job other e = cc
 
@@ -187,14 +187,14 @@ next_sound place jobs more job e sound before =
     } in
     subst (λ (js : List JobData). AreSound js) test.1 all
 
-jobs_sound : (place : ℕ) (jobs more : List JobData) (ds : Items) → jobs_from place jobs ds ≡ Ok more → AreSound jobs → AreSound more
+pub jobs_sound : (place : ℕ) (jobs more : List JobData) (ds : Items) → jobs_from place jobs ds ≡ Ok more → AreSound jobs → AreSound more
 jobs_sound place jobs more no_items e before = let same : jobs ≡ more = cc in subst (λ (js : List JobData). AreSound js) same before
 jobs_sound place jobs more (item d ds) e before =
     let next = bind_ok (with_job place jobs d) (λ (js : List JobData). jobs_from (place + 1) js ds) more e in
     let job = bind_ok (job_said place d) (next_job place jobs) next.0 next.1 in
     jobs_sound (place + 1) next.0 more ds next.2 (next_sound place jobs next.0 job.0 job.2 (job_sound place d job.0 job.1) before)
 
-jobs_count : (place : ℕ) (jobs more : List JobData) (ds : Items) → jobs_from place jobs ds ≡ Ok more → length more ≡ length jobs + items_len ds
+pub jobs_count : (place : ℕ) (jobs more : List JobData) (ds : Items) → jobs_from place jobs ds ≡ Ok more → length more ≡ length jobs + items_len ds
 jobs_count place jobs more no_items e = let same : jobs ≡ more = cc in omega (arith, ap length same)
 jobs_count place jobs more (item d ds) e =
     let next = bind_ok (with_job place jobs d) (λ (js : List JobData). jobs_from (place + 1) js ds) more e in
@@ -202,7 +202,7 @@ jobs_count place jobs more (item d ds) e =
     let test = failed (is_taken jobs job.0.settings.name) (jobs ++ job.0 ∷ []) next.0 (RepeatedJob place) job.2 in
     omega (arith, jobs_count (place + 1) next.0 more ds next.2, ap length test.1, length-append jobs (job.0 ∷ []))
 
-entries_few : (d : Data) (entries : Items) → listed_entries d ≡ Ok entries → items_len entries ≤ MOST_JOBS
+pub entries_few : (d : Data) (entries : Items) → listed_entries d ≡ Ok entries → items_len entries ≤ MOST_JOBS
 entries_few d entries e =
     let all = bind_ok (entries_said d) few_entries entries e in
     let test = passed (nat_le (items_len all.0) MOST_JOBS) all.0 entries (TooMany Jobs) all.2 in

@@ -1,11 +1,16 @@
--- What holds of the first labels of a target, in the words of the scrape config.
-use Rattle.std.specs.Prelude.{◌≡◌, ◌≢◌, ℕ, ◌-◌, List, [], ◌∷◌, ◌++◌, Some, slice_get, slice_index_or, codes, IsTrue}
+-- What holds of the documents that are accepted, and of the first labels of a target, in the words of the scrape config.
+use Rattle.std.specs.Prelude.{◌≡◌, ◌≢◌, ℕ, ◌-◌, List, [], ◌∷◌, ◌++◌, Some, Ok, slice_get, slice_index_or, codes, IsTrue}
 use Rattle.std.specs.List.{AllByRecursion}
+use Rattle.serde_json.specs.Data.{Data}
 use Rattle.label_sets.specs.Name.{is_label_name}
 use Rattle.label_sets.specs.Labels.{LabelList, label_text}
 use Rattle.sd_documents.specs.declared.group.Group.{Group}
 use Rattle.sd_documents.specs.declared.config.Job.{Job}
 use Rattle.sd_documents.specs.declared.config.Param.{Param}
+use Rattle.sd_documents.specs.declared.error.Member.{Member}
+use Rattle.sd_documents.specs.Groups.{groups_said}
+use Rattle.sd_documents.specs.Config.{ConfigData, config_said}
+use Rattle.sd_documents.specs.Documents.{AreGroups, IsConfig}
 use Rattle.sd_documents.specs.FirstLabels.{param_label, first_labels}
 
 -- the group has no label of the name
@@ -45,3 +50,11 @@ pub record AreFirstLabels (job : Job) (group : Group) (target : List ℕ) (sourc
 
 abbrev pub FirstLabelsAreFirst : Type 0
 FirstLabelsAreFirst = (job : Job) (group : Group) (target : List ℕ) (source : ℕ) → AreFirstLabels job group target source (first_labels job group target source)
+
+-- ---- what is accepted
+
+abbrev pub AcceptedAreConfigs : Type 0
+AcceptedAreConfigs = (d : Data) (config : ConfigData) → config_said d ≡ Ok config → IsConfig d config.jobs
+
+abbrev pub AcceptedAreGroups : Type 0
+AcceptedAreGroups = (place : ℕ) (part : Member) (d : Data) (groups : List Group) → groups_said place part d ≡ Ok groups → AreGroups d groups

@@ -8,4 +8,5 @@ pub mod Seen
 pub mod FirstLabels
 pub mod Limits
 pub mod Names
+pub mod Documents
 pub mod Laws

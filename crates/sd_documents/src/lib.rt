@@ -23,7 +23,7 @@ pub use error::{DocumentError, Limit, Member};
 pub use group::Group;
 pub use groups::{read_group, read_groups};
 pub use labelling::first_labels;
-pub use laws::first_labels_laws;
+pub use laws::{documents_laws, first_labels_laws};
 pub use limits::{MOST_JOBS, MOST_RULES, MOST_TARGETS, MOST_URLS};
 pub use media::is_json_media;
 pub use written::write_groups;
