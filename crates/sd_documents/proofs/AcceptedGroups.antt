@@ -12,8 +12,8 @@ use Rattle.label_sets.specs.Name.{is_label_name}
 use Rattle.label_sets.specs.Labels.{LabelList, label_text, with_label}
 use Rattle.label_sets.specs.Laws.{SetGivesText}
 use Rattle.sd_documents.specs.declared.limits.TheConstants.{MOST_TARGETS}
-use Rattle.sd_documents.specs.declared.error.DocumentError.{DocumentError}
-use Rattle.sd_documents.specs.declared.error.DocumentError.TheVariants.{Shape, BadLabelName, TooMany}
+use Rattle.sd_documents.specs.declared.error.SdError.{SdError}
+use Rattle.sd_documents.specs.declared.error.SdError.TheVariants.{Shape, BadLabelName, TooMany}
 use Rattle.sd_documents.specs.declared.error.Limit.TheVariants.{Targets}
 use Rattle.sd_documents.specs.declared.error.Member.{Member}
 use Rattle.sd_documents.specs.declared.group.Group.{Group}
@@ -25,7 +25,7 @@ use Rattle.sd_documents.proofs.Within.{passed}
 
 -- ---- values
 
-pub is_text : (d : Data) (e : DocumentError) (text : List ℕ) → ok_or (as_str d) e ≡ Ok text → d ≡ string text
+pub is_text : (d : Data) (e : SdError) (text : List ℕ) → ok_or (as_str d) e ≡ Ok text → d ≡ string text
 is_text null e text is = cc
 is_text (boolean b) e text is = cc
 is_text (number n) e text is = cc
@@ -33,7 +33,7 @@ is_text (string s) e text is = cc
 is_text (array ds) e text is = cc
 is_text (object ms) e text is = cc
 
-pub is_array : (d : Data) (e : DocumentError) (ds : Items) → ok_or (as_array d) e ≡ Ok ds → d ≡ array ds
+pub is_array : (d : Data) (e : SdError) (ds : Items) → ok_or (as_array d) e ≡ Ok ds → d ≡ array ds
 is_array null e ds is = cc
 is_array (boolean b) e ds is = cc
 is_array (number n) e ds is = cc
@@ -41,7 +41,7 @@ is_array (string s) e ds is = cc
 is_array (array others) e ds is = cc
 is_array (object ms) e ds is = cc
 
-pub is_object : (d : Data) (e : DocumentError) (ms : Members) → ok_or (as_object d) e ≡ Ok ms → d ≡ object ms
+pub is_object : (d : Data) (e : SdError) (ms : Members) → ok_or (as_object d) e ≡ Ok ms → d ≡ object ms
 is_object null e ms is = cc
 is_object (boolean b) e ms is = cc
 is_object (number n) e ms is = cc
@@ -57,13 +57,13 @@ some_object (string s) is = cc
 some_object (array ds) is = cc
 some_object (object ms) is = (ms, refl)
 
-pub tested : {A : Type 0} (b : Bool) (r : Result A DocumentError) (y : A) (e : DocumentError) → cond b r (Err e) ≡ Ok y → (b ≡ true) × (r ≡ Ok y)
+pub tested : {A : Type 0} (b : Bool) (r : Result A SdError) (y : A) (e : SdError) → cond b r (Err e) ≡ Ok y → (b ≡ true) × (r ≡ Ok y)
 tested true r y e is = (refl, is)
 tested false r y e is = cc
 
 -- ---- lists
 
-pub each_is : {A : Type 0} (what : Data → Result A DocumentError) (Is : Data → A → Type 0) → ((d : Data) (x : A) → what d ≡ Ok x → Is d x) → (ds : Items) (xs : List A) → each_said what ds ≡ Ok xs → AreEach Is ds xs
+pub each_is : {A : Type 0} (what : Data → Result A SdError) (Is : Data → A → Type 0) → ((d : Data) (x : A) → what d ≡ Ok x → Is d x) → (ds : Items) (xs : List A) → each_said what ds ≡ Ok xs → AreEach Is ds xs
 each_is {A} what Is one no_items xs is = let none : [] ≡ xs = cc in subst (λ (ys : List A). AreEach Is no_items ys) none tt
 each_is {A} what Is one (item d ds) xs is =
     let first = bind_ok (what d) (λ x. each_said what ds >>= λ ys. Ok (x ∷ ys)) xs is in
@@ -77,11 +77,11 @@ each_text no_items (t ∷ texts) each = absurd each
 each_text (item d ds) [] each = absurd each
 each_text (item d ds) (t ∷ texts) each = let rest = each_text ds texts each.1 in let first : d ≡ string t = each.0 in cc
 
-pub are_texts : (place : ℕ) (part : Member) (d : Data) (texts : List (List ℕ)) → texts_said place part d ≡ Ok texts → d ≡ list_data string texts
-are_texts place part d texts is =
-    let items = bind_ok (ok_or (as_array d) (Shape place part)) (each_said (text_said place part)) texts is in
-    is_array d (Shape place part) items.0 items.1
-    ∙ ap array (each_text items.0 texts (each_is (text_said place part) (λ e text. e ≡ string text) (λ e text. is_text e (Shape place part) text) items.0 texts items.2))
+pub are_texts : (index : ℕ) (part : Member) (d : Data) (texts : List (List ℕ)) → texts_said index part d ≡ Ok texts → d ≡ list_data string texts
+are_texts index part d texts is =
+    let items = bind_ok (ok_or (as_array d) (Shape index part)) (each_said (text_said index part)) texts is in
+    is_array d (Shape index part) items.0 items.1
+    ∙ ap array (each_text items.0 texts (each_is (text_said index part) (λ e text. e ≡ string text) (λ e text. is_text e (Shape index part) text) items.0 texts items.2))
 
 -- ---- labels
 
@@ -98,11 +98,11 @@ record LabelRead (labels : LabelList) (name : List ℕ) (d : Data) (more : Label
   is_text_of : d ≡ string text
   is : more ≡ with_label labels name text
 
-label_read : (place : ℕ) (part : Member) (labels : LabelList) (name : List ℕ) (d : Data) (more : LabelList) → label_said place part labels name d ≡ Ok more → LabelRead labels name d more
-label_read place part labels name d more is =
-    let test = tested (is_label_name name) (text_said place part d >>= λ text. Ok (with_label labels name text)) more BadLabelName is in
-    let text = bind_ok (text_said place part d) (λ text. Ok (with_label labels name text)) more test.1 in
-    record { named = test.0; text = text.0; is_text_of = is_text d (Shape place part) text.0 text.1; is = let e : Ok (with_label labels name text.0) ≡ Ok more = text.2 in cc }
+label_read : (index : ℕ) (part : Member) (labels : LabelList) (name : List ℕ) (d : Data) (more : LabelList) → label_said index part labels name d ≡ Ok more → LabelRead labels name d more
+label_read index part labels name d more is =
+    let test = tested (is_label_name name) (text_said index part d >>= λ text. Ok (with_label labels name text)) more BadLabelName is in
+    let text = bind_ok (text_said index part d) (λ text. Ok (with_label labels name text)) more test.1 in
+    record { named = test.0; text = text.0; is_text_of = is_text d (Shape index part) text.0 text.1; is = let e : Ok (with_label labels name text.0) ≡ Ok more = text.2 in cc }
 
 record LabelsRead (labels : LabelList) (ms : Members) (more : LabelList) : Type 0 where
   named : (name : List ℕ) (d : Data) → HasMember name d ms → is_label_name name ≡ true
@@ -142,8 +142,8 @@ first_all set labels next name other text e ms read only given = elim (same_or_n
     go ne (inr (inl same)) = absurd (ne same.0)
     go ne (inr (inr has)) = inr has
 
-labels_read : SetGivesText → (place : ℕ) (part : Member) (labels : LabelList) (ms : Members) (more : LabelList) → labels_from place part labels ms ≡ Ok more → LabelsRead labels ms more
-labels_read set place part labels no_members more is =
+labels_read : SetGivesText → (index : ℕ) (part : Member) (labels : LabelList) (ms : Members) (more : LabelList) → labels_from index part labels ms ≡ Ok more → LabelsRead labels ms more
+labels_read set index part labels no_members more is =
     let same : labels ≡ more = cc in
     record {
       named = λ name d has. absurd has;
@@ -154,10 +154,10 @@ labels_read set place part labels no_members more is =
         | inr has ↦ absurd has
       ];
     }
-labels_read set place part labels (member n e ms) more is =
-    let next = bind_ok (label_said place part labels n e) (λ (l : LabelList). labels_from place part l ms) more is in
-    let one = label_read place part labels n e next.0 next.1 in
-    let rest = labels_read set place part next.0 ms more next.2 in
+labels_read set index part labels (member n e ms) more is =
+    let next = bind_ok (label_said index part labels n e) (λ (l : LabelList). labels_from index part l ms) more is in
+    let one = label_read index part labels n e next.0 next.1 in
+    let rest = labels_read set index part next.0 ms more next.2 in
     record {
       named = λ name d has. first_named name n d e ms one.named (rest.named name d) has;
       texts = λ name d has. first_text name n d e ms one.text one.is_text_of (rest.texts name d) has;
@@ -165,9 +165,9 @@ labels_read set place part labels (member n e ms) more is =
       all = λ name text only given. rest.all name text (λ d has. only d (inr has)) (first_all set labels next.0 name n text e ms one only given);
     }
 
-are_labels : SetGivesText → (place : ℕ) (part : Member) (ms : Members) (labels : LabelList) → labels_from place part [] ms ≡ Ok labels → AreLabels ms labels
-are_labels set place part ms labels is =
-    let read = labels_read set place part [] ms labels is in
+are_labels : SetGivesText → (index : ℕ) (part : Member) (ms : Members) (labels : LabelList) → labels_from index part [] ms ≡ Ok labels → AreLabels ms labels
+are_labels set index part ms labels is =
+    let read = labels_read set index part [] ms labels is in
     record {
       named = read.named;
       texts = read.texts;
@@ -180,37 +180,37 @@ are_labels set place part ms labels is =
 
 -- ---- groups
 
-targets_are : (place : ℕ) (part : Member) (o : Option Data) (targets : List (List ℕ)) → targets_said place part o ≡ Ok targets → MatchOption o (targets ≡ []) (λ v. v ≡ list_data string targets)
-targets_are place part None targets is = cc
-targets_are place part (Some d) targets is = are_texts place part d targets is
+targets_are : (index : ℕ) (part : Member) (o : Option Data) (targets : List (List ℕ)) → targets_said index part o ≡ Ok targets → MatchOption o (targets ≡ []) (λ v. v ≡ list_data string targets)
+targets_are index part None targets is = cc
+targets_are index part (Some d) targets is = are_texts index part d targets is
 
-labels_are : SetGivesText → (place : ℕ) (part : Member) (o : Option Data) (labels : LabelList) → labels_said place part o ≡ Ok labels → MatchOption o (labels ≡ []) (λ v. (ms : Members) × (v ≡ object ms) × AreLabels ms labels)
-labels_are set place part None labels is = cc
-labels_are set place part (Some d) labels is =
-    let ms = bind_ok (ok_or (as_object d) (Shape place part)) (labels_from place part []) labels is in
-    (ms.0, is_object d (Shape place part) ms.0 ms.1, are_labels set place part ms.0 labels ms.2)
+labels_are : SetGivesText → (index : ℕ) (part : Member) (o : Option Data) (labels : LabelList) → labels_said index part o ≡ Ok labels → MatchOption o (labels ≡ []) (λ v. (ms : Members) × (v ≡ object ms) × AreLabels ms labels)
+labels_are set index part None labels is = cc
+labels_are set index part (Some d) labels is =
+    let ms = bind_ok (ok_or (as_object d) (Shape index part)) (labels_from index part []) labels is in
+    (ms.0, is_object d (Shape index part) ms.0 ms.1, are_labels set index part ms.0 labels ms.2)
 
-is_group : SetGivesText → (place : ℕ) (part : Member) (d : Data) (group : Group) → group_said place part d ≡ Ok group → IsGroup d group
-is_group set place part d group is =
-    let test = tested (is_some (as_object d)) (parts_said place part d) group (Shape place part) is in
+is_group : SetGivesText → (index : ℕ) (part : Member) (d : Data) (group : Group) → group_said index part d ≡ Ok group → IsGroup d group
+is_group set index part d group is =
+    let test = tested (is_some (as_object d)) (parts_said index part d) group (Shape index part) is in
     let made : List (List ℕ) → LabelList → Group = λ targets labels. record { targets = targets; labels = labels } in
-    let targets = bind_ok (targets_said place part (filled (get (codes "targets") d))) (λ targets. labels_said place part (filled (get (codes "labels") d)) >>= λ labels. Ok (made targets labels)) group test.1 in
-    let labels = bind_ok (labels_said place part (filled (get (codes "labels") d))) (λ labels. Ok (made targets.0 labels)) group targets.2 in
+    let targets = bind_ok (targets_said index part (filled (get (codes "targets") d))) (λ targets. labels_said index part (filled (get (codes "labels") d)) >>= λ labels. Ok (made targets labels)) group test.1 in
+    let labels = bind_ok (labels_said index part (filled (get (codes "labels") d))) (λ labels. Ok (made targets.0 labels)) group targets.2 in
     let same : made targets.0 labels.0 ≡ group = let e : Ok (made targets.0 labels.0) ≡ Ok group = labels.2 in cc in
     let whole : IsGroup d (made targets.0 labels.0) = record {
       shape = some_object d test.0;
-      targets = targets_are place part (filled (get (codes "targets") d)) targets.0 targets.1;
-      labels = labels_are set place part (filled (get (codes "labels") d)) labels.0 labels.1;
+      targets = targets_are index part (filled (get (codes "targets") d)) targets.0 targets.1;
+      labels = labels_are set index part (filled (get (codes "labels") d)) labels.0 labels.1;
     } in
     subst (λ (g : Group). IsGroup d g) same whole
 
-pub are_groups : SetGivesText → (place : ℕ) (part : Member) (d : Data) (groups : List Group) → groups_said place part d ≡ Ok groups → AreGroups d groups
-are_groups set place part d groups is =
-    let all = bind_ok (ok_or (as_array d) (Shape place part) >>= each_said (group_said place part)) few_targets groups is in
-    let items = bind_ok (ok_or (as_array d) (Shape place part)) (each_said (group_said place part)) all.0 all.1 in
+pub are_groups : SetGivesText → (index : ℕ) (part : Member) (d : Data) (groups : List Group) → groups_said index part d ≡ Ok groups → AreGroups d groups
+are_groups set index part d groups is =
+    let all = bind_ok (ok_or (as_array d) (Shape index part) >>= each_said (group_said index part)) few_targets groups is in
+    let items = bind_ok (ok_or (as_array d) (Shape index part)) (each_said (group_said index part)) all.0 all.1 in
     let test = passed (nat_le (sum_by (λ (group : Group). length group.targets) all.0) MOST_TARGETS) all.0 groups (TooMany Targets) all.2 in
     let whole : AreGroups d all.0 = record {
-      each = (items.0, is_array d (Shape place part) items.0 items.1, each_is (group_said place part) IsGroup (is_group set place part) items.0 all.0 items.2);
+      each = (items.0, is_array d (Shape index part) items.0 items.1, each_is (group_said index part) IsGroup (is_group set index part) items.0 all.0 items.2);
       few = leb-true (sum_by (λ (group : Group). length group.targets) all.0) MOST_TARGETS test.0;
     } in
     subst (λ (gs : List Group). AreGroups d gs) test.1 whole

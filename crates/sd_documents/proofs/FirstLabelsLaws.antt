@@ -15,7 +15,7 @@ use Rattle.sd_documents.specs.Laws.{NoneIsNamed, FirstLabelsAreFirst}
 abbrev Same : LabelList → LabelList → List ℕ → Type 0
 Same old new name = label_text new name ≡ label_text old name
 
--- texts that differ at a place differ
+-- texts that differ at a index differ
 apart : (x y : List ℕ) (i : ℕ) → (get_or x i 0 ≡ get_or y i 0 → ⊥) → x ≢ y
 apart x y i differ e = differ (ap (λ (t : List ℕ). get_or t i 0) e)
 

@@ -15,14 +15,14 @@ use Rattle.sd_documents.specs.Groups.{filled}
 use Rattle.sd_documents.specs.Config.{JobData, all_objects, is_unsupported}
 use Rattle.sd_documents.specs.Limits.{are_new}
 
--- each item is what stands at its place
+-- each item is what stands at its index
 abbrev pub AreEach : {A : Type 0} → (Data → A → Type 0) → Items → List A → Type 0
 AreEach is no_items [] = Unit {0}
 AreEach is no_items (x ∷ xs) = ⊥
 AreEach is (item d ds) [] = ⊥
 AreEach is (item d ds) (x ∷ xs) = is d x × AreEach is ds xs
 
--- a list of as many items, each what stands at its place
+-- a list of as many items, each what stands at its index
 abbrev pub IsListOf : {A : Type 0} → (Data → A → Type 0) → List A → Data → Type 0
 IsListOf is xs d = (ds : Items) × (d ≡ array ds) × AreEach is ds xs
 

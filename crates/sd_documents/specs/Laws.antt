@@ -57,4 +57,4 @@ abbrev pub AcceptedAreConfigs : Type 0
 AcceptedAreConfigs = (d : Data) (config : ConfigData) → config_said d ≡ Ok config → IsConfig d config.jobs
 
 abbrev pub AcceptedAreGroups : Type 0
-AcceptedAreGroups = (place : ℕ) (part : Member) (d : Data) (groups : List Group) → groups_said place part d ≡ Ok groups → AreGroups d groups
+AcceptedAreGroups = (index : ℕ) (part : Member) (d : Data) (groups : List Group) → groups_said index part d ≡ Ok groups → AreGroups d groups

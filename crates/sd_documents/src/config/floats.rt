@@ -6,7 +6,7 @@ ghost use Rattle.serde_json.specs.Written.{has_float, items_have_float, members_
 use serde_json::{Map, Value};
 
 /// Whether there is such a number at any depth.
-#[cycle(numbers)]
+#[cycle(floats)]
 pub(crate) fn holds_float(value: &Value) -> bool
     ensures { result ≡ has_float (view value.now) }
 {
@@ -20,7 +20,7 @@ pub(crate) fn holds_float(value: &Value) -> bool
     }
 }
 
-#[cycle(numbers)]
+#[cycle(floats)]
 fn any_holds_float(items: &Vec<Value>) -> bool
     ensures { result ≡ items_have_float (items_view items.now.items) }
 {
@@ -32,7 +32,7 @@ fn any_holds_float(items: &Vec<Value>) -> bool
     false
 }
 
-#[cycle(numbers)]
+#[cycle(floats)]
 fn any_member_holds_float(members: &Map<String, Value>) -> bool
     ensures { result ≡ members_have_float (members_view members.now.entries) }
 {

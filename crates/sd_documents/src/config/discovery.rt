@@ -1,30 +1,10 @@
-//! What is asked of values whole.
+//! Service discovery other than by HTTP, which is not supported.
 ghost use Rattle.std.specs.Prelude.{◌≡◌, option_map, option_and_then};
-ghost use Rattle.serde_json.specs.Events.{items_len};
 ghost use Rattle.serde_json.specs.Find.{as_object};
-ghost use Rattle.serde_json.specs.View.{view, items_view, members_view};
-ghost use Rattle.sd_documents.specs.Config.{is_unsupported as is_unsupported_name, unsupported_in as unsupported_in_data, all_objects};
+ghost use Rattle.serde_json.specs.View.{view, members_view};
+ghost use Rattle.sd_documents.specs.Config.{is_unsupported as is_unsupported_name, unsupported_in as unsupported_in_data};
 
 use serde_json::{Map, Value};
-
-/// How many values there are.
-pub(crate) fn count_of(values: &[Value]) -> usize
-    ensures { result ≡ items_len (items_view values.now) }
-{
-    values.len()
-}
-
-/// Whether each is an object.
-pub(crate) fn are_objects(values: &[Value]) -> bool
-    ensures { result ≡ all_objects (items_view values.now) }
-{
-    for value in values {
-        if !value.is_object() {
-            return false;
-        }
-    }
-    true
-}
 
 /// The first member for a service discovery that is not supported.
 pub(crate) fn unsupported_of(value: &Value) -> Option<&str>
