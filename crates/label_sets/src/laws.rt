@@ -1,3 +1,4 @@
+//! Laws of label sets and of targets.
 ghost use Rattle.label_sets.specs.Laws.{SetGivesText, RemoveGivesNoText, SetKeepsSets, RemoveKeepsSets, AlikeAreEqual, TextDecides, TextDecidesAnswers};
 
 /// Label sets are finite maps: what they answer after a change, that a change leaves a set, and that two

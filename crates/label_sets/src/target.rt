@@ -1,3 +1,4 @@
+//! Final targets.
 ghost use Rattle.std.specs.Prelude.{◌≡◌, IfOk, IsTrue};
 ghost use Rattle.label_sets.specs.Target.{target_label, target_text};
 

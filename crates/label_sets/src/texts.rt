@@ -1,3 +1,4 @@
+//! The JSON texts of label sets and of targets.
 ghost use Rattle.std.specs.Prelude.{◌≡◌, IfOk, IsTrue, codes, false};
 ghost use Rattle.std.specs.FinMap.{is_sorted};
 ghost use Rattle.serde_json.specs.Data.{string, array, object, item, no_items, member, no_members};

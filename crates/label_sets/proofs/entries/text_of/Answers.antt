@@ -1,6 +1,6 @@
 use Rattle.std.proofs.Common.{◌∙◌}
 use Rattle.label_sets.proofs.Places.{label_text_from_here, label_text_from_gap}
-use Rattle.label_sets.proofs.place.text_of.Goals as goal
+use Rattle.label_sets.proofs.entries.text_of.Goals as goal
 
 pub returns-in-Ok : goal.returns-in-Ok
 returns-in-Ok c = c.as_str.ensures ∙ label_text_from_here _ _ _ c.index-entries-i.result c.requires c.in-Ok.ensures.here

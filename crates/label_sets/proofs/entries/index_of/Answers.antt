@@ -2,7 +2,7 @@ use Rattle.std.proofs.Common.{rules}
 use Rattle.std.proofs.lemmas.Fn.{always_returns_same}
 use Rattle.label_sets.specs.Labels.{byte_cmp}
 use Rattle.label_sets.proofs.Places.{searched}
-use Rattle.label_sets.proofs.place.place_of.Goals as goal
+use Rattle.label_sets.proofs.entries.index_of.Goals as goal
 
 -- the closure compares an entry's name
 pub returns : goal.returns

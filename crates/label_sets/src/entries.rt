@@ -1,8 +1,9 @@
+//! A set's names and texts in byte order: where a name stands, and what is put in and taken out.
 ghost use Rattle.std.specs.Prelude.{◌≡◌, IfOk, IfErr, OnOk, OnErr, IsOk, IsTrue, []};
 ghost use Rattle.std.specs.FinMap.{is_sorted};
 ghost use Rattle.label_sets.specs.Name.{is_label_name};
 ghost use Rattle.label_sets.specs.Labels.{byte_cmp, label_text, with_label, without};
-ghost use Rattle.label_sets.specs.Places.{IsHere, IsGap};
+ghost use Rattle.label_sets.specs.inner.Places.{IsHere, IsGap};
 
 use crate::name::LabelName;
 use lists::Text;
@@ -10,7 +11,7 @@ use std::alloc::AllocError;
 use std::cmp::Ordering;
 
 /// Where the name stands, or where it would be put.
-fn place_of(entries: &[(LabelName, Text)], name: &str) -> Result<usize, usize>
+fn index_of(entries: &[(LabelName, Text)], name: &str) -> Result<usize, usize>
     requires { IsTrue (is_sorted byte_cmp entries.now) }
     ensures here { IfOk result (IsHere entries.now name.now) }
     ensures gap { IfErr result (IsGap entries.now name.now) }
@@ -30,7 +31,7 @@ pub(crate) fn text_of<'a>(entries: &'a [(LabelName, Text)], name: &str) -> &'a s
     requires { IsTrue (is_sorted byte_cmp entries.now) }
     ensures { result.now ≡ label_text entries.now name.now }
 {
-    match place_of(entries, name) {
+    match index_of(entries, name) {
         Ok(i) => entries[i].1.as_str(),
         Err(_) => "",
     }
@@ -53,7 +54,7 @@ pub(crate) fn put(
         return Ok(());
     }
     let text = Text::from_str(*entries.allocator(), text)?;
-    match place_of(entries.as_slice(), name) {
+    match index_of(entries.as_slice(), name) {
         Ok(i) => {
             let entry = &mut entries[i];
             entry.1 = text;
@@ -72,7 +73,7 @@ pub(crate) fn take_out(entries: &mut Vec<(LabelName, Text)>, name: &str)
     requires { IsTrue (is_sorted byte_cmp entries.old.items) }
     ensures { entries.new.items ≡ without entries.old.items name.now }
 {
-    if let Ok(i) = place_of(entries.as_slice(), name) {
+    if let Ok(i) = index_of(entries.as_slice(), name) {
         let _ = entries.remove(i);
     }
 }

@@ -1,6 +1,6 @@
 use Rattle.std.proofs.Common.{◌≡◌, ◌∙◌, sym, eqb, length, false}
 use Rattle.label_sets.proofs.Places.{with_label_from_here, with_label_from_gap}
-use Rattle.label_sets.proofs.place.put.Goals as goal
+use Rattle.label_sets.proofs.entries.put.Goals as goal
 
 -- the text is written over the name's own entry
 pub returns-in-Ok-clause-ok : goal.returns-in-Ok-clause-ok
