@@ -8,7 +8,7 @@ use Rattle.std.specs.FinMap.Entries.{below_all}
 use Rattle.std.proofs.lemmas.Bool.{cases_eq, and_parts}
 use Rattle.std.proofs.lemmas.Cmp.{nat_list_cmp_total, tied_back}
 use Rattle.label_sets.specs.Labels.{LabelList, byte_cmp, label_text, without, with_label, names_of, IsAscending}
-use Rattle.label_sets.specs.Places.{IsHere, IsGap}
+use Rattle.label_sets.specs.inner.Places.{IsHere, IsGap}
 
 -- the order of two names, the other way round
 pub turned : (x y : List ℕ) (o : Ordering) → byte_cmp x y ≡ o → byte_cmp y x ≡ ordering_reverse o
