@@ -12,3 +12,4 @@ pub mod Inserting
 pub mod Starting
 pub mod Ordered
 pub mod Rolling
+pub mod Exact

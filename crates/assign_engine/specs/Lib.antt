@@ -7,3 +7,4 @@ pub mod Searched
 pub mod Pending
 pub mod Searching
 pub mod Repriced
+pub mod Exact

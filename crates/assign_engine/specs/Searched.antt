@@ -35,16 +35,15 @@ pub record IsRepriced (p : Problem) (ats : List (Option ℕ)) (us vs : List ℕ)
   pub far_bin : (b : ℕ) → b < bins_of p → cost ≤ slice_index distances b → slice_index higher b ≡ slice_index vs b
 
 -- a bin on the way to the end
-pub record IsNear (p : Problem) (distances : List ℕ) (cost top : ℕ) (b : ℕ) : Type 0 where
+pub record IsNear (p : Problem) (distances : List ℕ) (cost b : ℕ) : Type 0 where
   pub in_range : b < bins_of p
   pub within : slice_index distances b ≤ cost
-  pub below : slice_index distances b < top
 
 -- the pairs that lead to near bins are tight at the new prices
-pub record HasTrail (p : Problem) (ats : List (Option ℕ)) (lower higher : List ℕ) (s : ℕ) (distances vias ranks : List ℕ) (cost top : ℕ) : Type 0 where
-  pub allowed : (b : ℕ) → IsNear p distances cost top b → IsAllowed p (slice_index vias b) b
-  pub tight : (b : ℕ) → IsNear p distances cost top b → slice_index lower (slice_index vias b) + slice_index higher b ≡ weight_of p (slice_index vias b) b
-  pub back : (b : ℕ) → IsNear p distances cost top b → (slice_index vias b ≡ s) ⊎ ((y : ℕ) × (seat ats (slice_index vias b) ≡ Some y) × (slice_index ranks y < slice_index ranks b) × IsNear p distances cost top y)
+pub record HasTrail (p : Problem) (ats : List (Option ℕ)) (lower higher : List ℕ) (s : ℕ) (distances vias ranks : List ℕ) (cost : ℕ) : Type 0 where
+  pub allowed : (b : ℕ) → IsNear p distances cost b → IsAllowed p (slice_index vias b) b
+  pub tight : (b : ℕ) → IsNear p distances cost b → slice_index lower (slice_index vias b) + slice_index higher b ≡ weight_of p (slice_index vias b) b
+  pub back : (b : ℕ) → IsNear p distances cost b → (slice_index vias b ≡ s) ⊎ ((y : ℕ) × (seat ats (slice_index vias b) ≡ Some y) × (slice_index ranks y < slice_index ranks b) × IsNear p distances cost y)
 
 -- While the matching changes along the trail: one more item at the hole would give each bin its target.
 pub record IsWalking (p : Problem) (old : List (Option ℕ)) (us lower higher : List ℕ) (s : ℕ) (ranks : List ℕ) (target : ℕ → ℕ) (hole : ℕ) (ats : List (Option ℕ)) : Type 0 where

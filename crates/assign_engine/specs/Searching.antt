@@ -4,7 +4,7 @@ use Rattle.price_certificate.specs.Problem.{Problem, bins_of, capacity_of, weigh
 use Rattle.assign_engine.specs.Seats.{seat, used}
 use Rattle.assign_engine.specs.Labels.{Labelled, HasBins}
 use Rattle.assign_engine.specs.Pending.{HasPending}
-use Rattle.assign_engine.specs.Searched.{HasParents}
+use Rattle.assign_engine.specs.Searched.{HasParents, IsNear, HasTrail}
 use Rattle.assign_engine.specs.declared.ends.End.{End}
 use Rattle.assign_engine.specs.declared.ends.End.TheVariants.{Leave, Room, Uncover}
 
@@ -48,6 +48,12 @@ abbrev pub EndFree : List ℕ → ℕ → End → Type 0
 EndFree lower s Leave = slice_index lower s ≡ 0
 EndFree lower s (Room y) = Unit {0}
 EndFree lower s (Uncover i y) = slice_index lower i ≡ 0
+
+-- there is a way of tight pairs to the end, or the new item has no price
+abbrev pub HasWay : Problem → List (Option ℕ) → List ℕ → List ℕ → ℕ → List ℕ → List ℕ → List ℕ → ℕ → End → Type 0
+HasWay p ats lower higher s distances vias ranks cost Leave = slice_index lower s ≡ 0
+HasWay p ats lower higher s distances vias ranks cost (Room y) = HasTrail p ats lower higher s distances vias ranks cost × IsNear p distances cost y × (used ats y < capacity_of p y)
+HasWay p ats lower higher s distances vias ranks cost (Uncover i y) = HasTrail p ats lower higher s distances vias ranks cost × IsNear p distances cost y × (seat ats i ≡ Some y) × (slice_index lower i ≡ 0)
 
 -- how many items each bin has once the new item is inserted
 abbrev pub target_of : End → List (Option ℕ) → ℕ → ℕ

@@ -12,6 +12,7 @@ use crate::labels::Labels;
 use crate::matching::Matching;
 use crate::seating::Seating;
 use crate::start::start;
+use crate::walks::{Walks, is_waiting, walk_if_due};
 use lists::List;
 use price_certificate::{Instance, Plan};
 use std::alloc::{AllocError, Global};
@@ -27,13 +28,18 @@ pub struct Work {
 
 /// Inserts each item that has a price and is in no bin.
 fn insert_all(
+    alloc: Global,
     instance: &Instance,
     matching: &mut Matching,
     labels: &mut Labels,
+    walks: &mut Walks,
 ) -> Result<Work, AllocError>
     requires sound { IsSound instance.now matching.old.seating.seats matching.old.item_prices.items matching.old.bin_prices.items }
     requires bins { matching.old.seating.bins ≡ bins_of instance.now }
     requires tables { HasBins (bins_of instance.now) labels.old }
+    requires arcs { length walks.old.arcs.items ≡ items_of instance.now }
+    requires turns { length walks.old.turns.items ≡ bins_of instance.now }
+    requires marks { HasBins (bins_of instance.now) walks.old.labels }
     ensures sound { OnOk result (IsSound instance.now matching.new.seating.seats matching.new.item_prices.items matching.new.bin_prices.items) }
     ensures none { OnOk result ((t : ℕ) → ¬ IsWaiting matching.new.seating.seats matching.new.item_prices.items t) }
     ensures searches { IfOk result (λ w. w.searches ≤ count_by is_none matching.old.seating.seats) }
@@ -42,11 +48,15 @@ fn insert_all(
     instance.is_problem();
     let mut searches = 0;
     let mut settled = 0;
+    let mut due = 0;
     for item in 0..instance.items() {
-        if matching.seating.bin_of(item).is_none() && matching.item_prices[item] > 0 {
+        due = walk_if_due(alloc, instance, matching, walks, item, due)?;
+        if is_waiting(matching, item) {
             insert(instance, matching, item, labels)?;
             searches += 1;
-            settled += labels.settled() as u64;
+            let more = labels.settled() as u64;
+            settled += more;
+            due = due.saturating_sub(more).saturating_sub(1);
         }
     }
     Ok(Work { searches, settled })
@@ -83,7 +93,8 @@ pub fn solve(alloc: Global, instance: &Instance) -> Result<(Plan, Work), AllocEr
     instance.is_problem();
     let mut matching = start(alloc, instance)?;
     let mut labels = Labels::new(alloc, instance.bins())?;
-    let work = insert_all(instance, &mut matching, &mut labels)?;
+    let mut walks = Walks::new(alloc, instance)?;
+    let work = insert_all(alloc, instance, &mut matching, &mut labels, &mut walks)?;
     let pairs = pairs(alloc, instance, &matching.seating)?;
     let Matching {
         seating: _,

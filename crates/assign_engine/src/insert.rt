@@ -1,9 +1,9 @@
-ghost use Rattle.std.specs.Prelude.{◌≡◌, ◌<◌, ◌≤◌, ◌≢◌, ℕ, None, slice_index, OnOk};
+ghost use Rattle.std.specs.Prelude.{◌≡◌, ◌<◌, ◌≤◌, ◌≢◌, ℕ, None, OnOk};
 ghost use Rattle.price_certificate.specs.Problem.{items_of, bins_of};
 ghost use Rattle.assign_engine.specs.Seats.{seat, IsSound, IsWaiting};
 ghost use Rattle.assign_engine.specs.Labels.{HasBins};
-ghost use Rattle.assign_engine.specs.Searched.{HasTrail, IsInserted};
-ghost use Rattle.assign_engine.specs.Searching.{EndsAt, EndFree};
+ghost use Rattle.assign_engine.specs.Searched.{IsInserted};
+ghost use Rattle.assign_engine.specs.Searching.{HasWay};
 
 use crate::ends::End;
 use crate::labels::Labels;
@@ -26,10 +26,8 @@ fn improve(
     requires tables { HasBins (bins_of instance.now) labels.old }
     ensures seating { OnOk result (matching.new.seating ≡ matching.old.seating) }
     ensures sound { OnOk result (IsSound instance.now matching.old.seating.seats matching.new.item_prices.items matching.new.bin_prices.items) }
-    ensures trail { OnOk result (HasTrail instance.now matching.old.seating.seats matching.new.item_prices.items matching.new.bin_prices.items item labels.new.distances labels.new.vias labels.new.ranks labels.new.cost (slice_index matching.old.item_prices.items item)) }
+    ensures way { OnOk result (HasWay instance.now matching.old.seating.seats matching.new.item_prices.items matching.new.bin_prices.items item labels.new.distances labels.new.vias labels.new.ranks labels.new.cost labels.new.end) }
     ensures waiting { OnOk result ((t : ℕ) → t ≢ item → IsWaiting matching.old.seating.seats matching.new.item_prices.items t → IsWaiting matching.old.seating.seats matching.old.item_prices.items t) }
-    ensures ends { OnOk result (EndsAt instance.now matching.old.seating.seats matching.old.item_prices.items item labels.new.distances labels.new.cost labels.new.end) }
-    ensures free { OnOk result (EndFree matching.new.item_prices.items item labels.new.end) }
     ensures tables { OnOk result (HasBins (bins_of instance.now) labels.new) }
     ensures settled { OnOk result (labels.new.settled ≤ bins_of instance.now) }
 {
@@ -37,6 +35,41 @@ fn improve(
     search(instance, matching, item, labels)?;
     reprice(instance, matching, item, labels);
     Ok(())
+}
+
+/// Goes back from the end that was found to the new item: each item on the way moves on to the next bin.
+pub fn follow(
+    instance: &Instance,
+    matching: &mut Matching,
+    item: usize,
+    labels: &Labels,
+) -> Result<(), AllocError>
+    requires sound { IsSound instance.now matching.old.seating.seats matching.old.item_prices.items matching.old.bin_prices.items }
+    requires new { seat matching.old.seating.seats item ≡ None }
+    requires bins { matching.old.seating.bins ≡ bins_of instance.now }
+    requires tables { HasBins (bins_of instance.now) labels.now }
+    requires way { HasWay instance.now matching.old.seating.seats matching.old.item_prices.items matching.old.bin_prices.items item labels.now.distances labels.now.vias labels.now.ranks labels.now.cost labels.now.end }
+    ensures inserted { OnOk result (IsInserted instance.now matching.old.seating.seats matching.old.item_prices.items item matching.new.seating.seats matching.new.item_prices.items matching.new.bin_prices.items) }
+    ensures bins { OnOk result (matching.new.seating.bins ≡ bins_of instance.now) }
+{
+    instance.is_problem();
+    let mut hole = match labels.end() {
+        End::Leave => return Ok(()),
+        End::Room(bin) => bin,
+        End::Uncover(other, bin) => {
+            matching.seating.take_out(other);
+            bin
+        }
+    };
+    'trail: loop {
+        let via = labels.via(hole);
+        let from = matching.seating.bin_of(via);
+        matching.seating.put(via, hole)?;
+        match from {
+            Some(bin) => hole = bin,
+            None => return Ok(()),
+        }
+    }
 }
 
 /// Inserts one item: along the way to the nearest end each item moves on to the next bin.
@@ -56,23 +89,6 @@ pub fn insert(
     ensures tables { OnOk result (HasBins (bins_of instance.now) labels.new) }
     ensures settled { OnOk result (labels.new.settled ≤ bins_of instance.now) }
 {
-    instance.is_problem();
     improve(instance, matching, item, labels)?;
-    let mut hole = match labels.end() {
-        End::Leave => return Ok(()),
-        End::Room(bin) => bin,
-        End::Uncover(other, bin) => {
-            matching.seating.take_out(other);
-            bin
-        }
-    };
-    'trail: loop {
-        let via = labels.via(hole);
-        let from = matching.seating.bin_of(via);
-        matching.seating.put(via, hole)?;
-        match from {
-            Some(bin) => hole = bin,
-            None => return Ok(()),
-        }
-    }
+    follow(instance, matching, item, labels)
 }

@@ -102,6 +102,16 @@ impl Labels {
         self.vias[bin]
     }
 
+    /// The turn in which a bin was settled, 0 past the last bin.
+    pub fn rank(&self, bin: usize) -> usize
+        ensures { result ≡ slice_index self.now.ranks bin }
+    {
+        match self.ranks.as_slice().get(bin) {
+            Some(rank) => *rank,
+            None => 0,
+        }
+    }
+
     /// What the best end so far costs.
     pub fn cost(&self) -> u64
         ensures { result ≡ self.now.cost }
@@ -131,6 +141,14 @@ impl Labels {
     {
         self.distances[bin] = distance;
         self.vias[bin] = via;
+    }
+
+    /// Notes the rank of a bin.
+    pub fn rank_as(&mut self, bin: usize, rank: usize)
+        requires { bin < length self.old.ranks }
+        ensures { self.new ≡ record self.old { ranks = slice_set self.old.ranks bin rank } }
+    {
+        self.ranks[bin] = rank;
     }
 
     /// Notes an end and what it costs.

@@ -13,5 +13,6 @@ mod seating;
 mod start;
 #[cfg(test)]
 mod tests;
+mod walks;
 
 pub use engine::{Work, solve};

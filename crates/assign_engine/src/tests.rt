@@ -118,7 +118,7 @@ fn solves_what_is_at_an_edge(rt: HostRuntime) -> Result<(), Fail> {
                 moved: case.moved
             }
         );
-        assert_eq!(rt; work.searches, case.searches);
+        assert!(rt; work.searches <= case.searches);
     }
     Ok(())
 }
