@@ -56,7 +56,7 @@ fn insert_all(
             searches += 1;
             let more = labels.settled() as u64;
             settled += more;
-            due = due.saturating_sub(more).saturating_sub(1);
+            due = due.saturating_sub(labels.looked()).saturating_sub(1);
         }
     }
     Ok(Work { searches, settled })

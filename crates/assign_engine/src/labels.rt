@@ -19,6 +19,7 @@ pub struct Labels {
     cost: u64,
     end: End,
     settled: usize,
+    looked: u64,
 }
 
 impl Model for Labels {
@@ -64,6 +65,7 @@ impl Labels {
             cost: 0,
             end: End::Leave,
             settled: 0,
+            looked: 0,
         })
     }
 
@@ -84,6 +86,7 @@ impl Labels {
         self.cost = price;
         self.end = End::Leave;
         self.settled = 0;
+        self.looked = 0;
     }
 
     /// How far a bin is.
@@ -131,6 +134,18 @@ impl Labels {
         ensures { result ≡ self.now.settled }
     {
         self.settled
+    }
+
+    /// How many pairs were looked at.
+    pub fn looked(&self) -> u64 {
+        self.looked
+    }
+
+    /// Counts the pairs of a row that is looked at.
+    pub fn look(&mut self, row: &[u32])
+        ensures { self.new ≡ self.old }
+    {
+        self.looked = self.looked.saturating_add(row.len() as u64);
     }
 
     /// Notes a way to a bin.

@@ -51,6 +51,7 @@ fn relax(
     ensures { OnOk result (IsRelaxed instance.now matching.now.seating.seats matching.now.bin_prices.items item base (length (row_of instance.now item)) labels.old labels.new) }
 {
     instance.is_problem();
+    labels.look(instance.row(item));
     for bin in instance.row(item) {
         let bin = *bin as usize;
         let distance = base + u64::from(matching.bin_prices[bin])

@@ -280,6 +280,7 @@ fn reach(
 {
     instance.is_problem();
     let unranked = instance.bins();
+    labels.look(instance.row(item));
     for bin in instance.row(item) {
         let bin = *bin as usize;
         if labels.rank(bin) == unranked && is_exact(instance, matching, item, bin) {
@@ -410,7 +411,7 @@ fn walk_round(
     walk_all(instance, matching, walks)
 }
 
-/// Rounds of walks, as long as one seats an item. Returns how much work that was, at most, in rows and bins.
+/// Rounds of walks, as long as one seats an item. Returns how much work that was, in items, bins and pairs looked at.
 pub fn walk_rounds(
     alloc: Global,
     instance: &Instance,
@@ -431,8 +432,9 @@ pub fn walk_rounds(
     let each = instance.items() as u64 + instance.bins() as u64;
     let mut work = 0u64;
     for _ in 0..instance.items() {
-        work = work.saturating_add(each);
-        if !walk_round(alloc, instance, matching, walks)? {
+        let has_seated = walk_round(alloc, instance, matching, walks)?;
+        work = work.saturating_add(each).saturating_add(walks.labels.looked());
+        if !has_seated {
             return Ok(work);
         }
     }
