@@ -15,6 +15,7 @@ changed_none p ats Way l = record {
   via_count = refl;
   ranks = refl;
   settled = refl;
+  settled_bins = refl;
   change = λ b. inl (record { distance = refl; via = refl });
   kept = λ e m. m;
   ends = inl (refl, refl);
@@ -35,6 +36,7 @@ changed_by p ats Way Other old new f h = record {
   via_count = h.via_count;
   ranks = h.ranks;
   settled = h.settled;
+  settled_bins = h.settled_bins;
   change = λ b. elim (h.change b) [ inl s ↦ inl s | inr n ↦ inr (record { below = n.below; way = f _ _ _ n.way; entry = n.entry; room = n.room }) ];
   kept = h.kept;
   ends = h.ends;
@@ -84,6 +86,7 @@ module _ (p : Problem) (ats : List (Option ℕ)) (Way : ℕ → ℕ → ℕ → 
     via_count = k.via_count ∙ h.via_count;
     ranks = k.ranks ∙ h.ranks;
     settled = k.settled ∙ h.settled;
+    settled_bins = k.settled_bins ∙ h.settled_bins;
     change = λ b. elim (k.change b) [ inl s ↦ same_after b s (h.change b) | inr s ↦ inr (lowered_after b s) ];
     kept = λ e m. k.kept e (h.kept e m);
     ends = ends_after h.ends k.ends;
@@ -107,6 +110,7 @@ changed_one p ats Way old new b x t l ld lv lt w n =
       via_count = ap length n.vias ∙ length-set old.vias b t;
       ranks = n.ranks;
       settled = n.settled;
+      settled_bins = n.settled_bins;
       change = λ c. elim (cases_eq c b) [
         | inl q ↦ inr (subst (λ (m : ℕ). IsLowered p ats Way old new m) (sym q) low)
         | inr q ↦ inl (record { distance = ap (λ (m : List ℕ). get_or m c 0) n.distances ∙ get_or-set_other old.distances b c x 0 q; via = ap (λ (m : List ℕ). get_or m c 0) n.vias ∙ get_or-set_other old.vias b c t 0 q })
@@ -125,6 +129,7 @@ noted_room p ats b x old new e d l r = subst (λ (m : Labelled). IsNoted p ats b
   vias = refl;
   ranks = refl;
   settled = refl;
+  settled_bins = refl;
   kept = λ q m. m;
   entry = λ k. absurd (omega arith);
   room = λ k. omega arith;

@@ -40,6 +40,7 @@ pub record IsChanged (p : Problem) (ats : List (Option ℕ)) (Way : ℕ → ℕ 
   pub via_count : length new.vias ≡ length old.vias
   pub ranks : new.ranks ≡ old.ranks
   pub settled : new.settled ≡ old.settled
+  pub settled_bins : new.settled_bins ≡ old.settled_bins
   pub change : (b : ℕ) → IsSame old new b ⊎ IsLowered p ats Way old new b
   pub kept : (e : ℕ × ℕ) → Contains old.pending e → Contains new.pending e
   pub ends : ((new.cost ≡ old.cost) × (new.end ≡ old.end)) ⊎ IsNewEnd p ats old new
@@ -50,6 +51,7 @@ pub record IsNoted (p : Problem) (ats : List (Option ℕ)) (b : ℕ) (old new : 
   pub vias : new.vias ≡ old.vias
   pub ranks : new.ranks ≡ old.ranks
   pub settled : new.settled ≡ old.settled
+  pub settled_bins : new.settled_bins ≡ old.settled_bins
   pub kept : (e : ℕ × ℕ) → Contains old.pending e → Contains new.pending e
   pub entry : slice_index old.distances b < new.cost → Contains new.pending (slice_index old.distances b, b)
   pub room : used ats b < capacity_of p b → new.cost ≤ slice_index old.distances b

@@ -1,5 +1,6 @@
 pub mod Usable
 pub mod Seats
+pub mod Table
 pub mod Roll
 pub mod Labels
 pub mod Changed

@@ -2,6 +2,7 @@
 use Rattle.std.specs.Prelude.{◌≡◌, ◌==◌, ◌+◌, ◌<◌, ◌≤◌, ◌⊎◌, ℕ, List, Option, Some, slice_index, count_by, if◌then◌else◌}
 use Rattle.price_certificate.specs.Problem.{Problem, bins_of, capacity_of, weight_of, IsAllowed}
 use Rattle.assign_engine.specs.Seats.{seat, used}
+use Rattle.assign_engine.specs.Roll.{times_in}
 use Rattle.assign_engine.specs.Labels.{Labelled, HasBins}
 use Rattle.assign_engine.specs.Pending.{HasPending}
 use Rattle.assign_engine.specs.Searched.{HasParents, IsNear, HasTrail}
@@ -31,6 +32,9 @@ pub record IsSearching (p : Problem) (ats : List (Option ℕ)) (us vs : List ℕ
   pub order : (x y : ℕ) → x < bins_of p → y < bins_of p → slice_index labels.ranks y < labels.settled → slice_index labels.ranks x ≡ bins_of p → slice_index labels.distances y ≤ slice_index labels.distances x
   pub cases : (y : ℕ) → y < bins_of p → (slice_index labels.ranks y ≡ bins_of p) ⊎ (slice_index labels.ranks y < labels.settled)
   pub count : count_by (λ r. r == bins_of p) labels.ranks + labels.settled ≡ bins_of p
+  pub once : (y : ℕ) → times_in labels.settled_bins y ≤ 1
+  pub listed : (y : ℕ) → y < bins_of p → slice_index labels.ranks y < labels.settled → 0 < times_in labels.settled_bins y
+  pub in_range : (y : ℕ) → 0 < times_in labels.settled_bins y → (y < bins_of p) × (slice_index labels.ranks y < labels.settled)
   pub parents : HasParents p ats us vs s labels.distances labels.vias labels.ranks
   pub pending : HasPending labels.distances labels.ranks labels.cost labels.pending
   pub ends : EndsAt p ats us s labels.distances labels.cost labels.end

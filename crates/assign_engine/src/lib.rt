@@ -11,6 +11,7 @@ mod reprice;
 mod search;
 mod seating;
 mod start;
+mod table;
 #[cfg(test)]
 mod tests;
 mod walks;

@@ -3,7 +3,8 @@ ghost use Rattle.price_certificate.specs.Problem.{items_of, bins_of};
 ghost use Rattle.assign_engine.specs.Usable.{one_if};
 ghost use Rattle.assign_engine.specs.Seats.{sits, seat, IsSound};
 ghost use Rattle.assign_engine.specs.Roll.{times_in};
-ghost use Rattle.assign_engine.specs.Searched.{IsSearched, IsRepriced};
+ghost use Rattle.assign_engine.specs.Labels.{HasBins};
+ghost use Rattle.assign_engine.specs.Searched.{IsSearched, IsListed, IsRepriced};
 
 use crate::labels::Labels;
 use crate::matching::Matching;
@@ -42,13 +43,16 @@ pub fn reprice(instance: &Instance, matching: &mut Matching, item: usize, labels
     requires sound { IsSound instance.now matching.old.seating.seats matching.old.item_prices.items matching.old.bin_prices.items }
     requires new { seat matching.old.seating.seats item ≡ None }
     requires searched { IsSearched instance.now matching.old.seating.seats matching.old.item_prices.items matching.old.bin_prices.items item labels.now.distances labels.now.cost }
+    requires tables { HasBins (bins_of instance.now) labels.now }
+    requires listed { IsListed instance.now labels.now.distances labels.now.cost labels.now.settled_bins }
     requires cost { labels.now.cost < 2 ^ 32 }
     ensures seating { matching.new.seating ≡ matching.old.seating }
     ensures repriced { IsRepriced instance.now matching.old.seating.seats matching.old.item_prices.items matching.old.bin_prices.items item labels.now.distances labels.now.cost matching.new.item_prices.items matching.new.bin_prices.items }
 {
     instance.is_problem();
     let cost = labels.cost();
-    for bin in 0..instance.bins() {
+    for bin in labels.settled_bins() {
+        let bin = *bin;
         let distance = labels.distance(bin);
         if distance < cost {
             reprice_bin(matching, bin, (cost - distance) as u32);

@@ -4,7 +4,7 @@ ghost use Rattle.assign_engine.specs.Seats.{seat, used, IsSound};
 ghost use Rattle.assign_engine.specs.Labels.{HasBins};
 ghost use Rattle.assign_engine.specs.Changed.{IsNoted, IsRelaxed, IsExpanded};
 ghost use Rattle.assign_engine.specs.Pending.{cheaper_of};
-ghost use Rattle.assign_engine.specs.Searched.{IsSearched, HasParents};
+ghost use Rattle.assign_engine.specs.Searched.{IsSearched, IsListed, HasParents};
 ghost use Rattle.assign_engine.specs.Searching.{EndsAt, IsNearerEnd};
 
 use crate::ends::End;
@@ -147,13 +147,14 @@ pub fn search(
     ensures ends { OnOk result (EndsAt instance.now matching.now.seating.seats matching.now.item_prices.items item labels.new.distances labels.new.cost labels.new.end) }
     ensures cost { OnOk result (labels.new.cost < 2 ^ 32) }
     ensures settled { OnOk result (labels.new.settled ≤ bins_of instance.now) }
+    ensures listed { OnOk result (IsListed instance.now labels.new.distances labels.new.cost labels.new.settled_bins) }
 {
     instance.is_problem();
     let price = u64::from(matching.item_prices[item]);
     labels.begin(price);
     relax(instance, matching, item, price, labels)?;
     while let Some(bin) = labels.nearest() {
-        labels.settle(bin);
+        labels.settle(bin)?;
         uncover(matching, bin, labels);
         expand(instance, matching, bin, labels)?;
     }

@@ -111,6 +111,7 @@ fn enter(
 ) -> Option<usize>
     requires distances { bin < length labels.old.distances }
     requires vias { bin < length labels.old.vias }
+    requires mark { labels.old.cost ≤ slice_index labels.old.distances bin }
     ensures entered { IsEntered item bin labels.old labels.new }
     ensures some { IfSome result (λ t. (t ≡ item) ⊎ (seat matching.now.seating.seats t ≡ Some bin)) }
     ensures none { IfNone result (IsWalkEnd instance.now matching.now.seating.seats matching.now.item_prices.items bin labels.new.end) }
@@ -265,7 +266,7 @@ fn lower_price(instance: &Instance, matching: &mut Matching, item: usize)
     }
 }
 
-/// Ranks the bins of an item to which it has exact pairs, if they have no rank.
+/// Ranks the bins of an item to which it has exact pairs, if they have no rank that is as low.
 fn reach(
     instance: &Instance,
     matching: &Matching,
@@ -279,11 +280,10 @@ fn reach(
     ensures bins { OnOk result (HasBins (bins_of instance.now) labels.new) }
 {
     instance.is_problem();
-    let unranked = instance.bins();
     labels.look(instance.row(item));
     for bin in instance.row(item) {
         let bin = *bin as usize;
-        if labels.rank(bin) == unranked && is_exact(instance, matching, item, bin) {
+        if labels.rank(bin) > rank && is_exact(instance, matching, item, bin) {
             labels.rank_as(bin, rank);
             queue.push(bin)?;
         }
@@ -305,7 +305,7 @@ fn rank_bins(
     let mut queue = Vec::new(alloc);
     for item in 0..instance.items() {
         if is_waiting(matching, item) {
-            reach(instance, matching, item, 1, labels, &mut queue)?;
+            reach(instance, matching, item, 0, labels, &mut queue)?;
         }
     }
     for place in 0..instance.bins() {
@@ -433,7 +433,9 @@ pub fn walk_rounds(
     let mut work = 0u64;
     for _ in 0..instance.items() {
         let has_seated = walk_round(alloc, instance, matching, walks)?;
-        work = work.saturating_add(each).saturating_add(walks.labels.looked());
+        work = work
+            .saturating_add(each)
+            .saturating_add(walks.labels.looked());
         if !has_seated {
             return Ok(work);
         }

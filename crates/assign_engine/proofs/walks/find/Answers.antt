@@ -13,6 +13,9 @@ enter-requires-clause-distances c = let l = allowed_bin c.args.instance.now c.is
 pub enter-requires-clause-vias : goal.enter-requires-clause-vias
 enter-requires-clause-vias c = let l = allowed_bin c.args.instance.now c.is_problem.ensures c.loop.top c.in-Some.bin c.in-Some.ensures.link.0 in omega (arith, l, c.loop.invariant.tables.bins.vias)
 
+pub enter-requires-clause-mark : goal.enter-requires-clause-mark
+enter-requires-clause-mark c = c.loop.invariant.tables.marks c.in-Some.bin (allowed_bin c.args.instance.now c.is_problem.ensures c.loop.top c.in-Some.bin c.in-Some.ensures.link.0)
+
 pub returns-in-None-enter-clause-way : goal.returns-in-None-enter-clause-way
 returns-in-None-enter-clause-way c = λ t. (
     let m = c.args.matching.now in
