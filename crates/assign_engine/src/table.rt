@@ -4,8 +4,8 @@ ghost use Rattle.std.specs.Prelude.{◌≡◌, ◌<◌, ◌≤◌, ◌^◌, ℕ,
 use std::alloc::{AllocError, Global};
 use std::marker::Model;
 
-/// What is stored stands so far above the floor as its number is great, and all that stands above the floor by more than
-/// the filling reads as the filling. So the floor sinks by more than the filling, and all is forgotten that was stored.
+/// A number is stored as its sum with the floor. What is stored at the sum of the floor and the filling, or above, reads as
+/// the filling. So the floor sinks by a new filling, and all that was stored reads as that.
 #[derive(Drop)]
 pub struct Table {
     stored: Vec<u64>,
@@ -66,8 +66,8 @@ impl Table {
     pub fn fill(&mut self, number: u64)
         ensures { self.new ≡ replicate (length self.old) number }
     {
-        if number < self.floor {
-            self.floor -= number + 1;
+        if number <= self.floor {
+            self.floor -= number;
         } else {
             self.stored.fill(u64::MAX);
             self.floor = u64::MAX - number;

@@ -15,7 +15,7 @@ returns c =
     let F = λ (x : Inside). map (read_as x.floor n) x.stored.items ≡ replicate (length now) n in
     let count : length old.stored.items ≡ length now = sym (length-map old.stored.items (read_as old.floor old.filling)) ∙ ap length c.self.view_is in
     elim c.if-number-self.branch [
-      | then-number-self w ↦ subst F (sym w.self-inside-is) (filled old.floor (old.floor - (n + 1)) n (omega (arith, w.if-number-self.true)) old.stored.items now c.self.invariant.above count)
+      | then-number-self w ↦ subst F (sym w.self-inside-is) (filled old.floor (old.floor - n) n (omega (arith, w.if-number-self.true)) old.stored.items now c.self.invariant.above count)
       | else-number-self w ↦ subst F (sym w.self-inside-is)
           (ap (map (read_as (18446744073709551615 - n) n)) (w.fill.ensures.items (λ y e. e))
           ∙ filled_anew 18446744073709551615 (18446744073709551615 - n) n (omega (arith, c.ranges.number)) (vec_len old.stored)
