@@ -291,13 +291,28 @@ fn reach(
     Ok(())
 }
 
-/// Ranks each bin by the least count of exact pairs on a way to it from an item that waits.
+/// Whether a walk can end at a bin: it has room, or an item with no price.
+fn is_end(instance: &Instance, matching: &Matching, bin: usize) -> bool {
+    let members = matching.seating.members(bin);
+    if members.len() < instance.capacity(bin) {
+        return true;
+    }
+    for item in members {
+        if price_at(matching.item_prices.as_slice(), *item) == 0 {
+            return true;
+        }
+    }
+    false
+}
+
+/// Ranks each bin by the least count of exact pairs on a way to it from an item that waits. Says whether a walk can end at one
+/// that it ranked.
 fn rank_bins(
     alloc: Global,
     instance: &Instance,
     matching: &Matching,
     labels: &mut Labels,
-) -> Result<(), AllocError>
+) -> Result<bool, AllocError>
     requires { HasBins (bins_of instance.now) labels.old }
     ensures same { OnOk result (labels.new ≡ record labels.old { ranks = labels.new.ranks }) }
     ensures bins { OnOk result (HasBins (bins_of instance.now) labels.new) }
@@ -308,17 +323,21 @@ fn rank_bins(
             reach(instance, matching, item, 0, labels, &mut queue)?;
         }
     }
+    let mut has_end = false;
     for place in 0..instance.bins() {
         let Some(bin) = queue.as_slice().get(place) else {
-            return Ok(());
+            return Ok(has_end);
         };
         let bin = *bin;
+        if !has_end {
+            has_end = is_end(instance, matching, bin);
+        }
         let rank = labels.rank(bin).saturating_add(1);
         for item in matching.seating.members(bin) {
             reach(instance, matching, *item, rank, labels, &mut queue)?;
         }
     }
-    Ok(())
+    Ok(has_end)
 }
 
 /// Lowers the prices of the items that wait.
@@ -407,8 +426,11 @@ fn walk_round(
 {
     lower_prices(instance, matching);
     renew(instance, walks);
-    rank_bins(alloc, instance, matching, &mut walks.labels)?;
-    walk_all(instance, matching, walks)
+    if rank_bins(alloc, instance, matching, &mut walks.labels)? {
+        walk_all(instance, matching, walks)
+    } else {
+        Ok(false)
+    }
 }
 
 /// Rounds of walks, as long as one seats an item. Returns how much work that was, in items, bins and pairs looked at.
