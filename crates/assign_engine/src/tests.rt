@@ -1,3 +1,4 @@
+//! Counts that rows fix, cases at an edge, and small instances against a plain program.
 use crate::{Work, solve};
 use lists::List;
 use price_certificate::{Instance, Verdict, check};

@@ -13,17 +13,17 @@ use Rattle.assign_engine.proofs.reprice.reprice.Goals.{then-distance-cost, else-
 pub distance-distance-requires : goal.distance-distance-requires
 distance-distance-requires c =
     let p = c.args.instance.now in
-    let d = c.args.labels.now.distances in
-    let cost = c.args.labels.now.cost in
+    let d = c.args.tables.now.distances in
+    let cost = c.args.tables.now.cost in
     let bins = c.settled_bins-bin-items.result.now in
     let listed = subst (IsListed p d cost) (sym c.settled_bins-bin-items.ensures) c.requires.listed in
-    omega (arith, turn_range p d cost bins listed c.loop-bin.bin-index c.loop-bin-test.true, c.requires.tables.distances)
+    omega (arith, turn_range p d cost bins listed c.loop-bin.bin-index c.loop-bin-test.true, c.requires.sizes.distances)
 
 pub reprice_bin-requires-clause-bin : goal.reprice_bin-requires-clause-bin
 reprice_bin-requires-clause-bin c =
     let p = c.args.instance.now in
-    let d = c.args.labels.now.distances in
-    let cost = c.args.labels.now.cost in
+    let d = c.args.tables.now.distances in
+    let cost = c.args.tables.now.cost in
     let bins = c.settled_bins-bin-items.result.now in
     let listed = subst (IsListed p d cost) (sym c.settled_bins-bin-items.ensures) c.requires.listed in
     omega (arith, turn_range p d cost bins listed c.loop-bin.bin-index c.loop-bin-test.true, c.requires.sound.bins, c.loop-bin.invariant.repricing.bins)
@@ -32,8 +32,8 @@ pub reprice_bin-requires-clause-rise : goal.reprice_bin-requires-clause-rise
 reprice_bin-requires-clause-rise c =
     let p = c.args.instance.now in
     let old = c.args.matching.now in
-    let d = c.args.labels.now.distances in
-    let cost = c.args.labels.now.cost in
+    let d = c.args.tables.now.distances in
+    let cost = c.args.tables.now.cost in
     let bins = c.settled_bins-bin-items.result.now in
     let k = c.loop-bin.bin-index in
     let listed = subst (IsListed p d cost) (sym c.settled_bins-bin-items.ensures) c.requires.listed in
@@ -45,8 +45,8 @@ reprice_bin-requires-clause-rise c =
 pub reprice_bin-requires-clause-falls : goal.reprice_bin-requires-clause-falls
 reprice_bin-requires-clause-falls c = λ t e.
     (let p = c.args.instance.now in
-    let d = c.args.labels.now.distances in
-    let cost = c.args.labels.now.cost in
+    let d = c.args.tables.now.distances in
+    let cost = c.args.tables.now.cost in
     let bins = c.settled_bins-bin-items.result.now in
     let k = c.loop-bin.bin-index in
     let b = get_or bins k 0 in
@@ -63,17 +63,17 @@ loop-bin-preserved c =
     let ats = old.seating.seats in
     let us = old.item_prices.items in
     let vs = old.bin_prices.items in
-    let d = c.args.labels.now.distances in
+    let d = c.args.tables.now.distances in
     let bins = c.settled_bins-bin-items.result.now in
-    let listed = subst (IsListed p d c.args.labels.now.cost) (sym c.settled_bins-bin-items.ensures) c.requires.listed in
+    let listed = subst (IsListed p d c.args.tables.now.cost) (sym c.settled_bins-bin-items.ensures) c.requires.listed in
     let k = c.loop-bin.bin-index in
     let b = get_or bins k 0 in
     let cost = c.cost-cost.result in
     let i = c.loop-bin.invariant in
     let now = c.loop-bin.matching in
-    let fresh = turn_fresh p d c.args.labels.now.cost bins listed k c.loop-bin-test.true in
-    let here = turn_here p d c.args.labels.now.cost bins listed k c.loop-bin-test.true in
-    let there = turn_there p d c.args.labels.now.cost bins listed k c.loop-bin-test.true in
+    let fresh = turn_fresh p d c.args.tables.now.cost bins listed k c.loop-bin-test.true in
+    let here = turn_here p d c.args.tables.now.cost bins listed k c.loop-bin-test.true in
+    let there = turn_there p d c.args.tables.now.cost bins listed k c.loop-bin-test.true in
     let F = λ (m : Matching). (record { seating : m.seating ≡ old.seating; repricing : IsRepricing ats us vs d cost (take (k + 1) bins) m.item_prices.items m.bin_prices.items }) in
     elim c.if-distance-cost.branch [
       | then-distance-cost w ↦
@@ -85,7 +85,7 @@ loop-bin-preserved c =
             seating = e.seating ∙ i.seating;
             repricing = repricing_near ats us vs d cost (take k bins) (take (k + 1) bins) b now.item_prices.items now.bin_prices.items i.repricing fresh here there by new.item_prices.items new.bin_prices.items
                 (omega (arith, w.if-distance-cost.true, c.distance-distance.ensures))
-                (omega (arith, turn_range p d c.args.labels.now.cost bins listed k c.loop-bin-test.true, c.requires.sound.bins))
+                (omega (arith, turn_range p d c.args.tables.now.cost bins listed k c.loop-bin-test.true, c.requires.sound.bins))
                 (ap (λ (m : ℕ). cost - m) c.distance-distance.ensures) e.count e.bins falls;
           })
       | else-distance-cost w ↦
@@ -99,13 +99,13 @@ pub returns-clause-repriced : goal.returns-clause-repriced
 returns-clause-repriced c =
     let p = c.args.instance.now in
     let old = c.args.matching.now in
-    let d = c.args.labels.now.distances in
+    let d = c.args.tables.now.distances in
     let now = c.loop-bin.matching in
     let bins = c.settled_bins-bin-items.result.now in
     let k = c.loop-bin.bin-index in
     let i = c.loop-bin.invariant.repricing in
-    let cost_is : c.cost-cost.result ≡ c.args.labels.now.cost = c.cost-cost.ensures in
-    let all : take k bins ≡ c.args.labels.now.settled_bins = take_all k bins (omega (arith, c.loop-bin-test.false)) ∙ c.settled_bins-bin-items.ensures in
+    let cost_is : c.cost-cost.result ≡ c.args.tables.now.cost = c.cost-cost.ensures in
+    let all : take k bins ≡ c.args.tables.now.settled_bins = take_all k bins (omega (arith, c.loop-bin-test.false)) ∙ c.settled_bins-bin-items.ensures in
     let x = get_or_read now.item_prices.items c.args.item c.index_mut.result.now (omega (arith, i.items, c.requires.sound.items, c.requires.item)) c.index_mut.ensures.value 0 in
     subst (λ (m : ℕ). IsRepriced p old.seating.seats old.item_prices.items old.bin_prices.items c.args.item d m (set now.item_prices.items c.args.item (c.index_mut.result.now - c.cost-cost.result)) now.bin_prices.items) cost_is
     (repricing_ends p old.seating.seats old.item_prices.items old.bin_prices.items c.args.item d c.cost-cost.result c.is_problem.ensures c.requires.sound c.requires.new c.requires.item

@@ -1,6 +1,7 @@
+//! The tables that a search fills.
 ghost use Rattle.std.specs.Prelude.{◌≡◌, ◌+◌, ◌^◌, ◌<◌, ◌≤◌, ◌∷◌, ◌++◌, List, [], ℕ, Contains, length, replicate, slice_index, slice_set, IfOk, OnOk, OnErr, IfSome, IfNone};
 ghost use Rattle.std.specs.List.Sorted.{IsPermutation};
-ghost use Rattle.assign_engine.specs.Labels.{Labelled, HasBins};
+ghost use Rattle.assign_engine.specs.SearchTables.{SearchState, HasBins};
 ghost use Rattle.assign_engine.specs.Pending.{HasPending, HasPendingBut, IsNearest, AllFar};
 ghost use Rattle.assign_engine.specs.declared.ends.End.TheVariants.{Leave};
 
@@ -12,7 +13,7 @@ use std::marker::Model;
 
 /// What a search knows so far, in tables that serve one search after another.
 #[derive(Drop)]
-pub struct Labels {
+pub struct SearchTables {
     distances: Table,
     vias: Vec<usize>,
     ranks: Table,
@@ -23,11 +24,11 @@ pub struct Labels {
     looked: u64,
 }
 
-impl Model for Labels {
+impl Model for SearchTables {
     ghost use Rattle.std.specs.Prelude.{length};
-    ghost use Rattle.assign_engine.specs.Labels.{Labelled};
+    ghost use Rattle.assign_engine.specs.SearchTables.{SearchState};
 
-    ghost Value = { Labelled };
+    ghost Value = { SearchState };
 
     ghost view = { λ l. record { distances = l.distances; vias = l.vias.items; ranks = l.ranks; pending = l.frontier; cost = l.cost; end = l.end; settled = length l.settled_bins.items; settled_bins = l.settled_bins.items } };
 }
@@ -53,15 +54,15 @@ fn nearest(frontier: &mut Frontier, distances: &Table, ranks: &Table, cost: u64)
     None
 }
 
-impl Labels {
+impl SearchTables {
     /// Tables for so many bins.
-    pub fn new(alloc: Global, bins: usize) -> Result<Labels, AllocError>
+    pub fn new(alloc: Global, bins: usize) -> Result<SearchTables, AllocError>
         ensures { IfOk result (λ l. HasBins bins l) }
     {
         let distances = Table::new(alloc, bins)?;
         let vias = vec![in alloc; 0; bins]?;
         let ranks = Table::new(alloc, bins)?;
-        Ok(Labels {
+        Ok(SearchTables {
             distances,
             vias,
             ranks,

@@ -1,7 +1,7 @@
 use Rattle.std.proofs.Common.{arith, sym}
 use Rattle.assign_engine.proofs.Nearest.{all_far, is_nearest, pending_but, pending_on}
-use Rattle.assign_engine.proofs.labels.nearest.Goals as goal
-use Rattle.assign_engine.proofs.labels.nearest.Goals.{else-bin-len-via-then-bin-len+then-rank-len+else-found-distance, else-bin-len-via-then-bin-len+else-rank-len, else-bin-len-via-else-bin-len}
+use Rattle.assign_engine.proofs.search_tables.nearest.Goals as goal
+use Rattle.assign_engine.proofs.search_tables.nearest.Goals.{else-bin-len-via-then-bin-len+then-rank-len+else-found-distance, else-bin-len-via-then-bin-len+else-rank-len, else-bin-len-via-else-bin-len}
 
 pub returns-then-distance-cost-clause-none : goal.returns-then-distance-cost-clause-none
 returns-then-distance-cost-clause-none c =
