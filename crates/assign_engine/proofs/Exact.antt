@@ -1,18 +1,17 @@
 -- Walks along exact pairs.
-use Rattle.std.proofs.Common.{◌≡◌, ◌+◌, ◌<◌, ◌≤◌, ◌≢◌, ◌⊎◌, ℕ, List, Option, Some, None, inl, inr, Contains, length, get_or, set, refl, sym, ap, ◌∙◌, subst, arith}
+use Rattle.std.proofs.Common.{◌≡◌, ◌+◌, ◌<◌, ◌≤◌, ◌≢◌, ◌⊎◌, ℕ, List, Option, Some, None, inl, inr, Contains, length, get_or, set, sym, ap, ◌∙◌, subst, arith}
 use Rattle.std.specs.Prelude.{slice_index}
 use Rattle.std.proofs.lemmas.Bool.{cases_eq}
 use Rattle.std.proofs.lemmas.Option.{none-some}
 use Rattle.std.proofs.lemmas.List.{get_or-set_same, get_or-set_other, length-set}
-use Rattle.price_certificate.specs.Problem.{Problem, IsProblem, bins_of, capacity_of, weight_of, IsAllowed}
+use Rattle.price_certificate.specs.Problem.{Problem, IsProblem, bins_of, weight_of, IsAllowed}
 use Rattle.price_certificate.proofs.Rows.{allowed_bin}
-use Rattle.assign_engine.specs.Seats.{seat, used, IsSound, IsWaiting, IsInserting}
-use Rattle.assign_engine.specs.Labels.{Labelled, HasBins}
+use Rattle.assign_engine.specs.Seats.{seat, IsSound, IsInserting}
+use Rattle.assign_engine.specs.SearchTables.{SearchState, HasBins}
 use Rattle.assign_engine.specs.Searched.{IsNear, HasTrail, IsInserted}
 use Rattle.assign_engine.specs.Searching.{HasWay}
-use Rattle.assign_engine.specs.Exact.{IsExact, IsForward, IsLink, IsReached, HasMarks, IsOnWay, IsEntered, IsWalkEnd, IsBetter}
+use Rattle.assign_engine.specs.Exact.{IsExact, IsLink, IsReached, HasMarks, IsOnWay, IsEntered, IsWalkEnd, IsBetter}
 use Rattle.assign_engine.specs.declared.ends.End.{End}
-use Rattle.assign_engine.specs.declared.ends.End.TheVariants.{Leave, Room, Uncover}
 
 module _ (p : Problem) (ats : List (Option ℕ)) (us vs : List ℕ) (s : ℕ) (d vias ranks : List ℕ) (cost t b : ℕ) (valid : IsProblem p) (link : IsLink p ats us vs ranks t b) (in_d : b < length d) (in_vias : b < length vias) where
   near_still : (z : ℕ) → IsNear p d cost z → IsNear p (set d b cost) cost z
@@ -86,19 +85,19 @@ better_same p ats us vs h = record { sound = h; waiting = λ t w. w }
 pub better_inserted : (p : Problem) (old ats : List (Option ℕ)) (us lower higher : List ℕ) (s : ℕ) → IsInserted p old us s ats lower higher → IsBetter p old us ats lower higher
 better_inserted p old ats us lower higher s i = record { sound = i.sound; waiting = λ t w. (i.waiting t w).0 }
 
-moved : (P : List ℕ → List ℕ → List ℕ → ℕ → Type 0) (old new : Labelled) (t b : ℕ) → IsEntered t b old new → P (set old.distances b old.cost) (set old.vias b t) old.ranks old.cost → P new.distances new.vias new.ranks new.cost
+moved : (P : List ℕ → List ℕ → List ℕ → ℕ → Type 0) (old new : SearchState) (t b : ℕ) → IsEntered t b old new → P (set old.distances b old.cost) (set old.vias b t) old.ranks old.cost → P new.distances new.vias new.ranks new.cost
 moved P old new t b e q =
     subst (λ (x : List ℕ). P x new.vias new.ranks new.cost) (sym e.distances)
     (subst (λ (x : List ℕ). P (set old.distances b old.cost) x new.ranks new.cost) (sym e.vias)
     (subst (λ (x : List ℕ). P (set old.distances b old.cost) (set old.vias b t) x new.cost) (sym e.ranks)
     (subst (λ (x : ℕ). P (set old.distances b old.cost) (set old.vias b t) old.ranks x) (sym e.cost) q)))
 
-module _ (p : Problem) (ats : List (Option ℕ)) (us vs : List ℕ) (s t b : ℕ) (stack : List ℕ) (old new : Labelled) (valid : IsProblem p) (link : IsLink p ats us vs old.ranks t b) (tables : HasBins (bins_of p) old) (on : IsOnWay p ats us vs s t stack old) (e : IsEntered t b old new) where
+module _ (p : Problem) (ats : List (Option ℕ)) (us vs : List ℕ) (s t b : ℕ) (stack : List ℕ) (old new : SearchState) (valid : IsProblem p) (link : IsLink p ats us vs old.ranks t b) (sizes : HasBins (bins_of p) old) (on : IsOnWay p ats us vs s t stack old) (e : IsEntered t b old new) where
   in_d : b < length old.distances
-  in_d = let l = allowed_bin p valid t b link.0 in omega (arith, l, tables.distances)
+  in_d = let l = allowed_bin p valid t b link.0 in omega (arith, l, sizes.distances)
 
   in_vias : b < length old.vias
-  in_vias = let l = allowed_bin p valid t b link.0 in omega (arith, l, tables.vias)
+  in_vias = let l = allowed_bin p valid t b link.0 in omega (arith, l, sizes.vias)
 
   pub entered_way : (end : End) → IsWalkEnd p ats us b end → HasWay p ats us vs s new.distances new.vias new.ranks new.cost end
   entered_way end w = moved (λ d v r c. HasWay p ats us vs s d v r c end) old new t b e (way_at p ats us vs s old.distances old.vias old.ranks old.cost t b valid link in_d in_vias on.trail on.here end w)
@@ -125,9 +124,9 @@ module _ (p : Problem) (ats : List (Option ℕ)) (us vs : List ℕ) (s t b : ℕ
 
   pub entered_bins : HasBins (bins_of p) new
   entered_bins = record {
-    distances = ap length e.distances ∙ length-set old.distances b old.cost ∙ tables.distances;
-    vias = ap length e.vias ∙ length-set old.vias b t ∙ tables.vias;
-    ranks = ap length e.ranks ∙ tables.ranks;
+    distances = ap length e.distances ∙ length-set old.distances b old.cost ∙ sizes.distances;
+    vias = ap length e.vias ∙ length-set old.vias b t ∙ sizes.vias;
+    ranks = ap length e.ranks ∙ sizes.ranks;
   }
 
   pub entered_marks : HasMarks p old → HasMarks p new

@@ -13,3 +13,4 @@ pub mod Starting
 pub mod Ordered
 pub mod Rolling
 pub mod Exact
+pub mod Tables

@@ -2,7 +2,7 @@
 use Rattle.std.specs.Prelude.{◌≡◌, ◌+◌, ◌<◌, ◌≤◌, ◌⊎◌, ℕ, List, Option, Some, Contains, length, slice_index, slice_set}
 use Rattle.price_certificate.specs.Problem.{Problem, items_of, bins_of, capacity_of, weight_of, IsAllowed}
 use Rattle.assign_engine.specs.Seats.{seat, used, IsSound, IsWaiting}
-use Rattle.assign_engine.specs.Labels.{Labelled, HasBins}
+use Rattle.assign_engine.specs.SearchTables.{SearchState, HasBins}
 use Rattle.assign_engine.specs.Searched.{IsNear, HasTrail}
 use Rattle.assign_engine.specs.declared.ends.End.{End}
 use Rattle.assign_engine.specs.declared.ends.End.TheVariants.{Room, Uncover}
@@ -24,24 +24,24 @@ abbrev pub IsReached : Problem → List (Option ℕ) → ℕ → List ℕ → �
 IsReached p ats s distances cost t = (t ≡ s) ⊎ ((y : ℕ) × (seat ats t ≡ Some y) × IsNear p distances cost y)
 
 -- no bin has a mark below the one of this walk
-abbrev pub HasMarks : Problem → Labelled → Type 0
-HasMarks p labels = (b : ℕ) → b < bins_of p → labels.cost ≤ slice_index labels.distances b
+abbrev pub HasMarks : Problem → SearchState → Type 0
+HasMarks p tables = (b : ℕ) → b < bins_of p → tables.cost ≤ slice_index tables.distances b
 
 -- the tables of the walks are long enough
-pub record HasTables (p : Problem) (arcs turns : List ℕ) (labels : Labelled) : Type 0 where
+pub record HasTables (p : Problem) (arcs turns : List ℕ) (tables : SearchState) : Type 0 where
   pub items : length arcs ≡ items_of p
   pub turn_count : length turns ≡ bins_of p
-  pub bins : HasBins (bins_of p) labels
-  pub marks : HasMarks p labels
+  pub bins : HasBins (bins_of p) tables
+  pub marks : HasMarks p tables
 
 -- where a walk from s has come: the items that wait for their turn stand on the stack
-pub record IsOnWay (p : Problem) (ats : List (Option ℕ)) (us vs : List ℕ) (s : ℕ) (top : ℕ) (stack : List ℕ) (labels : Labelled) : Type 0 where
-  pub trail : HasTrail p ats us vs s labels.distances labels.vias labels.ranks labels.cost
-  pub here : IsReached p ats s labels.distances labels.cost top
-  pub before : (t : ℕ) → Contains stack t → IsReached p ats s labels.distances labels.cost t
+pub record IsOnWay (p : Problem) (ats : List (Option ℕ)) (us vs : List ℕ) (s : ℕ) (top : ℕ) (stack : List ℕ) (tables : SearchState) : Type 0 where
+  pub trail : HasTrail p ats us vs s tables.distances tables.vias tables.ranks tables.cost
+  pub here : IsReached p ats s tables.distances tables.cost top
+  pub before : (t : ℕ) → Contains stack t → IsReached p ats s tables.distances tables.cost t
 
 -- the bin was entered from the item
-pub record IsEntered (t b : ℕ) (old new : Labelled) : Type 0 where
+pub record IsEntered (t b : ℕ) (old new : SearchState) : Type 0 where
   pub distances : new.distances ≡ slice_set old.distances b old.cost
   pub vias : new.vias ≡ slice_set old.vias b t
   pub ranks : new.ranks ≡ old.ranks

@@ -2,6 +2,7 @@
 use Rattle.std.specs.Prelude.{◌≡◌, ◌≢◌, ◌==◌, ◌+◌, ◌<◌, ◌≤◌, ◌⊎◌, ℕ, List, Option, Some, None, length, slice_index, if◌then◌else◌}
 use Rattle.price_certificate.specs.Problem.{Problem, items_of, bins_of, capacity_of, weight_of, IsAllowed}
 use Rattle.assign_engine.specs.Seats.{seat, used, IsSound, IsWaiting}
+use Rattle.assign_engine.specs.Roll.{times_in}
 
 -- The distances are final below the cost: no residual pair shortens one of them or passes the end.
 pub record IsSearched (p : Problem) (ats : List (Option ℕ)) (us vs : List ℕ) (s : ℕ) (distances : List ℕ) (cost : ℕ) : Type 0 where
@@ -11,6 +12,12 @@ pub record IsSearched (p : Problem) (ats : List (Option ℕ)) (us vs : List ℕ)
   pub relaxed : (t y b : ℕ) → seat ats t ≡ Some y → slice_index distances y < cost → IsAllowed p t b → slice_index distances b + weight_of p t b ≤ slice_index distances y + (slice_index us t + slice_index vs b)
   pub full : (y : ℕ) → y < bins_of p → slice_index distances y < cost → capacity_of p y ≤ used ats y
   pub kept : (t y : ℕ) → seat ats t ≡ Some y → slice_index distances y < cost → cost ≤ slice_index distances y + slice_index us t
+
+-- the bins that are nearer than the cost, each once
+pub record IsListed (p : Problem) (distances : List ℕ) (cost : ℕ) (bins : List ℕ) : Type 0 where
+  pub once : (b : ℕ) → times_in bins b ≤ 1
+  pub near : (b : ℕ) → b < bins_of p → slice_index distances b < cost → 0 < times_in bins b
+  pub in_range : (b : ℕ) → 0 < times_in bins b → b < bins_of p
 
 -- how the bin b was reached: from the new item, or from an item of a bin that was settled before it
 abbrev pub Reached : Problem → List (Option ℕ) → List ℕ → List ℕ → ℕ → List ℕ → List ℕ → ℕ → ℕ → Type 0

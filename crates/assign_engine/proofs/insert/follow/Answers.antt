@@ -1,4 +1,4 @@
-use Rattle.std.proofs.Common.{◌≡◌, ℕ, List, None, get_or, set, arith, ap, ◌∙◌, subst, sym, refl}
+use Rattle.std.proofs.Common.{◌≡◌, ℕ, List, arith, ap, ◌∙◌, subst, sym, refl}
 use Rattle.price_certificate.specs.Problem.{bins_of}
 use Rattle.price_certificate.proofs.Duality.{allowed_item}
 use Rattle.assign_engine.specs.Roll.{Seated}
@@ -20,7 +20,7 @@ trail-init c =
     let p = c.args.instance.now in
     let old = c.args.matching.now.seating.seats in
     let s = c.args.item in
-    let l = c.args.labels.now in
+    let l = c.args.tables.now in
     let m = c.args.matching.now in
     let us = m.item_prices.items in
     let vs = m.bin_prices.items in
@@ -50,7 +50,7 @@ trail-preserved c =
     let p = c.args.instance.now in
     let old = c.args.matching.now.seating.seats in
     let s = c.args.item in
-    let l = c.args.labels.now in
+    let l = c.args.tables.now in
     let m = c.trail.matching in
     let us = m.item_prices.items in
     let i = c.trail.invariant in
@@ -71,7 +71,7 @@ pub trail-smaller : goal.trail-smaller
 trail-smaller c =
     let p = c.args.instance.now in
     let old = c.args.matching.now.seating.seats in
-    let l = c.args.labels.now in
+    let l = c.args.tables.now in
     let m = c.trail.matching in
     let i = c.trail.invariant in
     let r = step p old m.item_prices.items m.bin_prices.items c.args.item l.distances l.vias l.ranks l.cost c.is_problem.ensures i.sound c.requires.new (target_of l.end old) c.trail.hole c.via-via.result c.in-Some.bin m.seating.seats i.trail i.near i.walking c.via-via.ensures (sym c.bin_of-from.ensures ∙ c.in-Some.is) in
@@ -82,7 +82,7 @@ returns-in-None-clause-inserted c =
     let p = c.args.instance.now in
     let old = c.args.matching.now.seating.seats in
     let s = c.args.item in
-    let l = c.args.labels.now in
+    let l = c.args.tables.now in
     let m = c.trail.matching in
     let us = m.item_prices.items in
     let i = c.trail.invariant in

@@ -7,15 +7,15 @@ use Rattle.assign_engine.proofs.insert.follow.Given as goal
 
 abbrev pub invariant-trail : goal.invariant-trail
 invariant-trail l = record {
-  near : IsNear l.instance l.labels.distances l.labels.cost l.hole;
-  walking : IsWalking l.instance l.fn.matching.seating.seats l.matching.item_prices.items l.matching.item_prices.items l.matching.bin_prices.items l.item l.labels.ranks (target_of l.labels.end l.fn.matching.seating.seats) l.hole l.matching.seating.seats;
+  near : IsNear l.instance l.tables.distances l.tables.cost l.hole;
+  walking : IsWalking l.instance l.fn.matching.seating.seats l.matching.item_prices.items l.matching.item_prices.items l.matching.bin_prices.items l.item l.tables.ranks (target_of l.tables.end l.fn.matching.seating.seats) l.hole l.matching.seating.seats;
   bins : l.matching.seating.bins ≡ bins_of l.instance;
   item_prices : l.matching.item_prices.items ≡ l.fn.matching.item_prices.items;
   bin_prices : l.matching.bin_prices.items ≡ l.fn.matching.bin_prices.items;
   sound : IsSound l.instance l.fn.matching.seating.seats l.matching.item_prices.items l.matching.bin_prices.items;
-  trail : HasTrail l.instance l.fn.matching.seating.seats l.matching.item_prices.items l.matching.bin_prices.items l.item l.labels.distances l.labels.vias l.labels.ranks l.labels.cost;
-  way : HasWay l.instance l.fn.matching.seating.seats l.matching.item_prices.items l.matching.bin_prices.items l.item l.labels.distances l.labels.vias l.labels.ranks l.labels.cost l.labels.end;
+  trail : HasTrail l.instance l.fn.matching.seating.seats l.matching.item_prices.items l.matching.bin_prices.items l.item l.tables.distances l.tables.vias l.tables.ranks l.tables.cost;
+  way : HasWay l.instance l.fn.matching.seating.seats l.matching.item_prices.items l.matching.bin_prices.items l.item l.tables.distances l.tables.vias l.tables.ranks l.tables.cost l.tables.end;
 }
 
 abbrev pub decreases-trail : goal.decreases-trail
-decreases-trail l = slice_index l.labels.ranks l.hole
+decreases-trail l = slice_index l.tables.ranks l.hole

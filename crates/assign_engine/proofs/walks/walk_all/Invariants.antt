@@ -7,5 +7,5 @@ abbrev pub invariant-loop-item : goal.invariant-loop-item
 invariant-loop-item l = record {
   better : IsBetter l.instance l.fn.matching.seating.seats l.fn.matching.item_prices.items l.matching.seating.seats l.matching.item_prices.items l.matching.bin_prices.items;
   bins : l.matching.seating.bins ≡ bins_of l.instance;
-  tables : HasTables l.instance l.walks.arcs.items l.walks.turns.items l.walks.labels;
+  sizes : HasTables l.instance l.walks.arcs.items l.walks.turns.items l.walks.tables;
 }

@@ -1,6 +1,6 @@
 use Rattle.std.proofs.Common.{◌≡◌, length}
 use Rattle.price_certificate.specs.Problem.{items_of, bins_of}
-use Rattle.assign_engine.specs.Labels.{HasBins}
+use Rattle.assign_engine.specs.SearchTables.{HasBins}
 use Rattle.assign_engine.specs.Exact.{IsBetter}
 use Rattle.assign_engine.proofs.walks.walk_rounds.Given as goal
 
@@ -10,5 +10,5 @@ invariant-loop l = record {
   seats : l.matching.seating.bins ≡ bins_of l.instance;
   items : length l.walks.arcs.items ≡ items_of l.instance;
   turns : length l.walks.turns.items ≡ bins_of l.instance;
-  bins : HasBins (bins_of l.instance) l.walks.labels;
+  bins : HasBins (bins_of l.instance) l.walks.tables;
 }

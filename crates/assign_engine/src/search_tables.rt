@@ -1,36 +1,40 @@
-ghost use Rattle.std.specs.Prelude.{◌≡◌, ◌+◌, ◌^◌, ◌<◌, ◌≤◌, ◌∷◌, List, [], ℕ, Contains, length, replicate, slice_index, slice_set, IfOk, OnOk, OnErr, IfSome, IfNone};
+//! The tables that a search fills.
+ghost use Rattle.std.specs.Prelude.{◌≡◌, ◌+◌, ◌^◌, ◌<◌, ◌≤◌, ◌∷◌, ◌++◌, List, [], ℕ, Contains, length, replicate, slice_index, slice_set, IfOk, OnOk, OnErr, IfSome, IfNone};
 ghost use Rattle.std.specs.List.Sorted.{IsPermutation};
-ghost use Rattle.assign_engine.specs.Labels.{Labelled, HasBins};
+ghost use Rattle.assign_engine.specs.SearchTables.{SearchState, HasBins};
 ghost use Rattle.assign_engine.specs.Pending.{HasPending, HasPendingBut, IsNearest, AllFar};
 ghost use Rattle.assign_engine.specs.declared.ends.End.TheVariants.{Leave};
 
 use crate::ends::End;
 use crate::frontier::Frontier;
+use crate::table::Table;
 use std::alloc::{AllocError, Global};
 use std::marker::Model;
 
 /// What a search knows so far, in tables that serve one search after another.
 #[derive(Drop)]
-pub struct Labels {
-    distances: Vec<u64>,
+pub struct SearchTables {
+    distances: Table,
     vias: Vec<usize>,
-    ranks: Vec<usize>,
+    ranks: Table,
     frontier: Frontier,
     cost: u64,
     end: End,
-    settled: usize,
+    settled_bins: Vec<usize>,
+    looked: u64,
 }
 
-impl Model for Labels {
-    ghost use Rattle.assign_engine.specs.Labels.{Labelled};
+impl Model for SearchTables {
+    ghost use Rattle.std.specs.Prelude.{length};
+    ghost use Rattle.assign_engine.specs.SearchTables.{SearchState};
 
-    ghost Value = { Labelled };
+    ghost Value = { SearchState };
 
-    ghost view = { λ l. record { distances = l.distances.items; vias = l.vias.items; ranks = l.ranks.items; pending = l.frontier; cost = l.cost; end = l.end; settled = l.settled } };
+    ghost view = { λ l. record { distances = l.distances; vias = l.vias.items; ranks = l.ranks; pending = l.frontier; cost = l.cost; end = l.end; settled = length l.settled_bins.items; settled_bins = l.settled_bins.items } };
 }
 
 /// The nearest bin that is not settled and nearer than the cost.
-fn nearest(frontier: &mut Frontier, distances: &[u64], ranks: &[usize], cost: u64) -> Option<usize>
+fn nearest(frontier: &mut Frontier, distances: &Table, ranks: &Table, cost: u64) -> Option<usize>
     requires ranks { length ranks.now ≡ length distances.now }
     requires pending { HasPending distances.now ranks.now cost frontier.old }
     ensures some { IfSome result (λ b. IsNearest distances.now ranks.now cost b) }
@@ -41,29 +45,32 @@ fn nearest(frontier: &mut Frontier, distances: &[u64], ranks: &[usize], cost: u6
         if distance >= cost {
             return None;
         }
-        if bin < distances.len() && ranks[bin] == ranks.len() && distances[bin] == distance {
+        let rank = ranks.get(bin);
+        let found = distances.get(bin);
+        if bin < distances.len() && rank == ranks.len() as u64 && found == distance {
             return Some(bin);
         }
     }
     None
 }
 
-impl Labels {
+impl SearchTables {
     /// Tables for so many bins.
-    pub fn new(alloc: Global, bins: usize) -> Result<Labels, AllocError>
+    pub fn new(alloc: Global, bins: usize) -> Result<SearchTables, AllocError>
         ensures { IfOk result (λ l. HasBins bins l) }
     {
-        let distances = vec![in alloc; 0; bins]?;
+        let distances = Table::new(alloc, bins)?;
         let vias = vec![in alloc; 0; bins]?;
-        let ranks = vec![in alloc; 0; bins]?;
-        Ok(Labels {
+        let ranks = Table::new(alloc, bins)?;
+        Ok(SearchTables {
             distances,
             vias,
             ranks,
             frontier: Frontier::new(alloc),
             cost: 0,
             end: End::Leave,
-            settled: 0,
+            settled_bins: Vec::new(alloc),
+            looked: 0,
         })
     }
 
@@ -76,14 +83,16 @@ impl Labels {
         ensures cost { self.new.cost ≡ price }
         ensures end { self.new.end ≡ Leave }
         ensures settled { self.new.settled ≡ 0 }
+        ensures settled_bins { self.new.settled_bins ≡ [] }
     {
-        let bins = self.ranks.len();
+        let bins = self.ranks.len() as u64;
         self.distances.fill(price);
         self.ranks.fill(bins);
         self.frontier.clear();
         self.cost = price;
         self.end = End::Leave;
-        self.settled = 0;
+        self.settled_bins.clear();
+        self.looked = 0;
     }
 
     /// How far a bin is.
@@ -91,7 +100,7 @@ impl Labels {
         requires { bin < length self.now.distances }
         ensures { result ≡ slice_index self.now.distances bin }
     {
-        self.distances[bin]
+        self.distances.get(bin)
     }
 
     /// The last item on the way to a bin.
@@ -106,10 +115,7 @@ impl Labels {
     pub fn rank(&self, bin: usize) -> usize
         ensures { result ≡ slice_index self.now.ranks bin }
     {
-        match self.ranks.as_slice().get(bin) {
-            Some(rank) => *rank,
-            None => 0,
-        }
+        self.ranks.get(bin) as usize
     }
 
     /// What the best end so far costs.
@@ -130,25 +136,46 @@ impl Labels {
     pub fn settled(&self) -> usize
         ensures { result ≡ self.now.settled }
     {
-        self.settled
+        self.settled_bins.len()
+    }
+
+    /// The settled bins, in the order in which they were settled.
+    pub fn settled_bins(&self) -> &[usize]
+        ensures { result.now ≡ self.now.settled_bins }
+    {
+        self.settled_bins.as_slice()
+    }
+
+    /// How many pairs were looked at.
+    pub fn looked(&self) -> u64 {
+        self.looked
+    }
+
+    /// Counts the pairs of a row that is looked at.
+    pub fn look(&mut self, row: &[u32])
+        ensures { self.new ≡ self.old }
+    {
+        self.looked = self.looked.saturating_add(row.len() as u64);
     }
 
     /// Notes a way to a bin.
     pub fn lower(&mut self, bin: usize, distance: u64, via: usize)
         requires distances { bin < length self.old.distances }
         requires vias { bin < length self.old.vias }
+        requires nearer { distance ≤ slice_index self.old.distances bin }
         ensures { self.new ≡ record self.old { distances = slice_set self.old.distances bin distance; vias = slice_set self.old.vias bin via } }
     {
-        self.distances[bin] = distance;
+        self.distances.lower(bin, distance);
         self.vias[bin] = via;
     }
 
     /// Notes the rank of a bin.
     pub fn rank_as(&mut self, bin: usize, rank: usize)
-        requires { bin < length self.old.ranks }
+        requires bin { bin < length self.old.ranks }
+        requires before { rank ≤ slice_index self.old.ranks bin }
         ensures { self.new ≡ record self.old { ranks = slice_set self.old.ranks bin rank } }
     {
-        self.ranks[bin] = rank;
+        self.ranks.lower(bin, rank as u64);
     }
 
     /// Notes an end and what it costs.
@@ -183,12 +210,13 @@ impl Labels {
     }
 
     /// Notes that a bin is settled.
-    pub fn settle(&mut self, bin: usize)
+    pub fn settle(&mut self, bin: usize) -> Result<(), AllocError>
         requires bin { bin < length self.old.ranks }
-        requires count { self.old.settled < 2 ^ 32 }
-        ensures { self.new ≡ record self.old { ranks = slice_set self.old.ranks bin self.old.settled; settled = self.old.settled + 1 } }
+        requires before { self.old.settled ≤ slice_index self.old.ranks bin }
+        ensures { OnOk result (self.new ≡ record self.old { ranks = slice_set self.old.ranks bin self.old.settled; settled = self.old.settled + 1; settled_bins = self.old.settled_bins ++ bin ∷ [] }) }
     {
-        self.ranks[bin] = self.settled;
-        self.settled += 1;
+        self.ranks.lower(bin, self.settled_bins.len() as u64);
+        self.settled_bins.push(bin)?;
+        Ok(())
     }
 }
