@@ -7,16 +7,16 @@ runs=${1:-5}
 document=$(mktemp)
 trap 'rm -f "$document"' EXIT
 python3 "$root/bench/dense_document.py" > "$document"
-"$root/allocd" check < "$root/examples/one-of-two.json" > /dev/null
-(cd "$root/crates/json_alone" && rt run < stdin > /dev/null 2>&1)
+. "$root/bench/programs.sh"
+programs=$(bench_programs)
 
 # least seconds and most megabytes of the runs of a command on the document
 measure() {
     python3 "$root/bench/measure.py" "$document" "$runs" "$@"
 }
 
-read -r json_seconds json_memory < <(measure "$root/crates/json_alone/out/json_alone")
-read -r check_seconds check_memory < <(measure "$root/crates/allocd/out/allocd" check)
+read -r json_seconds json_memory < <(measure "$programs" json)
+read -r check_seconds check_memory < <(measure "$allocd" check)
 echo "document: $(stat -c %s "$document") bytes, 16,384 items, 256 bins, 4,194,304 allowed pairs"
 echo "| program | processor seconds | MB at the most |"
 echo "|---|---|---|"

@@ -1,17 +1,18 @@
 #!/usr/bin/env python3
 """The least processor time, in seconds, and the most memory, in megabytes, of the runs of a command on a file, which it reads
-as standard input.
+as standard input. What it writes goes to the file OUTPUT, where that is given.
 
-usage: measure.py FILE RUNS COMMAND..
+usage: measure.py [--digits N] [--output OUTPUT] FILE RUNS COMMAND..      (3 digits of the seconds where left out)
 """
+import argparse
 import os
 import subprocess
 import sys
 
 
-def run(source, command):
-    with open(source, "rb") as text:
-        process = subprocess.Popen(command, stdin=text, stdout=subprocess.DEVNULL)
+def run(source, target, command):
+    with open(source, "rb") as text, open(target, "wb") as out:
+        process = subprocess.Popen(command, stdin=text, stdout=out)
         _, status, usage = os.wait4(process.pid, 0)
     if os.waitstatus_to_exitcode(status) != 0:
         sys.exit(f"{command}: status {status}")
@@ -19,11 +20,17 @@ def run(source, command):
 
 
 def main():
-    if len(sys.argv) < 4 or not sys.argv[2].isdigit() or int(sys.argv[2]) == 0:
+    parser = argparse.ArgumentParser(usage=__doc__)
+    parser.add_argument("--digits", type=int, default=3)
+    parser.add_argument("--output", default=os.devnull)
+    parser.add_argument("source")
+    parser.add_argument("runs", type=int, choices=range(1, 1000))
+    parser.add_argument("command", nargs=argparse.REMAINDER)
+    given = parser.parse_args()
+    if not given.command:
         sys.exit(__doc__)
-    source, runs, command = sys.argv[1], int(sys.argv[2]), sys.argv[3:]
-    seconds, megabytes = zip(*[run(source, command) for _ in range(runs)])
-    print(f"{min(seconds):.3f} {max(megabytes):.0f}")
+    seconds, megabytes = zip(*[run(given.source, given.output, given.command) for _ in range(given.runs)])
+    print(f"{min(seconds):.{given.digits}f} {max(megabytes):.0f}")
 
 
 main()

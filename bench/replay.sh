@@ -9,16 +9,16 @@ folder=$(mktemp -d)
 trap 'rm -rf "$folder"' EXIT
 python3 "$root/bench/full_fleet.py" replay > "$folder/replay"
 python3 "$root/bench/full_fleet.py" certificate > "$folder/check"
-"$root/allocd" check < "$root/examples/one-of-two.json" > /dev/null
+. "$root/bench/programs.sh"
 
 # least seconds and most megabytes of the runs of a command on the file of its name
 measure() {
-    python3 "$root/bench/measure.py" "$folder/$1" "$runs" "$root/crates/allocd/out/allocd" "$1"
+    python3 "$root/bench/measure.py" "$folder/$1" "$runs" "$allocd" "$1"
 }
 
 read -r check_seconds check_memory < <(measure check)
 read -r replay_seconds replay_memory < <(measure replay)
-echo "256 collectors, 16,384 targets of 16 jobs, 4,194,304 allowed pairs; the replay says: $("$root/allocd" replay < "$folder/replay" | tail -n 2 | paste -sd ' ')"
+echo "256 collectors, 16,384 targets of 16 jobs, 4,194,304 allowed pairs; the replay says: $("$allocd" replay < "$folder/replay" | tail -n 2 | paste -sd ' ')"
 echo "| command | bytes read | processor seconds | MB at the most |"
 echo "|---|---|---|---|"
 echo "| allocd check | $(stat -c %s "$folder/check") | $check_seconds | $check_memory |"

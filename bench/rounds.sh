@@ -8,8 +8,8 @@ runs=${1:-5}
 folder=$(mktemp -d)
 trap 'rm -rf "$folder"' EXIT
 python3 "$root/bench/full_fleet.py" rounds > "$folder/rounds"
-"$root/allocd" check < "$root/examples/one-of-two.json" > /dev/null
-(cd "$root/crates/json_alone" && rt run < stdin > /dev/null 2>&1)
+. "$root/bench/programs.sh"
+programs=$(bench_programs)
 
 # least seconds and most megabytes of the runs of a command on the lines
 measure() {
@@ -17,7 +17,7 @@ measure() {
 }
 
 # a line Booked for each report
-"$root/allocd" replay < "$folder/rounds" > "$folder/answers"
+"$allocd" replay < "$folder/rounds" > "$folder/answers"
 lines=$(wc -l < "$folder/rounds")
 reports=$(grep -c '^{"event":"report"' "$folder/rounds")
 booked=$(grep -cx 'Booked' "$folder/answers")
@@ -26,14 +26,13 @@ if [ "$booked" -ne "$reports" ]; then
     exit 1
 fi
 
-json=$root/crates/json_alone/out/json_alone
-said=$("$json" lines < "$folder/rounds")
+said=$("$programs" json-lines < "$folder/rounds")
 if [ "$said" != "json lines $lines" ]; then
     echo "serde_json alone reads other lines: $said of $lines" >&2
     exit 1
 fi
-read -r json_seconds json_memory < <(measure "$json" lines)
-read -r replay_seconds replay_memory < <(measure "$root/crates/allocd/out/allocd" replay)
+read -r json_seconds json_memory < <(measure "$programs" json-lines)
+read -r replay_seconds replay_memory < <(measure "$allocd" replay)
 
 rounds=$(($(grep -c '^RoundOpen ' "$folder/answers") + 1))
 events=$((lines - 1))

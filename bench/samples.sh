@@ -8,24 +8,14 @@ turns=${1:-512}
 runs=${2:-5}
 body=$(mktemp)
 trap 'rm -f "$body"' EXIT
-(cd "$root/crates/samples_work" && rt run < stdin > /dev/null 2>&1)
+. "$root/bench/programs.sh"
+programs=$(bench_programs)
 
 # least seconds of the runs of the program, which counts and copies so many times
 measure() {
-    python3 - "$body" "$runs" "$root/crates/samples_work/out/samples_work" "$@" <<'PY'
-import os, subprocess, sys
-body, runs, command = sys.argv[1], int(sys.argv[2]), sys.argv[3:]
-least = None
-for _ in range(runs):
-    with open(body, "rb") as text:
-        process = subprocess.Popen(command, stdin=text, stdout=subprocess.DEVNULL)
-        _, status, usage = os.wait4(process.pid, 0)
-        seconds = usage.ru_utime + usage.ru_stime
-    if os.waitstatus_to_exitcode(status) != 0:
-        sys.exit(f"{command}: status {status}")
-    least = seconds if least is None else min(least, seconds)
-print(least)
-PY
+    local seconds
+    read -r seconds _ < <(python3 "$root/bench/measure.py" --digits 6 "$body" "$runs" "$programs" samples "$@")
+    echo "$seconds"
 }
 
 echo "| body | bytes a line | count, GB/s | copy, GB/s | count / copy |"

@@ -1,0 +1,57 @@
+#!/usr/bin/env python3
+"""How the repository is tested, in numbers: for each crate its lines, its tests, and its edits that must fail.
+
+usage: scripts/count_tests.py                prints the table
+       scripts/count_tests.py --write FILE   writes it between the marks of a document (docs/TESTING.md)
+"""
+import pathlib
+import sys
+
+from marked import write_part
+
+ROOT = pathlib.Path(__file__).resolve().parent.parent / "crates"
+
+
+def lines_in(files):
+    return sum(sum(1 for line in file.read_text().splitlines() if line.strip()) for file in files)
+
+
+def is_test(file):
+    return "tests" in file.parts or file.name == "tests.rt"
+
+
+def row(crate):
+    code = sorted(crate.glob("src/**/*.rt"))
+    tests = [file for file in code if is_test(file.relative_to(crate))]
+    return [
+        lines_in(file for file in code if file not in tests),
+        lines_in(tests),
+        lines_in(crate.glob("specs/**/*.antt")),
+        lines_in(crate.glob("proofs/**/*.antt")),
+        sum(file.read_text().count("#[test]") for file in code),
+        len(list(crate.glob("must-fail/*.edit"))),
+        int((crate / "stdout").is_file()),
+    ]
+
+
+def table():
+    crates = sorted(it for it in ROOT.iterdir() if (it / "src").is_dir())
+    rows = [(crate.name, row(crate)) for crate in crates]
+    yield "| Crate | Code | Lines of tests | Definitions | Proofs | Tests | Edits that must fail | Stored runs |\n"
+    yield "|---|---|---|---|---|---|---|---|\n"
+    for name, counts in rows:
+        yield f"| `{name}` | {' | '.join(f'{it:,}' for it in counts)} |\n"
+    yield f"| all | {' | '.join(f'{sum(it):,}' for it in zip(*(counts for _, counts in rows)))} |\n"
+
+
+def main():
+    text = "".join(table())
+    if len(sys.argv) == 3 and sys.argv[1] == "--write":
+        write_part(sys.argv[2], "counted tests", text)
+    elif len(sys.argv) == 1:
+        print(text, end="")
+    else:
+        sys.exit(__doc__)
+
+
+main()
