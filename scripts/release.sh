@@ -13,7 +13,7 @@ own=$root/crates/allocd/out/allocd
 sample=examples/one-of-two.json
 
 write_release() {
-    build_program "$root" allocd "$root/$sample" check || return 1
+    is_made "$root" "$own" "$own.made" || build_program "$root" allocd "$root/$sample" check || return 1
     mkdir -p "$root/dist"
     cp "$own" "$released.part" && chmod 755 "$released.part" && mv "$released.part" "$released" && cp "$own.made" "$record"
 }
