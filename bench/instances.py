@@ -9,9 +9,20 @@ usage: instances.py FAMILY [SEED]
   dense-before  the same, everything before and spread evenly
   dense-one     the same, everything before in one bin
   fleet         4 zones; a best allocation of 256 collectors of which one has gone
-  sparse        16,384 bins of limit 1, eight random bins an item
+  sparse        16,384 bins of limit 1, eight random bins an item, nothing before
   chain         16,384 bins of limit 1; the last item in needs a path through every bin
   crowd         16,384 items that all want one full bin first; half may use another
+
+Families that are hard for one search after another:
+
+  gate          480 bins of limit 1 in the way of 7,900 new items, whose only way out is over the items of one full bin
+  gate-few      the same with 200 bins of limit 32 in the way and 4,000 new items: few bins, each with long rows
+  stairs        2,890 bins of limit 1; later items reach fewer bins, so they push earlier ones up
+  stairs-steps  the same with 500 bins of limit 32
+  flat          stairs of 2,047 bins, all rows filled up to one length by full bins whose items cannot move
+  ladder        170 full chains of 1 to 170 bins, each with a new item at its foot, so no two ways out are of one length
+  sparse-before sparse where each item was in one of its bins
+  sparse-long   the same with some 256 random bins an item, nothing before; sparse-long-before: with
 """
 import random
 import sys
@@ -36,10 +47,10 @@ def fleet():
     return [66] * (BINS - 1), rows, held
 
 
-def sparse(seed):
+def sparse(reach, has_before, seed):
     source = random.Random(seed)
-    rows = [sorted(set(source.randrange(ITEMS) for _ in range(8))) for _ in range(ITEMS)]
-    return [1] * ITEMS, rows, []
+    rows = [sorted(set(source.randrange(ITEMS) for _ in range(reach))) for _ in range(ITEMS)]
+    return [1] * ITEMS, rows, [(t, source.choice(rows[t])) for t in range(ITEMS)] if has_before else []
 
 
 def chain():
@@ -53,6 +64,46 @@ def crowd():
     return [half, half], rows, [(t, 0) for t in range(half)]
 
 
+def gate(bins, limit, movers):
+    # the items of the bins in the way reach them all and the gate; the gate is full of movers, who alone reach what is free
+    held = [t % bins for t in range(bins * limit)] + [bins] * movers
+    in_the_way = list(range(bins + 1))
+    rows = [in_the_way] * (bins * limit) + [[bins, bins + 1]] * movers + [in_the_way] * movers
+    return [limit] * bins + [movers] * 2, rows, list(enumerate(held))
+
+
+def stairs(bins, limit):
+    return [limit] * bins, [list(range(bins - t // limit)) for t in range(bins * limit)], []
+
+
+def flat(bins):
+    rows = [list(range(bins - t)) + list(range(bins, bins + t)) for t in range(bins)]
+    held = [(bins + t, bins + t) for t in range(bins)]
+    return [1] * (2 * bins), rows + [[bin] for _, bin in held], held
+
+
+def ladder(chains, reach):
+    # chain c has c + 1 full bins and a free one; all of its items, and the new one, also reach bins that nobody can leave
+    last = chains * (chains + 1) // 2 + chains
+    stuck = ITEMS - last
+    limits, rows, before = [], [], []
+    for chain in range(chains):
+        foot = len(limits)
+        for step in range(chain + 1):
+            before.append((len(rows), foot + step))
+            rows.append([foot + step, foot + step + 1] + stuck_bins(last, stuck, len(rows), reach))
+        rows.append([foot] + stuck_bins(last, stuck, len(rows), reach))
+        limits.extend([1] * (chain + 2))
+    for bin in range(last, last + stuck):
+        before.append((len(rows), bin))
+        rows.append([bin])
+    return limits + [1] * stuck, rows, before
+
+
+def stuck_bins(first, count, turn, reach):
+    return sorted(first + (turn * 7 + k) % count for k in range(reach))
+
+
 def main():
     family = sys.argv[1] if len(sys.argv) > 1 else ""
     seed = int(sys.argv[2]) if len(sys.argv) > 2 else 1
@@ -63,9 +114,18 @@ def main():
         "dense-before": lambda: dense([(t, t % BINS) for t in range(ITEMS)]),
         "dense-one": lambda: dense([(t, 0) for t in range(ITEMS)]),
         "fleet": fleet,
-        "sparse": lambda: sparse(seed),
+        "sparse": lambda: sparse(8, False, seed),
         "chain": chain,
         "crowd": crowd,
+        "gate": lambda: gate(480, 1, 7900),
+        "gate-few": lambda: gate(200, 32, 4000),
+        "stairs": lambda: stairs(2890, 1),
+        "stairs-steps": lambda: stairs(500, 32),
+        "flat": lambda: flat(2047),
+        "ladder": lambda: ladder(170, 250),
+        "sparse-before": lambda: sparse(8, True, seed),
+        "sparse-long": lambda: sparse(256, False, seed),
+        "sparse-long-before": lambda: sparse(256, True, seed),
     }
     if family not in families:
         sys.exit(__doc__)

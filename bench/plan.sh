@@ -1,37 +1,44 @@
 #!/usr/bin/env bash
-# Processor time and peak memory of `allocd plan` for each family of bench/instances.py, the work that the engine had, and the time
-# of `allocd check` on the result. Times are of whole programs, reading and writing JSON included.
-# usage: bench/plan.sh [FAMILY..]
+# Processor time and peak memory of `allocd plan` for each family of bench/instances.py, the work that the engine had, the time of
+# `allocd check` on the result, and that of LEMON's network simplex and cost scaling on the same file (bench/lemon.cpp; Debian's
+# liblemon-dev). Times are of whole programs, reading and writing included, the least of some runs.
+# usage: bench/plan.sh [FAMILY..]      (RUNS=3 in the environment says how many runs)
 set -eu
 root=$(cd "$(dirname "$0")/.." && pwd)
 folder=$(mktemp -d)
 trap 'rm -rf "$folder"' EXIT
+runs=${RUNS:-3}
+c++ -O3 -o "$folder/lemon" "$root/bench/lemon.cpp" -llemon
 "$root/allocd" check < "$root/examples/one-of-two.json" > /dev/null
 (cd "$root/crates/plan_work" && rt run < stdin > /dev/null 2>&1)
 families=("$@")
-[ $# -gt 0 ] || families=(ring ring-less dense dense-before dense-one fleet sparse chain crowd)
+[ $# -gt 0 ] || families=(ring ring-less dense dense-before dense-one fleet sparse sparse-before sparse-long sparse-long-before
+    chain crowd gate gate-few stairs stairs-steps flat ladder)
 
-# seconds and kilobytes of a command from one file to another
+# least seconds and most megabytes of the runs of a command on a file
 measure() {
-    python3 - "$@" <<'PY'
-import os, subprocess, sys
-source, target, command = sys.argv[1], sys.argv[2], sys.argv[3:]
-with open(source, "rb") as text, open(target, "wb") as out:
-    process = subprocess.Popen(command, stdin=text, stdout=out)
-    _, status, usage = os.wait4(process.pid, 0)
-    seconds = usage.ru_utime + usage.ru_stime
-if os.waitstatus_to_exitcode(status) != 0:
-    sys.exit(f"{command}: status {status}")
-print(f"{seconds:.3f} {usage.ru_maxrss / 1024:.0f}")
-PY
+    python3 "$root/bench/measure.py" "$1" "$runs" "${@:2}"
 }
 
-echo "| family | plan, seconds | MB at the most | work | check, seconds | verdict |"
-echo "|---|---|---|---|---|---|"
+ratio() {
+    python3 -c "print(f'{$1 / $2:.2f}')"
+}
+
+echo "| family | plan, seconds | MB at the most | work | check, seconds | plan / check | LEMON simplex | LEMON scaling | plan / LEMON | verdict |"
+echo "|---|---|---|---|---|---|---|---|---|---|"
 for family in "${families[@]}"; do
     python3 "$root/bench/instances.py" "$family" > "$folder/instance"
-    read -r seconds memory < <(measure "$folder/instance" "$folder/plan" "$root/crates/allocd/out/allocd" plan)
+    "$root/crates/allocd/out/allocd" plan < "$folder/instance" > "$folder/plan"
+    verdict=$("$root/crates/allocd/out/allocd" check < "$folder/plan")
     work=$("$root/crates/plan_work/out/plan_work" < "$folder/instance")
-    read -r check_seconds _ < <(measure "$folder/plan" "$folder/verdict" "$root/crates/allocd/out/allocd" check)
-    echo "| $family | $seconds | $memory | $work | $check_seconds | $(cat "$folder/verdict") |"
+    read -r seconds memory < <(measure "$folder/instance" "$root/crates/allocd/out/allocd" plan)
+    read -r check_seconds _ < <(measure "$folder/plan" "$root/crates/allocd/out/allocd" check)
+    for way in simplex scaling; do
+        said=$("$folder/lemon" "$way" < "$folder/instance" | head -1)
+        [ "best $said" = "$verdict" ] || { echo "LEMON says $said, check $verdict" >&2; exit 1; }
+    done
+    read -r simplex _ < <(measure "$folder/instance" "$folder/lemon" simplex)
+    read -r scaling _ < <(measure "$folder/instance" "$folder/lemon" scaling)
+    echo "| $family | $seconds | $memory | $work | $check_seconds | $(ratio "$seconds" "$check_seconds") | $simplex | $scaling |" \
+        "$(ratio "$seconds" "min($simplex, $scaling)") | $verdict |"
 done

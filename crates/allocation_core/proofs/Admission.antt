@@ -8,14 +8,15 @@ use Rattle.handover.specs.Handover.{holder_in, taken_by}
 use Rattle.scrape_books.specs.Books.{greatest_round, last_round_of}
 use Rattle.scrape_books.specs.declared.report.Entry.{Entry}
 use Rattle.scrape_books.specs.declared.report.Outcome.{Outcome}
-use Rattle.allocation_core.specs.State.{State, is_joined}
-use Rattle.allocation_core.specs.Steps.{refusal_of, report_refusal, holder_refusal, round_refusal, is_holder, is_booked}
-use Rattle.allocation_core.specs.declared.event.Event.TheVariants.{Report}
-use Rattle.allocation_core.specs.declared.answer.Refusal.{Refusal}
-use Rattle.allocation_core.specs.declared.answer.Refusal.TheVariants.{UnknownCollector, NotTaken, UnknownTarget, NotHolder, RoundClosed, RoundNotOpen, AlreadyBooked}
+use Rattle.fleet.specs.Fleet.{is_joined}
+use Rattle.allocation_core.specs.State.{State}
+use Rattle.allocation_core.specs.Steps.{entry_of, refusal_of, report_refusal, holder_refusal, round_refusal, is_holder, is_booked}
+use Rattle.allocation_core.specs.Booked.{report_of}
+use Rattle.fleet_events.specs.declared.refusal.Refusal.{Refusal}
+use Rattle.fleet_events.specs.declared.refusal.Refusal.TheVariants.{UnknownCollector, NotTaken, UnknownTarget, NotHolder, RoundClosed, RoundNotOpen, AlreadyBooked}
 
 pub record Admitted (m : State) (collector number target round : ℕ) : Type 0 where
-  pub joined : is_joined m collector ≡ true
+  pub joined : is_joined m.fleet collector ≡ true
   pub taken : taken_by m.taken collector ≡ number
   pub held : holder_in m.published number target ≡ Some collector
   pub opened : m.round ≡ round
@@ -33,11 +34,11 @@ holder_by : (o : Option ℕ) (collector : ℕ) → is_holder o collector ≡ tru
 holder_by None collector e = cc
 holder_by (Some h) collector e = ap (λ (n : ℕ). (let s : Option ℕ = Some n in s)) (eqb-true h collector e)
 
-pub admitted : (m : State) (collector number target round : ℕ) (outcome : Outcome) → refusal_of m (Report collector number target round outcome) ≡ None → Admitted m collector number target round
+pub admitted : (m : State) (collector number target round : ℕ) (outcome : Outcome) → refusal_of m (report_of (target, entry_of collector number round outcome)) ≡ None → Admitted m collector number target round
 admitted m collector number target round outcome free =
-    let known = guard_by (is_joined m collector) (report_refusal m collector number target round) UnknownCollector free in
+    let known = guard_by (is_joined m.fleet collector) (report_refusal m collector number target round) UnknownCollector free in
     let took = guard_by (eqb (taken_by m.taken collector) number) _ (NotTaken (taken_by m.taken collector)) known.1 in
-    let there = guard_by (nat_lt target (length m.known)) (holder_refusal m (holder_in m.published number target) collector target round) UnknownTarget took.1 in
+    let there = guard_by (nat_lt target (length m.fleet.known)) (holder_refusal m (holder_in m.published number target) collector target round) UnknownTarget took.1 in
     let holds = guard_by (is_holder (holder_in m.published number target) collector) (round_refusal m target round) (NotHolder (holder_in m.published number target)) there.1 in
     let closed = ban_by (nat_lt round m.round) _ (RoundClosed m.round) holds.1 in
     let ahead = ban_by (nat_lt m.round round) _ (RoundNotOpen m.round) closed.1 in

@@ -1,45 +1,37 @@
 -- Each event has only answers of its kind.
 use Rattle.std.proofs.Common.{ℕ, List, Bool, true, false, Option, Some, None, cond, refl}
-use Rattle.std.specs.Prelude.{IsTrue, nat_lt, length, ◌+◌, ◌*◌, ◌||◌, ◌==◌}
-use Rattle.std.specs.List.{list_any}
-use Rattle.std.specs.Option.{option_map_or}
-use Rattle.label_sets.specs.Target.{FinalTarget}
+use Rattle.std.specs.Prelude.{IsTrue, nat_lt, length, ◌+◌, ◌==◌}
+use Rattle.std.specs.Option.{option_map}
 use Rattle.price_certificate.specs.Faults.{fault_of}
 use Rattle.price_certificate.specs.declared.plan.Plan.{Plan}
 use Rattle.price_certificate.specs.declared.verdict.Fault.{Fault}
-use Rattle.allocation_core.specs.Live.{count_below, is_listed}
-use Rattle.allocation_core.specs.Jobs.{job_named, sources_at}
 use Rattle.handover.specs.Handover.{holder_in, taken_by}
-use Rattle.allocation_core.specs.State.{State, current_of, current_pairs, held_by, id_named, is_joined}
-use Rattle.allocation_core.specs.Instances.{instance_of, allocation_of}
-use Rattle.allocation_core.specs.Steps.{answer_of, answer_by, source_refusal, discovered, name_refusal, plan_refusal, same_pairs, is_booked, is_holder, report_refusal}
+use Rattle.fleet.specs.Changes.{join_refusal, list_refusal}
+use Rattle.fleet.specs.Fleet.{is_joined}
+use Rattle.fleet.specs.declared.outcome.ListRefusal.{ListRefusal}
+use Rattle.fleet.specs.declared.outcome.ListRefusal.TheVariants.{UnknownJob as NoJob, UnknownSource as NoSource, TooManyLive as CrowdLive, TooManyKnown as CrowdKnown}
+use Rattle.fleet.specs.declared.outcome.JoinRefusal.{JoinRefusal}
+use Rattle.fleet.specs.declared.outcome.JoinRefusal.TheVariants.{AlreadyJoined as NameTaken, TooManyCollectors as NoRoom, IdsSpent as NoId}
+use Rattle.fleet_events.specs.declared.event.Event.{Event}
+use Rattle.fleet_events.specs.declared.event.Event.TheVariants.{Discover, Join, Leave, Install, NextRound, Take, Report}
+use Rattle.fleet_events.specs.declared.answer.Answer.TheVariants.{Discovered, Joined, Left, Published, RoundOpen, Taken, Booked}
+use Rattle.fleet_events.specs.declared.refusal.Refusal.TheVariants.{UnknownCollector, Unchanged, NumbersSpent, RoundsSpent, NotTaken, UnknownTarget, NotHolder, RoundClosed, RoundNotOpen, AlreadyBooked}
+use Rattle.allocation_core.specs.State.{State, allocation_at, current_of, current_pairs, held_by, instance_at}
+use Rattle.allocation_core.specs.Steps.{answer_by, answer_of, is_booked, is_holder, plan_refusal, same_pairs, unjoined, unlisted}
 use Rattle.allocation_core.specs.Answers.{IsAnswerTo, is_discover_answer, is_join_answer, is_leave_answer, is_install_answer, is_round_answer, is_take_answer, is_report_answer}
-use Rattle.allocation_core.specs.declared.job.Collector.{Collector}
-use Rattle.allocation_core.specs.declared.event.Event.{Event}
-use Rattle.allocation_core.specs.declared.event.Event.TheVariants.{Discover, Join, Leave, Install, NextRound, Take, Report}
-use Rattle.allocation_core.specs.declared.answer.Answer.TheVariants.{Discovered, Joined, Left, Published, RoundOpen, Taken, Booked}
-use Rattle.allocation_core.specs.declared.answer.Refusal.TheVariants.{UnknownJob, UnknownSource, TooManyLive, TooManyKnown, TooManyCollectors, IdsSpent, UnknownCollector, Unchanged, NumbersSpent, RoundsSpent, NotTaken, UnknownTarget, NotHolder, RoundClosed, RoundNotOpen, AlreadyBooked}
 
-source_answer : (s a b : Bool) (x y : ℕ) → IsTrue (is_discover_answer (answer_by (cond s (cond a (Some TooManyLive) (cond b (Some TooManyKnown) None)) (Some UnknownSource)) (Discovered x y)))
-source_answer false a b x y = refl
-source_answer true true b x y = refl
-source_answer true false true x y = refl
-source_answer true false false x y = refl
+discover_answer : (o : Option ListRefusal) (x y : ℕ) → IsTrue (is_discover_answer (answer_by (option_map unlisted o) (Discovered x y)))
+discover_answer None x y = refl
+discover_answer (Some NoJob) x y = refl
+discover_answer (Some NoSource) x y = refl
+discover_answer (Some CrowdLive) x y = refl
+discover_answer (Some CrowdKnown) x y = refl
 
-discover_answer : (m : State) (o : Option ℕ) (source : ℕ) (targets : List FinalTarget) (x y : ℕ) → IsTrue (is_discover_answer (answer_by (option_map_or (λ (job : ℕ). source_refusal m job source targets) o (Some UnknownJob)) (Discovered x y)))
-discover_answer m None source targets x y = refl
-discover_answer m (Some job) source targets x y =
-    let n = discovered m job source targets in
-    source_answer (nat_lt source (sources_at m.jobs job)) (nat_lt 16384 (count_below (is_listed n.listed) (length n.known))) (nat_lt 65535 (length n.known)) x y
-
-room_answer : (a b : Bool) (x : ℕ) → IsTrue (is_join_answer (answer_by (cond a (Some TooManyCollectors) (cond b None (Some IdsSpent))) (Joined x)))
-room_answer true b x = refl
-room_answer false true x = refl
-room_answer false false x = refl
-
-join_answer : (m : State) (o : Option ℕ) (x : ℕ) → IsTrue (is_join_answer (answer_by (name_refusal m o) (Joined x)))
-join_answer m (Some id) x = refl
-join_answer m None x = room_answer (nat_lt 256 (length m.collectors + 1) || nat_lt 16384 (length m.jobs * (length m.collectors + 1))) (nat_lt m.given 4294967295) x
+join_answer : (o : Option JoinRefusal) (x : ℕ) → IsTrue (is_join_answer (answer_by (option_map unjoined o) (Joined x)))
+join_answer None x = refl
+join_answer (Some (NameTaken id)) x = refl
+join_answer (Some NoRoom) x = refl
+join_answer (Some NoId) x = refl
 
 leave_answer : (b : Bool) → IsTrue (is_leave_answer (answer_by (cond b None (Some UnknownCollector)) Left))
 leave_answer true = refl
@@ -52,7 +44,7 @@ number_answer false false n x = refl
 
 install_answer : (m : State) (plan : Plan) (f : Option Fault) (x : ℕ) → IsTrue (is_install_answer (answer_by (plan_refusal m plan f) (Published x)))
 install_answer m plan (Some fault) x = refl
-install_answer m plan None x = number_answer (same_pairs (allocation_of m plan.pairs) (current_pairs m)) (nat_lt (current_of m) 4294967295) (current_of m) x
+install_answer m plan None x = number_answer (same_pairs (allocation_at m plan.pairs) (current_pairs m)) (nat_lt (current_of m) 4294967295) (current_of m) x
 
 round_answer : (b : Bool) (r : ℕ) → IsTrue (is_round_answer (answer_by (cond b None (Some RoundsSpent)) (RoundOpen r)))
 round_answer true r = refl
@@ -76,12 +68,12 @@ report_answer true true true true false false false taken round holder = refl
 
 pub answers_fit : (m : State) (e : Event) → IsAnswerTo e (answer_of m e)
 unfolding answer_of
-answers_fit m (Discover name source targets) = discover_answer m (job_named m.jobs name) source targets _ _
-answers_fit m (Join name reach) = join_answer m (id_named m.collectors name) (m.given + 1)
-answers_fit m (Leave id) = leave_answer (is_joined m id)
-answers_fit m (Install plan) = install_answer m plan (fault_of (instance_of m) plan.pairs plan.item_prices plan.bin_prices) (current_of m + 1)
+answers_fit m (Discover name source targets) = discover_answer (list_refusal m.fleet name source targets) _ _
+answers_fit m (Join name reach) = join_answer (join_refusal m.fleet name) (m.fleet.last_collector + 1)
+answers_fit m (Leave id) = leave_answer (is_joined m.fleet id)
+answers_fit m (Install plan) = install_answer m plan (fault_of (instance_at m) plan.pairs plan.item_prices plan.bin_prices) (current_of m + 1)
 answers_fit m NextRound = round_answer (nat_lt m.round 4294967295) (m.round + 1)
-answers_fit m (Take id) = take_answer (is_joined m id) (current_of m) m.round (held_by m id)
-answers_fit m (Report collector number target round outcome) =
-    let holder : Option ℕ = holder_in m.published number target in
-    report_answer (is_joined m collector) (taken_by m.taken collector == number) (nat_lt target (length m.known)) (is_holder holder collector) (nat_lt round m.round) (nat_lt m.round round) (is_booked m.booked target round) (taken_by m.taken collector) m.round holder
+answers_fit m (Take id) = take_answer (is_joined m.fleet id) (current_of m) m.round (held_by m id)
+answers_fit m (Report report) =
+    let holder : Option ℕ = holder_in m.published report.allocation report.target in
+    report_answer (is_joined m.fleet report.collector) (taken_by m.taken report.collector == report.allocation) (nat_lt report.target (length m.fleet.known)) (is_holder holder report.collector) (nat_lt report.round m.round) (nat_lt m.round report.round) (is_booked m.booked report.target report.round) (taken_by m.taken report.collector) m.round holder

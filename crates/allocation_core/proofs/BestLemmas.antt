@@ -1,52 +1,35 @@
 -- Every published allocation is the best of its moment.
-use Rattle.std.proofs.Common.{◌≡◌, ℕ, zero, suc, ◌+◌, ◌-◌, ◌<◌, ◌≤◌, List, [], ◌∷◌, ◌++◌, Option, Some, None, All, length, get_or, refl, sym, ap, subst, ◌∙◌, inl, inr, arith, append_assoc, length-append}
-use Rattle.std.specs.Prelude.{AllPairs, map}
-use Rattle.std.proofs.lemmas.List.{length-map, get_or-map, get_or_past, append-nil}
+use Rattle.std.proofs.Common.{◌≡◌, ℕ, zero, suc, ◌+◌, ◌<◌, ◌≤◌, List, [], ◌∷◌, ◌++◌, All, length, get_or, refl, sym, ap, subst, ◌∙◌, inl, inr, arith, append_assoc, length-append}
+use Rattle.std.specs.Prelude.{AllPairs}
+use Rattle.std.proofs.lemmas.List.{append-nil}
 use Rattle.std.proofs.lemmas.List.Elements.{All-nil, All-push}
 use Rattle.std.proofs.lemmas.Bool.{cases_lt}
-use Rattle.price_certificate.specs.Problem.{IsProblem}
 use Rattle.price_certificate.specs.Assignment.{IsOptimal}
-use Rattle.price_certificate.proofs.Verdicts.{fault_none}
-use Rattle.price_certificate.proofs.Optimal.{optimal}
+use Rattle.price_certificate.specs.Certificate.{IsCertified}
+use Rattle.price_certificate.specs.Faults.{NoFaultIsCertified}
+use Rattle.price_certificate.specs.Problem.{IsProblem, Problem}
 use Rattle.handover.specs.Handover.{last_of}
-use Rattle.allocation_core.specs.State.{State, first_state, live_of, is_live, current_pairs}
-use Rattle.handover.specs.Handover.{beside}
-use Rattle.allocation_core.specs.Instances.{instance_of, allocation_of, limits_for, row_in, bin_before_in}
-use Rattle.allocation_core.specs.Steps.{state_after}
+use Rattle.fleet.specs.declared.job.JobSpec.{JobSpec}
+use Rattle.fleet_assignment.specs.Best.{AllocationsAreOnce, FeasibleAreCarriedOver, InstancesAreProblems, IsBest, IsOnce, OptimalIsBest, moved_by}
+use Rattle.fleet_events.specs.declared.answer.Answer.TheVariants.{Published}
+use Rattle.fleet_events.specs.declared.event.Event.{Event}
+use Rattle.fleet_events.specs.declared.event.Event.TheVariants.{Install}
+use Rattle.allocation_core.specs.State.{State, allocation_at, current_pairs, first_state, instance_at}
+use Rattle.allocation_core.specs.Steps.{answer_of, state_after}
 use Rattle.allocation_core.specs.Runs.{state_of}
 use Rattle.allocation_core.specs.Kept.{IsKept}
-use Rattle.allocation_core.specs.Best.{AllBest, WasBest, AlwaysBest, IsBest, IsSound}
-use Rattle.allocation_core.proofs.SoundLemmas.{allocation_ascending, allocation_live, allocation_once, allocation_reaching}
-use Rattle.allocation_core.proofs.WithinLemmas.{allocation_within}
-use Rattle.allocation_core.proofs.TransferLemmas.{IsOnce, best_of}
-use Rattle.allocation_core.specs.declared.event.Event.{Event}
-use Rattle.allocation_core.specs.declared.event.Event.TheVariants.{Install}
-use Rattle.allocation_core.specs.declared.job.JobSpec.{JobSpec}
-use Rattle.allocation_core.proofs.LiveLemmas.{length-chosen}
-use Rattle.allocation_core.proofs.Shapes.{parts_shaped, bin_below, length-limits}
+use Rattle.allocation_core.specs.Best.{AllBest, AlwaysBest, WasBest}
 use Rattle.allocation_core.proofs.StepLemmas.{step_kept, start_kept, publishes, Publishes}
+use Rattle.allocation_core.proofs.RunLemmas.{state_of_append}
 
-none_some : (b : ℕ) → ◌≡◌ {A = Option ℕ} None (Some b) → {X : Type 0} → X
-none_some b e = cc
-
--- the instance of a moment is one
-pub problem_is : (m : State) → IsKept m → IsProblem (instance_of m)
-unfolding instance_of
-problem_is m kept =
-    let j : ℕ = length m.jobs in
-    let live : List ℕ = live_of m in
-    let few : length live ≤ 16384 = omega (arith, length-chosen (is_live m) (length m.known), kept.few_live) in
-    let shaped = parts_shaped m.jobs m.collectors m.known live [] (limits_for m.jobs m.collectors) (map (row_in j m.collectors m.known) live) _ kept.homes kept.few_bins kept.few_collectors few refl refl refl in
-    let bins = length-limits m.jobs m.collectors in
-    record {
-      reach = shaped.reach;
-      items = length-map live (bin_before_in j m.collectors m.known (current_pairs m)) ∙ sym (length-map live (row_in j m.collectors m.known));
-      before_in_range = λ item bin e. elim (cases_lt item (length live)) [
-        | inl l ↦ bin_below j (length (limits_for m.jobs m.collectors)) bin (get_or live item 0) m.collectors m.known (beside (current_pairs m) (get_or live item 0)) kept.homes (omega (arith, bins))
-            (sym (get_or-map (bin_before_in j m.collectors m.known (current_pairs m)) live item 0 None l) ∙ e)
-        | inr past ↦ none_some bin (sym (get_or_past (map (bin_before_in j m.collectors m.known (current_pairs m)) live) item None (omega (arith, length-map live (bin_before_in j m.collectors m.known (current_pairs m))))) ∙ e)
-      ];
-    }
+-- what is known of certificates, instances and allocations
+pub record Laws : Type 0 where
+  pub optimal : (p : Problem) (pairs : List (ℕ × ℕ)) (item_prices bin_prices : List ℕ) → IsProblem p → IsCertified p pairs item_prices bin_prices → IsOptimal p pairs
+  pub faultless : NoFaultIsCertified
+  pub problems : InstancesAreProblems
+  pub carried : FeasibleAreCarriedOver
+  pub best : OptimalIsBest
+  pub once : AllocationsAreOnce
 
 -- what is published stays
 pub record Grows (old new : List (List (ℕ × ℕ))) : Type 0 where
@@ -56,7 +39,7 @@ pub record Grows (old new : List (List (ℕ × ℕ))) : Type 0 where
 pub step_grows : (m : State) (e : Event) → Grows m.published (state_after m e).published
 step_grows m e = elim (publishes m e) [
   | inl same ↦ record { more = []; is = same ∙ sym (append-nil m.published) }
-  | inr p ↦ record { more = allocation_of m p.plan.pairs ∷ []; is = p.grown }
+  | inr p ↦ record { more = allocation_at m p.plan.pairs ∷ []; is = p.grown }
 ]
 
 run_grows : (m : State) (es : List Event) → Grows m.published (state_of m es).published
@@ -78,10 +61,10 @@ get_or-last (y ∷ xs) x zero e = absurd (omega arith)
 get_or-last (y ∷ xs) x (suc k) e = get_or-last xs x k (omega arith)
 
 -- no target stands twice in what is published
-step_once : (m : State) (e : Event) → All IsOnce m.published → All IsOnce (state_after m e).published
-step_once m e once = elim (publishes m e) [
+step_once : Laws → (m : State) (e : Event) → All IsOnce m.published → All IsOnce (state_after m e).published
+step_once laws m e once = elim (publishes m e) [
   | inl same ↦ subst (λ (ps : List (List (ℕ × ℕ))). All IsOnce ps) (sym same) once
-  | inr p ↦ subst (λ (ps : List (List (ℕ × ℕ))). All IsOnce ps) (sym p.grown) (All-push IsOnce m.published (allocation_of m p.plan.pairs) once (allocation_once m p.plan.pairs))
+  | inr p ↦ subst (λ (ps : List (List (ℕ × ℕ))). All IsOnce ps) (sym p.grown) (All-push IsOnce m.published (allocation_at m p.plan.pairs) once (laws.once m.fleet p.plan.pairs))
 ]
 
 last_once : (published : List (List (ℕ × ℕ))) → All IsOnce published → IsOnce (last_of published)
@@ -90,62 +73,62 @@ last_once (pairs ∷ published) once = once (length published) [] (omega arith)
 
 -- the event itself published it
 here_best :
-    (m : State) (e : Event) (es : List Event) (k : ℕ) → IsKept m → All IsOnce m.published → length m.published ≤ k → k < length (state_after m e).published → Publishes m e → WasBest m (e ∷ es) k (get_or (state_of (state_after m e) es).published k [])
-here_best m e es k kept once low high p =
+    Laws → (m : State) (e : Event) (es : List Event) (k : ℕ) → IsKept m → All IsOnce m.published → length m.published ≤ k → k < length (state_after m e).published → Publishes m e → WasBest m (e ∷ es) k (get_or (state_of (state_after m e) es).published k [])
+here_best laws m e es k kept once low high p =
     let rest = run_grows (state_after m e) es in
-    let size : length (state_after m e).published ≡ length m.published + 1 = omega (arith, ap (λ (ps : List (List (ℕ × ℕ))). length ps) p.grown, length-append m.published (allocation_of m p.plan.pairs ∷ [])) in
-    let problem = problem_is m kept in
-    let optimal_plan : IsOptimal (instance_of m) p.plan.pairs = optimal (instance_of m) p.plan.pairs p.plan.item_prices p.plan.bin_prices problem (fault_none (instance_of m) p.plan.pairs p.plan.item_prices p.plan.bin_prices problem p.fine) in
-    let is : get_or (state_of (state_after m e) es).published k [] ≡ allocation_of m p.plan.pairs =
+    let size : length (state_after m e).published ≡ length m.published + 1 = omega (arith, ap (λ (ps : List (List (ℕ × ℕ))). length ps) p.grown, length-append m.published (allocation_at m p.plan.pairs ∷ [])) in
+    let problem = laws.problems m.fleet (current_pairs m) kept.fleet in
+    let optimal_plan : IsOptimal (instance_at m) p.plan.pairs =
+    laws.optimal (instance_at m) p.plan.pairs p.plan.item_prices p.plan.bin_prices problem ((laws.faultless (instance_at m) p.plan.pairs p.plan.item_prices p.plan.bin_prices problem).0 p.fine) in
+    let alone = last_once m.published once in
+    let over = laws.carried m.fleet (current_pairs m) p.plan.pairs kept.fleet alone optimal_plan.feasible in
+    let is : get_or (state_of (state_after m e) es).published k [] ≡ allocation_at m p.plan.pairs =
     ap (λ (ps : List (List (ℕ × ℕ))). get_or ps k []) rest.is
     ∙ get_or-front (state_after m e).published rest.more k high
     ∙ ap (λ (ps : List (List (ℕ × ℕ))). get_or ps k []) p.grown
-    ∙ get_or-last m.published (allocation_of m p.plan.pairs) k (omega (arith, size)) in
-    let sound : IsSound m (allocation_of m p.plan.pairs) =
-    record {
-      live = allocation_live m p.plan.pairs;
-      once = allocation_once m p.plan.pairs;
-      reaching = allocation_reaching m p.plan.pairs kept optimal_plan.feasible.allowed;
-      within = allocation_within m p.plan.pairs kept optimal_plan.feasible;
-    } in
+    ∙ get_or-last m.published (allocation_at m p.plan.pairs) k (omega (arith, size)) in
     record {
       earlier = [];
       plan = p.plan;
       later = es;
       split = ap (λ (f : Event). f ∷ es) p.is;
       before = omega (arith, size);
+      answered = ap (λ (f : Event). answer_of m f) (sym p.is) ∙ p.answered ∙ ap (λ (n : ℕ). Published (n + 1)) (let r : length m.published ≡ k = omega (arith, size) in r);
       granted = ap (λ (f : Event). (state_after m f).published) (sym p.is) ∙ p.grown ∙ ap (λ (ps : List (ℕ × ℕ)). m.published ++ ps ∷ []) (sym is);
-      best = subst (λ (ps : List (ℕ × ℕ)). IsBest m ps) (sym is) (best_of m p.plan.pairs kept problem (last_once m.published once) sound optimal_plan);
-      ascending = subst (λ (ps : List (ℕ × ℕ)). AllPairs (λ (a b : ℕ × ℕ). a.0 < b.0) ps) (sym is) (allocation_ascending m p.plan.pairs);
+      best = subst (λ (ps : List (ℕ × ℕ)). IsBest m.fleet (current_pairs m) ps) (sym is) ((laws.best m.fleet (current_pairs m) p.plan.pairs kept.fleet alone optimal_plan.feasible).0 optimal_plan);
+      ascending = subst (λ (ps : List (ℕ × ℕ)). AllPairs (λ (a b : ℕ × ℕ). a.0 < b.0) ps) (sym is) over.ascending;
       published = is;
       optimal = optimal_plan;
+      moves = over.moves ∙ ap (λ (ps : List (ℕ × ℕ)). moved_by m.fleet (current_pairs m) ps) (sym is);
     }
 
-run_best : (m : State) (es : List Event) (k : ℕ) → IsKept m → All IsOnce m.published → length m.published ≤ k → k < length (state_of m es).published → WasBest m es k (get_or (state_of m es).published k [])
-run_best m [] k kept once low high = absurd (omega arith)
-run_best m (e ∷ es) k kept once low high = elim (cases_lt k (length (state_after m e).published)) [
+run_best : Laws → (m : State) (es : List Event) (k : ℕ) → IsKept m → All IsOnce m.published → length m.published ≤ k → k < length (state_of m es).published → WasBest m es k (get_or (state_of m es).published k [])
+run_best laws m [] k kept once low high = absurd (omega arith)
+run_best laws m (e ∷ es) k kept once low high = elim (cases_lt k (length (state_after m e).published)) [
   | inl l ↦ elim (publishes m e) [
     | inl same ↦ absurd (omega (arith, ap (λ (ps : List (List (ℕ × ℕ))). length ps) same))
-    | inr p ↦ here_best m e es k kept once low l p
+    | inr p ↦ here_best laws m e es k kept once low l p
   ]
   | inr g ↦
-      let later = run_best (state_after m e) es k (step_kept m e kept) (step_once m e once) g high in
+      let later = run_best laws (state_after m e) es k (step_kept m e kept) (step_once laws m e once) g high in
       record {
         earlier = e ∷ later.earlier;
         plan = later.plan;
         later = later.later;
         split = ap (λ (fs : List Event). e ∷ fs) later.split;
         before = later.before;
+        answered = later.answered;
         granted = later.granted;
         best = later.best;
         ascending = later.ascending;
         published = later.published;
         optimal = later.optimal;
+        moves = later.moves;
       }
 ]
 
-pub always_best : AlwaysBest
-always_best jobs events place less = run_best (first_state jobs) events place (start_kept jobs) (All-nil IsOnce) (omega arith) less
+pub always_best : Laws → AlwaysBest
+always_best laws jobs events place less = run_best laws (first_state jobs) events place (start_kept jobs) (All-nil IsOnce) (omega arith) less
 
 -- with more events behind
 farther : (first : State) (events done left : List Event) (place : ℕ) (pairs : List (ℕ × ℕ)) → events ≡ done ++ left → WasBest first done place pairs → WasBest first events place pairs
@@ -156,16 +139,25 @@ farther first events done left place pairs e was =
       later = was.later ++ left;
       split = e ∙ ap (λ (es : List Event). es ++ left) was.split ∙ append_assoc was.earlier (Install was.plan ∷ was.later) left;
       before = was.before;
+      answered = was.answered;
       granted = was.granted;
       best = was.best;
       ascending = was.ascending;
       published = was.published;
       optimal = was.optimal;
+      moves = was.moves;
     }
 
 -- a run that did the first of the events
-pub best_after : (jobs : List JobSpec) (events done left : List Event) (old new : State) → old ≡ first_state jobs → events ≡ done ++ left → new ≡ state_of old done → AllBest (first_state jobs) events new
-best_after jobs events done left old new opened split is =
+pub best_after : AlwaysBest → (jobs : List JobSpec) (events done left : List Event) (old new : State) → old ≡ first_state jobs → events ≡ done ++ left → new ≡ state_of old done → AllBest (first_state jobs) events new
+best_after always jobs events done left old new opened split is =
     let same : new ≡ state_of (first_state jobs) done = is ∙ ap (λ (m : State). state_of m done) opened in
     subst (λ (m : State). AllBest (first_state jobs) events m) (sym same)
-    (λ place less. farther (first_state jobs) events done left place (get_or (state_of (first_state jobs) done).published place []) split (always_best jobs done place less))
+    (λ place less. farther (first_state jobs) events done left place (get_or (state_of (first_state jobs) done).published place []) split (always jobs done place less))
+
+-- the same, after earlier events
+pub best_after_earlier : AlwaysBest → (jobs : List JobSpec) (earlier events done left : List Event) (old new : State) → old ≡ state_of (first_state jobs) earlier → events ≡ done ++ left → new ≡ state_of old done → AllBest (first_state jobs) (earlier ++ events) new
+best_after_earlier always jobs earlier events done left old new reached split is =
+    best_after always jobs (earlier ++ events) (earlier ++ done) left (first_state jobs) new refl
+    (ap (λ (es : List Event). earlier ++ es) split ∙ sym (append_assoc earlier done left))
+    (is ∙ ap (λ (m : State). state_of m done) reached ∙ sym (state_of_append (first_state jobs) earlier done))

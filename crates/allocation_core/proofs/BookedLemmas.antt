@@ -15,21 +15,22 @@ use Rattle.scrape_books.specs.Kept.{RoundsRise}
 use Rattle.scrape_books.specs.declared.report.Entry.{Entry}
 use Rattle.scrape_books.specs.declared.report.Outcome.{Outcome}
 use Rattle.label_sets.specs.Target.{FinalTarget}
-use Rattle.allocation_core.specs.State.{State, first_state, is_joined}
-use Rattle.allocation_core.specs.Jobs.{job_named}
-use Rattle.allocation_core.specs.Steps.{report_refusal, answer_of, answer_by, state_after, changed, discovered, entry_of, gained, granted, is_booked, refusal_of}
+use Rattle.fleet.specs.Fleet.{is_joined}
+use Rattle.allocation_core.specs.State.{State, first_state}
+use Rattle.allocation_core.specs.Steps.{report_refusal, answer_of, answer_by, state_after, changed, entry_of, gained, granted, is_booked, refusal_of}
 use Rattle.allocation_core.specs.Runs.{state_of}
 use Rattle.allocation_core.specs.Kept.{IsKept}
 use Rattle.allocation_core.specs.Booked.{AllBooked, AlwaysBooked, WasBooked, report_of}
-use Rattle.allocation_core.specs.declared.job.JobSpec.{JobSpec}
-use Rattle.allocation_core.specs.declared.event.Event.{Event}
-use Rattle.allocation_core.specs.declared.event.Event.TheVariants.{Discover, Join, Leave, Install, NextRound, Take, Report}
-use Rattle.allocation_core.specs.declared.answer.Answer.{Answer}
-use Rattle.allocation_core.specs.declared.answer.Answer.TheVariants.{Booked}
-use Rattle.allocation_core.specs.declared.answer.Refusal.{Refusal}
+use Rattle.fleet.specs.declared.job.JobSpec.{JobSpec}
+use Rattle.fleet_events.specs.declared.event.Event.{Event}
+use Rattle.fleet_events.specs.declared.event.Event.TheVariants.{Discover, Join, Leave, Install, NextRound, Take, Report}
+use Rattle.fleet_events.specs.declared.answer.Answer.{Answer}
+use Rattle.fleet_events.specs.declared.answer.Answer.TheVariants.{Booked}
+use Rattle.fleet_events.specs.declared.refusal.Refusal.{Refusal}
 use Rattle.allocation_core.proofs.Admission.{Admitted, admitted}
 use Rattle.allocation_core.proofs.BestLemmas.{Grows, step_grows}
 use Rattle.allocation_core.proofs.StepLemmas.{step_kept, start_kept}
+use Rattle.allocation_core.proofs.RunLemmas.{state_of_append}
 
 -- an event books nothing, or it is a Report that nothing is against
 pub record Books (m : State) (e : Event) : Type 0 where
@@ -43,10 +44,6 @@ same_by : (m n : State) (o : Option Refusal) → n.booked ≡ m.booked → (if i
 same_by m n None e = e
 same_by m n (Some r) e = refl
 
-listed_same : (m : State) (o : Option ℕ) (source : ℕ) (targets : List FinalTarget) → (option_map_or (λ (job : ℕ). discovered m job source targets) o m).booked ≡ m.booked
-listed_same m None source targets = refl
-listed_same m (Some job) source targets = refl
-
 report_by :
     (m n : State) (entry : ℕ × Entry) (o : Option Refusal) → (o ≡ None → Admitted m entry.1.collector entry.1.number entry.0 entry.1.round) → n.booked ≡ m.booked ++ entry ∷ []
     → ((if is_some o then m else n).booked ≡ m.booked) ⊎ (Admitted m entry.1.collector entry.1.number entry.0 entry.1.round × (answer_by o Booked ≡ Booked) × ((if is_some o then m else n).booked ≡ m.booked ++ entry ∷ []))
@@ -55,15 +52,15 @@ report_by m n entry (Some r) free grown = inl refl
 
 pub books : (m : State) (e : Event) → ((state_after m e).booked ≡ m.booked) ⊎ Books m e
 unfolding state_after answer_of
-books m (Discover name source targets) = inl (same_by m _ (refusal_of m (Discover name source targets)) (listed_same m (job_named m.jobs name) source targets))
+books m (Discover name source targets) = inl (same_by m _ (refusal_of m (Discover name source targets)) refl)
 books m (Join name reach) = inl (same_by m _ (refusal_of m (Join name reach)) refl)
 books m (Leave id) = inl (same_by m _ (refusal_of m (Leave id)) refl)
 books m (Install plan) = inl (same_by m _ (refusal_of m (Install plan)) refl)
 books m NextRound = inl (same_by m _ (refusal_of m NextRound) refl)
 books m (Take id) = inl (same_by m _ (refusal_of m (Take id)) refl)
-books m (Report collector number target round outcome) =
-    let entry : ℕ × Entry = (target, entry_of collector number round outcome) in
-    elim (report_by m (changed m (report_of entry)) entry (refusal_of m (report_of entry)) (admitted m collector number target round outcome) refl) [
+books m (Report report) =
+    let entry : ℕ × Entry = (report.target, entry_of report.collector report.allocation report.round report.outcome) in
+    elim (report_by m (changed m (report_of entry)) entry (refusal_of m (report_of entry)) (admitted m report.collector report.allocation report.target report.round report.outcome) refl) [
       | inl same ↦ inl same
       | inr grown ↦ inr (record { entry = entry; is = refl; free = grown.0; answered = grown.1; grown = grown.2 })
     ]
@@ -227,16 +224,16 @@ farther first events done left place b e was =
     }
 
 -- a run that did the first of the events
-pub booked_after : (jobs : List JobSpec) (events done left : List Event) (old new : State) → old ≡ first_state jobs → events ≡ done ++ left → new ≡ state_of old done → AllBooked (first_state jobs) events new
-booked_after jobs events done left old new opened split is =
+pub booked_after : AlwaysBooked → (jobs : List JobSpec) (events done left : List Event) (old new : State) → old ≡ first_state jobs → events ≡ done ++ left → new ≡ state_of old done → AllBooked (first_state jobs) events new
+booked_after always jobs events done left old new opened split is =
     let same : new ≡ state_of (first_state jobs) done = is ∙ ap (λ (m : State). state_of m done) opened in
-    let all = always_booked jobs done in
+    let all = always jobs done in
     subst (λ (m : State). AllBooked (first_state jobs) events m) (sym same)
     (record { each = λ place b there. farther (first_state jobs) events done left place b split (all.each place b there); held = all.held; once = all.once })
 
 -- the total rises by what an event books
 gained_by : (m n : State) (collector number target round : ℕ) (outcome : Outcome) (o : Option Refusal) → n.booked ≡ m.booked ++ (target, entry_of collector number round outcome) ∷ []
-    → total_of (if is_some o then m else n).booked ≡ total_of m.booked + gained (Report collector number target round outcome) (answer_by o Booked)
+    → total_of (if is_some o then m else n).booked ≡ total_of m.booked + gained (report_of (target, entry_of collector number round outcome)) (answer_by o Booked)
 gained_by m n collector number target round outcome None grown =
     let b : ℕ × Entry = (target, entry_of collector number round outcome) in
     let more = sum_by-append (λ (q : ℕ × Entry). samples_of q.1.outcome) m.booked (b ∷ []) in
@@ -249,18 +246,25 @@ nothing_by m n o e = omega (arith, ap total_of (same_by m n o e))
 
 pub total_rises : (m : State) (e : Event) → total_of (state_after m e).booked ≡ total_of m.booked + gained e (answer_of m e)
 unfolding state_after answer_of
-total_rises m (Discover name source targets) = nothing_by m (changed m (Discover name source targets)) (refusal_of m (Discover name source targets)) (listed_same m (job_named m.jobs name) source targets)
+total_rises m (Discover name source targets) = nothing_by m (changed m (Discover name source targets)) (refusal_of m (Discover name source targets)) refl
 total_rises m (Join name reach) = nothing_by m (changed m (Join name reach)) (refusal_of m (Join name reach)) refl
 total_rises m (Leave id) = nothing_by m (changed m (Leave id)) (refusal_of m (Leave id)) refl
 total_rises m (Install plan) = nothing_by m (changed m (Install plan)) (refusal_of m (Install plan)) refl
 total_rises m NextRound = nothing_by m (changed m NextRound) (refusal_of m NextRound) refl
 total_rises m (Take id) = nothing_by m (changed m (Take id)) (refusal_of m (Take id)) refl
-total_rises m (Report collector number target round outcome) =
-    gained_by m (changed m (Report collector number target round outcome)) collector number target round outcome (refusal_of m (Report collector number target round outcome)) refl
+total_rises m (Report report) =
+    gained_by m (changed m (Report report)) report.collector report.allocation report.target report.round report.outcome (refusal_of m (Report report)) refl
 
-nothing_against : (m : State) (collector number target round : ℕ) (outcome : Outcome) → is_joined m collector ≡ true → report_refusal m collector number target round ≡ None → refusal_of m (Report collector number target round outcome) ≡ None
-nothing_against m collector number target round outcome joined free = cond-true (is_joined m collector) _ _ joined ∙ free
+nothing_against : (m : State) (collector number target round : ℕ) (outcome : Outcome) → is_joined m.fleet collector ≡ true → report_refusal m collector number target round ≡ None → refusal_of m (report_of (target, entry_of collector number round outcome)) ≡ None
+nothing_against m collector number target round outcome joined free = cond-true (is_joined m.fleet collector) _ _ joined ∙ free
 
-pub booked_answer : (m : State) (collector number target round : ℕ) (outcome : Outcome) → is_joined m collector ≡ true → report_refusal m collector number target round ≡ None → Booked ≡ answer_of m (Report collector number target round outcome)
+pub booked_answer : (m : State) (collector number target round : ℕ) (outcome : Outcome) → is_joined m.fleet collector ≡ true → report_refusal m collector number target round ≡ None → Booked ≡ answer_of m (report_of (target, entry_of collector number round outcome))
 unfolding answer_of
 booked_answer m collector number target round outcome joined free = ap (λ (o : Option Refusal). answer_by o Booked) (sym (nothing_against m collector number target round outcome joined free))
+
+-- the same, after earlier events
+pub booked_after_earlier : AlwaysBooked → (jobs : List JobSpec) (earlier events done left : List Event) (old new : State) → old ≡ state_of (first_state jobs) earlier → events ≡ done ++ left → new ≡ state_of old done → AllBooked (first_state jobs) (earlier ++ events) new
+booked_after_earlier always jobs earlier events done left old new reached split is =
+    booked_after always jobs (earlier ++ events) (earlier ++ done) left (first_state jobs) new refl
+    (ap (λ (es : List Event). earlier ++ es) split ∙ sym (append_assoc earlier done left))
+    (is ∙ ap (λ (m : State). state_of m done) reached ∙ sym (state_of_append (first_state jobs) earlier done))

@@ -1,10 +1,10 @@
 -- Which answers an event can have.
 use Rattle.std.specs.Prelude.{Bool, true, false, IsTrue}
-use Rattle.allocation_core.specs.declared.event.Event.{Event}
-use Rattle.allocation_core.specs.declared.event.Event.TheVariants.{Discover, Join, Leave, Install, NextRound, Take, Report}
-use Rattle.allocation_core.specs.declared.answer.Answer.{Answer}
-use Rattle.allocation_core.specs.declared.answer.Answer.TheVariants.{Discovered, Joined, Left, Published, RoundOpen, Taken, Booked, Not}
-use Rattle.allocation_core.specs.declared.answer.Refusal.TheVariants.{UnknownJob, UnknownSource, TooManyLive, TooManyKnown, AlreadyJoined, TooManyCollectors, IdsSpent, UnknownCollector, Refused, Unchanged, NumbersSpent, RoundsSpent, NotTaken, UnknownTarget, NotHolder, RoundClosed, RoundNotOpen, AlreadyBooked}
+use Rattle.fleet_events.specs.declared.event.Event.{Event}
+use Rattle.fleet_events.specs.declared.event.Event.TheVariants.{Discover, Join, Leave, Install, NextRound, Take, Report}
+use Rattle.fleet_events.specs.declared.answer.Answer.{Answer}
+use Rattle.fleet_events.specs.declared.answer.Answer.TheVariants.{Discovered, Joined, Left, Published, RoundOpen, Taken, Booked, Not}
+use Rattle.fleet_events.specs.declared.refusal.Refusal.TheVariants.{UnknownJob, UnknownSource, TooManyLive, TooManyKnown, AlreadyJoined, TooManyCollectors, IdsSpent, UnknownCollector, Refused, Unchanged, NumbersSpent, RoundsSpent, NotTaken, UnknownTarget, NotHolder, RoundClosed, RoundNotOpen, AlreadyBooked}
 
 abbrev pub is_discover_answer : Answer → Bool
 is_discover_answer (Discovered added removed) = true
@@ -61,7 +61,7 @@ IsAnswerTo (Leave id) answer = IsTrue (is_leave_answer answer)
 IsAnswerTo (Install plan) answer = IsTrue (is_install_answer answer)
 IsAnswerTo NextRound answer = IsTrue (is_round_answer answer)
 IsAnswerTo (Take id) answer = IsTrue (is_take_answer answer)
-IsAnswerTo (Report collector number target round outcome) answer = IsTrue (is_report_answer answer)
+IsAnswerTo (Report report) answer = IsTrue (is_report_answer answer)
 
 -- the events that take no memory
 abbrev pub needs_no_memory : Event → Bool
@@ -73,5 +73,5 @@ needs_no_memory _ = false
 abbrev pub checks_first : Event → Bool
 checks_first (Join name reach) = true
 checks_first (Take id) = true
-checks_first (Report collector number target round outcome) = true
+checks_first (Report report) = true
 checks_first _ = false

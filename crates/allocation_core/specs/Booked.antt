@@ -3,17 +3,18 @@ use Rattle.std.specs.Prelude.{◌≡◌, ℕ, List, ◌∷◌, ◌++◌, All, So
 use Rattle.handover.specs.Handover.{holder_in, taken_by}
 use Rattle.scrape_books.specs.Kept.{RoundsRise}
 use Rattle.scrape_books.specs.declared.report.Entry.{Entry}
-use Rattle.allocation_core.specs.State.{State, first_state, is_joined}
+use Rattle.fleet.specs.Fleet.{is_joined}
+use Rattle.allocation_core.specs.State.{State, first_state}
 use Rattle.allocation_core.specs.Steps.{answer_of}
 use Rattle.allocation_core.specs.Runs.{state_of}
-use Rattle.allocation_core.specs.declared.job.JobSpec.{JobSpec}
-use Rattle.allocation_core.specs.declared.event.Event.{Event}
-use Rattle.allocation_core.specs.declared.event.Event.TheVariants.{Report}
-use Rattle.allocation_core.specs.declared.answer.Answer.TheVariants.{Booked}
+use Rattle.fleet.specs.declared.job.JobSpec.{JobSpec}
+use Rattle.fleet_events.specs.declared.event.Event.{Event}
+use Rattle.fleet_events.specs.declared.event.Event.TheVariants.{Report}
+use Rattle.fleet_events.specs.declared.answer.Answer.TheVariants.{Booked}
 
 -- The Report that books an entry of a target.
 abbrev pub report_of : ℕ × Entry → Event
-report_of b = Report b.1.collector b.1.number b.0 b.1.round b.1.outcome
+report_of b = Report (record { collector = b.1.collector; allocation = b.1.number; target = b.0; round = b.1.round; outcome = b.1.outcome })
 
 -- A Report among the events booked the entry, in this place. Just before that event its collector was live, had last taken the
 -- allocation that the report names, and held the target there; and the round was the open one.
@@ -23,7 +24,7 @@ pub record WasBooked (first : State) (events : List Event) (place : ℕ) (b : �
   pub split : events ≡ earlier ++ report_of b ∷ later
   pub before : length (state_of first earlier).booked ≡ place
   pub answered : answer_of (state_of first earlier) (report_of b) ≡ Booked
-  pub joined : is_joined (state_of first earlier) b.1.collector ≡ true
+  pub joined : is_joined (state_of first earlier).fleet b.1.collector ≡ true
   pub taken : taken_by (state_of first earlier).taken b.1.collector ≡ b.1.number
   pub held : holder_in (state_of first earlier).published b.1.number b.0 ≡ Some b.1.collector
   pub opened : (state_of first earlier).round ≡ b.1.round

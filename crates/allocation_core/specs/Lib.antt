@@ -1,12 +1,8 @@
 pub mod Answers
 pub mod Best
 pub mod Booked
-pub mod Instances
-pub mod Jobs
+pub mod Installed
 pub mod Kept
-pub mod Known
-pub mod Lines
-pub mod Live
 pub mod Runs
 pub mod State
 pub mod Steps

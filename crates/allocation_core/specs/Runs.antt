@@ -2,8 +2,8 @@
 use Rattle.std.specs.Prelude.{◌≡◌, List, [], ◌∷◌, ◌++◌}
 use Rattle.allocation_core.specs.State.{State}
 use Rattle.allocation_core.specs.Steps.{answer_of, state_after}
-use Rattle.allocation_core.specs.declared.event.Event.{Event}
-use Rattle.allocation_core.specs.declared.answer.Answer.{Answer}
+use Rattle.fleet_events.specs.declared.event.Event.{Event}
+use Rattle.fleet_events.specs.declared.answer.Answer.{Answer}
 
 abbrev pub answers_of : State → List Event → List Answer
 answers_of m [] = []
@@ -16,4 +16,4 @@ state_of m (event ∷ events) = state_of (state_after m event) events
 -- the run stopped after these answers, at this state, with events left
 abbrev pub StopsAt : State → List Event → List Answer → State → Type 0
 StopsAt old events answers new =
-    (done : List Event) × (left : List Event) × (events ≡ done ++ left) × (answers ≡ answers_of old done) × (new ≡ state_of old done)
+    (done : List Event) × (wanting : Event) × (left : List Event) × (events ≡ done ++ wanting ∷ left) × (answers ≡ answers_of old done) × (new ≡ state_of old done)

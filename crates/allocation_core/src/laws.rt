@@ -1,17 +1,32 @@
+//! Laws over all lists of events.
 ghost use Rattle.allocation_core.specs.State.{State};
 ghost use Rattle.allocation_core.specs.Steps.{answer_of};
 ghost use Rattle.allocation_core.specs.Answers.{IsAnswerTo};
 ghost use Rattle.allocation_core.specs.Best.{AlwaysBest};
 ghost use Rattle.allocation_core.specs.Booked.{AlwaysBooked};
-ghost use Rattle.allocation_core.specs.declared.event.Event.{Event};
+ghost use Rattle.allocation_core.specs.Installed.{CertifiedAreInstalled};
+ghost use Rattle.allocation_core.specs.Kept.{AlwaysKept};
+ghost use Rattle.fleet_events.specs.declared.event.Event.{Event};
+
+use fleet_assignment::{
+    allocations_are_once, feasible_are_carried_over, instances_are_problems, optimal_is_best,
+};
+use price_certificate::{certified_is_optimal, no_fault_is_certified};
 
 /// Over every list of events, each published allocation is the best of the moment just before its Install. It is sound:
 /// only live targets, each at most once and in ascending order, each at a live collector that reaches it, and no collector
 /// with more of a job's targets than the job's limit. No sound allocation of that moment covers more targets, and none that
-/// covers as many has fewer pairs that are not in the preceding allocation.
+/// covers as many loses fewer of those pairs of the preceding allocation that could be kept.
 pub fn published_are_best()
     ensures { AlwaysBest }
-{}
+{
+    instances_are_problems();
+    feasible_are_carried_over();
+    optimal_is_best();
+    allocations_are_once();
+    certified_is_optimal();
+    no_fault_is_certified();
+}
 
 /// Over every list of events, a report is booked only from the target's holder in the allocation that it names, the one that
 /// this collector last took, in the round then open, and at most once for each target and round.
@@ -22,4 +37,19 @@ pub fn booked_by_holders()
 /// Each event has only answers of its kind.
 pub fn answers_fit()
     ensures { (m : State) (event : Event) → IsAnswerTo event (answer_of m event) }
+{}
+
+/// Over every list of events, an Install of a plan that is certified for the instance of the moment is published, unless its
+/// pairs are those of the current allocation or the last number is given.
+pub fn certified_are_installed()
+    ensures { CertifiedAreInstalled }
+{
+    instances_are_problems();
+    no_fault_is_certified();
+}
+
+/// What every state keeps, over every list of events: no limit is passed, a source lists targets of its own job alone and in
+/// ascending order, no known target and no name of a live collector stands twice.
+pub fn states_are_kept()
+    ensures { AlwaysKept }
 {}

@@ -5,32 +5,17 @@
 //! answer, and the state after it.
 #![tactic(auto)]
 
-mod allocation;
-mod answer;
-mod collectors;
-mod error;
-mod event;
-mod job;
-mod jobs;
-mod known;
+mod certificate;
 mod laws;
-mod listing;
-mod live;
 mod machine;
-mod numbers;
-mod pairs;
-mod places;
-mod problem;
 mod runs;
 #[cfg(test)]
 mod tests;
 
-pub use answer::{Answer, Refusal};
-pub use error::OpenError;
-pub use event::Event;
-pub use handover::{CollectorId, TargetId};
-pub use job::JobSpec;
-pub use laws::{answers_fit, booked_by_holders, published_are_best};
+pub use fleet_events::{Answer, CollectorId, Event, Outcome, Refusal, Report, TargetId};
+pub use fleet::{JobSpec, OpenError};
+pub use laws::{
+    answers_fit, booked_by_holders, certified_are_installed, published_are_best, states_are_kept,
+};
 pub use machine::Core;
 pub use runs::{Stopped, run};
-pub use scrape_books::Outcome;

@@ -1,9 +1,12 @@
 ghost use Rattle.std.specs.Prelude.{◌≡◌, ◌↔◌, ◌+◌, Some, None, Ok, Err, true, false, slice_get, MatchOption, IfOk, IsOk, OnOk, OnErr};
 ghost use Rattle.scrape_books.specs.Books.{total_of};
-ghost use Rattle.allocation_core.specs.State.{first_state, current_of, held_by, id_named};
-ghost use Rattle.allocation_core.specs.Jobs.{are_jobs};
+ghost use Rattle.allocation_core.specs.State.{current_of, first_state, held_by};
+ghost use Rattle.fleet.specs.Fleet.{id_named};
+ghost use Rattle.fleet.specs.Jobs.{are_jobs};
 ghost use Rattle.allocation_core.specs.Steps.{answer_of, refusal_of, state_after, gained};
 ghost use Rattle.allocation_core.specs.Answers.{checks_first, needs_no_memory};
+ghost use Rattle.allocation_core.specs.Installed.{IsAnswerToCertified};
+ghost use Rattle.allocation_core.specs.Kept.{IsKept};
 
 mod discovering;
 mod installing;
@@ -11,15 +14,10 @@ mod joining;
 mod reporting;
 mod taking;
 
-use crate::answer::Answer;
-use crate::collectors::id_named;
-use crate::error::OpenError;
-use crate::event::Event;
-use crate::job::{Collector, JobSpec, Known};
-use crate::jobs::{are_jobs, nothing_listed};
-use crate::problem::{empty_instance, empty_plan};
-use handover::{CollectorId, Holders, TargetId};
-use indexmap::IndexSet;
+use crate::certificate::{empty_instance, empty_plan};
+use fleet::{Fleet, JobSpec, OpenError};
+use fleet_events::{Answer, CollectorId, Event, TargetId};
+use handover::Holders;
 use label_sets::Target;
 use lists::{List, Plain};
 use price_certificate::{Instance, Plan};
@@ -31,11 +29,7 @@ use std::marker::Model;
 #[derive(Drop)]
 pub struct Core {
     alloc: Global,
-    jobs: List<JobSpec>,
-    listed: Vec<List<List<usize>>>,
-    known: IndexSet<Known>,
-    collectors: Vec<Collector>,
-    given: u32,
+    fleet: Fleet,
     holders: Holders,
     instance: Instance,
     plan: Plan,
@@ -49,9 +43,9 @@ impl Model for Core {
 
     ghost Value = { State };
 
-    ghost view = { λ c. record { jobs = c.jobs; listed = c.listed.items; known = c.known.keys; collectors = c.collectors.items; given = c.given; published = c.holders.published; problem = c.instance; plan = c.plan; taken = c.holders.taken; round = c.round; booked = c.books } };
+    ghost view = { λ c. record { fleet = c.fleet; published = c.holders.published; problem = c.instance; plan = c.plan; taken = c.holders.taken; round = c.round; booked = c.books } };
 
-    ghost invariant = { λ c. IsKept (record { jobs = c.jobs; listed = c.listed.items; known = c.known.keys; collectors = c.collectors.items; given = c.given; published = c.holders.published; problem = c.instance; plan = c.plan; taken = c.holders.taken; round = c.round; booked = c.books }) };
+    ghost invariant = { λ c. IsKept (record { fleet = c.fleet; published = c.holders.published; problem = c.instance; plan = c.plan; taken = c.holders.taken; round = c.round; booked = c.books }) };
 }
 
 impl Core {
@@ -60,18 +54,11 @@ impl Core {
         ensures first { IfOk result (λ c. c ≡ first_state jobs.items) }
         ensures bad { (result ≡ Err OpenError.BadJobs) ↔ (are_jobs jobs.items ≡ false) }
     {
-        if !are_jobs(jobs.as_slice()) {
-            return Err(OpenError::BadJobs);
-        }
-        let listed = nothing_listed(alloc, jobs.as_slice())?;
+        let fleet = Fleet::open(alloc, jobs)?;
         let instance = empty_instance(alloc)?;
         Ok(Core {
             alloc,
-            jobs: List::from_vec(jobs),
-            listed,
-            known: IndexSet::new(alloc),
-            collectors: Vec::new(alloc),
-            given: 0,
+            fleet,
             holders: Holders::open(alloc),
             instance,
             plan: empty_plan(alloc),
@@ -89,6 +76,7 @@ impl Core {
         ensures total { IfOk result (λ a. total_of self.new.booked ≡ total_of self.old.booked + gained event a) }
         ensures err { OnErr result (self.new ≡ self.old) }
         ensures memory { needs_no_memory event ≡ true → IsOk result }
+        ensures certified { IfOk result (IsAnswerToCertified self.old event) }
         ensures late { checks_first event ≡ true → OnErr result (refusal_of self.old event ≡ None) }
     {
         match event {
@@ -102,19 +90,14 @@ impl Core {
             Event::Install(plan) => self.install(plan),
             Event::NextRound => Ok(self.next_round()),
             Event::Take(collector) => self.take(collector),
-            Event::Report {
-                collector,
-                number,
-                target,
-                round,
-                outcome,
-            } => self.report(collector, number, target, round, outcome),
+            Event::Report(report) => self.report(report),
         }
     }
 
-    /// The number of the current allocation, 0 where none is published.
+    /// The number of the current allocation, 0 where none is published. Its contract also says what every state keeps.
     pub fn current(&self) -> u32
-        ensures { result ≡ current_of self.now }
+        ensures number { result ≡ current_of self.now }
+        ensures kept { IsKept self.now }
     {
         self.holders.current()
     }
@@ -135,20 +118,17 @@ impl Core {
 
     /// The number of the live collector of a name.
     pub fn named(&self, name: &str) -> Option<CollectorId>
-        ensures { result ≡ id_named self.now.collectors name.now }
+        ensures { result ≡ id_named self.now.fleet.collectors name.now }
     {
-        id_named(self.collectors.as_slice(), name)
+        self.fleet.id_named(name)
     }
 
     /// The place of a target's job, and the target.
     pub fn target(&self, number: TargetId) -> Option<(usize, &Target)>
-        ensures { MatchOption result (slice_get self.now.known number ≡ None)
-            (λ r. slice_get self.now.known number ≡ Some (record { job = r.0; target = r.1.now })) }
+        ensures { MatchOption result (slice_get self.now.fleet.known number ≡ None)
+            (λ r. slice_get self.now.fleet.known number ≡ Some (record { job = r.0; target = r.1.now })) }
     {
-        match self.known.get_index(number as usize) {
-            Some(known) => Some((known.job, &known.target)),
-            None => None,
-        }
+        self.fleet.target(number)
     }
 
     /// The targets that a collector holds in the current allocation, in order of number.

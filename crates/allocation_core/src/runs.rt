@@ -1,12 +1,14 @@
-ghost use Rattle.std.specs.Prelude.{◌≡◌, List, IfOk, IfErr, OnOk};
-ghost use Rattle.allocation_core.specs.declared.job.JobSpec.{JobSpec};
+//! Runs of the machine over a list of events.
+ghost use Rattle.std.specs.Prelude.{◌≡◌, ◌++◌, List, IfOk, IfErr, OnOk};
+ghost use Rattle.fleet.specs.declared.job.JobSpec.{JobSpec};
 ghost use Rattle.allocation_core.specs.State.{first_state};
 ghost use Rattle.allocation_core.specs.Best.{AllBest};
 ghost use Rattle.allocation_core.specs.Booked.{AllBooked};
 ghost use Rattle.allocation_core.specs.Runs.{answers_of, state_of, StopsAt};
+ghost use Rattle.fleet_events.specs.declared.event.Event.{Event};
 
-use crate::answer::Answer;
-use crate::event::Event;
+use fleet_events::{Answer, Event};
+use crate::laws::{booked_by_holders, published_are_best};
 use crate::machine::Core;
 
 /// A run that stopped for want of memory. The core is as after the events that were answered.
@@ -15,16 +17,18 @@ pub struct Stopped {
     pub answers: Vec<Answer>,
 }
 
-/// Applies events in order, and stops at the first want of memory. Each allocation of a core that was just opened is then
-/// the best of its moment, in the sense of `published_are_best`, and each booked report is one of the target's holder, in the
-/// sense of `booked_by_holders`.
+/// Applies events in order, and stops at the first want of memory, with that event and those behind it left. Whatever events
+/// the core had before, each of its allocations is then the best of its moment, in the sense of `published_are_best`, and each
+/// booked report is one of the target's holder, in the sense of `booked_by_holders`.
 pub fn run(core: &mut Core, events: Vec<Event>) -> Result<Vec<Answer>, Stopped>
     ensures answers { IfOk result (λ v. v.items ≡ answers_of core.old events.items) }
     ensures state { OnOk result (core.new ≡ state_of core.old events.items) }
-    ensures best { (jobs : List JobSpec) → core.old ≡ first_state jobs → AllBest (first_state jobs) events.items core.new }
-    ensures booked { (jobs : List JobSpec) → core.old ≡ first_state jobs → AllBooked (first_state jobs) events.items core.new }
+    ensures best { (jobs : List JobSpec) (earlier : List Event) → core.old ≡ state_of (first_state jobs) earlier → AllBest (first_state jobs) (earlier ++ events.items) core.new }
+    ensures booked { (jobs : List JobSpec) (earlier : List Event) → core.old ≡ state_of (first_state jobs) earlier → AllBooked (first_state jobs) (earlier ++ events.items) core.new }
     ensures stopped { IfErr result (λ s. StopsAt core.old events.items s.answers.items core.new) }
 {
+    published_are_best();
+    booked_by_holders();
     let mut answers = Vec::new(*events.allocator());
     if answers.reserve(events.len()).is_err() {
         return Err(Stopped { answers });

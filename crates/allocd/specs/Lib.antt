@@ -1,6 +1,8 @@
 pub mod Reading
 pub mod Writing
 pub mod Unreadable
+pub mod Ending
+pub mod Answer
 pub mod Check
 pub mod Plan
 pub mod Replay

@@ -1,11 +1,12 @@
 -- What a program reads.
 use Rattle.std.specs.Prelude.{◌≡◌, ◌<◌, ◌≤◌, ℕ, List, length}
+use Rattle.allocd.specs.declared.input.TheConstants.{MOST_INPUT}
 use Rattle.allocd.specs.declared.input.Input.{Input}
 use Rattle.allocd.specs.declared.input.Input.TheVariants.{Whole, TooLong}
 
 -- the most bytes that a program takes
 abbrev pub most_input : ℕ
-most_input = 67108864
+most_input = MOST_INPUT
 
 -- what is taken of these bytes
 abbrev pub IsTaken : List ℕ → Input → Type 0

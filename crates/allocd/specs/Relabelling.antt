@@ -1,6 +1,5 @@
--- What `allocd relabel` writes, and with which status.
-use Rattle.std.specs.Prelude.{◌≡◌, ◌≢◌, ◌<◌, ◌≤◌, ◌++◌, ◌&&◌, ◌⊎◌, ℕ, List, [], Bool, true, Option, Some, None, Ok, option_and_then, is_some, unwrap_or, length, codes, if◌then◌else◌}
-use Rattle.std.specs.Io.KnownBytes.{Appends}
+-- What `allocd relabel` answers.
+use Rattle.std.specs.Prelude.{◌≡◌, ◌≢◌, ◌++◌, ◌&&◌, ◌⊎◌, ℕ, List, [], Bool, true, Option, Some, None, Ok, option_and_then, is_some, unwrap_or, codes, if◌then◌else◌}
 use Rattle.std.specs.Fmt.{decimal}
 use Rattle.serde_json.specs.Data.{Data, Items, Members, no_members, member}
 use Rattle.serde_json.specs.Find.{as_str, as_array, as_object}
@@ -20,12 +19,14 @@ use Rattle.relabel.specs.declared.error.RulesError.{RulesError}
 use Rattle.relabel.specs.declared.rule.RuleSettings.{RuleSettings}
 use Rattle.relabel.specs.declared.rules.Relabelled.{Relabelled}
 use Rattle.relabel.specs.declared.rules.Relabelled.TheVariants as rules
-use Rattle.allocd.specs.Reading.{most_input}
-use Rattle.allocd.specs.Unreadable.{unreadable_line}
-use Rattle.allocd.specs.Writing.{AppendsPart, StopsPart}
-use Rattle.allocd.specs.declared.unreadable.Unreadable.TheVariants.{TooLong, NotJson, Shape}
-use Rattle.allocd.specs.declared.relabelling.Outcome.{Outcome}
-use Rattle.allocd.specs.declared.relabelling.Outcome.TheVariants.{Unreadable, BadLabelName, RefusedRule, Kept, Dropped}
+use Rattle.allocd.specs.Answer.{Answers}
+use Rattle.allocd.specs.declared.answer.Answer.{Answer}
+use Rattle.allocd.specs.declared.answer.Answer.TheVariants.{NotRead, Text}
+use Rattle.allocd.specs.declared.ending.Status.{Status}
+use Rattle.allocd.specs.declared.ending.Status.TheVariants.{Done, Refused}
+use Rattle.allocd.specs.declared.unreadable.Unreadable.TheVariants.{NotJson, Shape}
+use Rattle.allocd.specs.declared.relabelling.Finding.{Finding}
+use Rattle.allocd.specs.declared.relabelling.Finding.TheVariants.{BadLabelName, RefusedRule, Kept, Dropped}
 
 -- ---- documents
 
@@ -47,7 +48,7 @@ document_in d =
     option_and_then (λ labels. option_and_then (with_texts labels) (member_in as_array (codes "relabel_configs") d))
     (member_in as_object (codes "labels") d)
 
--- ---- outcomes
+-- ---- findings
 
 -- These labels and more of them, unless one has no label name. A label with an empty text is no label.
 abbrev pub labels_from : LabelList → Members → Option LabelList
@@ -61,40 +62,23 @@ abbrev pub finished_text : Finished → Option (List ℕ)
 finished_text (Target target) = Some (target_text target)
 finished_text NoAddress = None
 
--- what is said of the labels behind the rules
-abbrev pub answered : Relabelled → Outcome
-answered (rules.Kept labels) = Kept (labels_text labels) (finished_text (finished labels))
-answered (rules.Dropped number) = Dropped number
+-- what is found in the labels behind the rules
+abbrev pub finding_of : Relabelled → Finding
+finding_of (rules.Kept labels) = Kept (labels_text labels) (finished_text (finished labels))
+finding_of (rules.Dropped number) = Dropped number
 
--- a rule is refused
-pub record IsRefusal (items : Items) (outcome : Outcome) : Type 0 where
+-- a rule is refused; of a pattern that the grammar reads the compiler may say that it is too big
+pub record IsRefusal (too_big : List ℕ → Bool) (items : Items) (finding : Finding) : Type 0 where
   pub refused : RulesError
   pub cause : refused.error ≢ rule.Memory
-  pub read : IsRefusedFrom 1 items refused
-  pub says : outcome ≡ RefusedRule refused.number refused.error
+  pub read : IsRefusedFrom too_big 1 items refused
+  pub says : finding ≡ RefusedRule refused.number refused.error
 
 -- all rules are read, and then applied
-pub record IsRelabelled (labels : LabelList) (items : Items) (outcome : Outcome) : Type 0 where
+pub record IsRelabelled (labels : LabelList) (items : Items) (finding : Finding) : Type 0 where
   pub settings : List RuleSettings
   pub read : rules_said items ≡ Ok settings
-  pub says : outcome ≡ answered (relabelled settings labels)
-
--- the names are looked at before the rules
-abbrev pub IsAnswer : Option LabelList → Items → Outcome → Type 0
-IsAnswer None items outcome = outcome ≡ BadLabelName
-IsAnswer (Some labels) items outcome = IsRefusal items outcome ⊎ IsRelabelled labels items outcome
-
-abbrev pub IsOutcomeIn : Option Document → Outcome → Type 0
-IsOutcomeIn None outcome = outcome ≡ Unreadable Shape
-IsOutcomeIn (Some document) outcome = IsAnswer (labels_in document.labels) document.rules outcome
-
-abbrev pub IsOutcomeOf : Option Data → Outcome → Type 0
-IsOutcomeOf None outcome = outcome ≡ Unreadable NotJson
-IsOutcomeOf (Some d) outcome = IsOutcomeIn (document_in d) outcome
-
--- what is found in an input
-abbrev pub IsOutcome : List ℕ → Outcome → Type 0
-IsOutcome input outcome = ((most_input < length input) × (outcome ≡ Unreadable TooLong)) ⊎ ((length input ≤ most_input) × IsOutcomeOf (json_of input) outcome)
+  pub says : finding ≡ finding_of (relabelled settings labels)
 
 -- ---- texts
 
@@ -110,33 +94,41 @@ abbrev pub target_line : Option (List ℕ) → List ℕ
 target_line (Some text) = codes "target " ++ (text ++ codes "\n")
 target_line None = codes "no address\n"
 
-abbrev pub outcome_text : Outcome → List ℕ
-outcome_text (Unreadable why) = unreadable_line why
-outcome_text BadLabelName = codes "refused BadLabelName\n"
-outcome_text (RefusedRule number error) = codes "refused " ++ (decimal number ++ (codes " " ++ (rule_error_name error ++ codes "\n")))
-outcome_text (Kept labels target) = codes "kept " ++ (labels ++ (codes "\n" ++ target_line target))
-outcome_text (Dropped number) = codes "dropped " ++ (decimal number ++ codes "\n")
+abbrev pub finding_text : Finding → List ℕ
+finding_text BadLabelName = codes "refused BadLabelName\n"
+finding_text (RefusedRule number error) = codes "refused " ++ (decimal number ++ (codes " " ++ (rule_error_name error ++ codes "\n")))
+finding_text (Kept labels target) = codes "kept " ++ (labels ++ (codes "\n" ++ target_line target))
+finding_text (Dropped number) = codes "dropped " ++ (decimal number ++ codes "\n")
 
-abbrev pub outcome_status : Outcome → ℕ
-outcome_status (Unreadable why) = 2
-outcome_status BadLabelName = 1
-outcome_status (RefusedRule number error) = 1
-outcome_status (Kept labels target) = 0
-outcome_status (Dropped number) = 0
+abbrev pub finding_status : Finding → Status
+finding_status BadLabelName = Refused
+finding_status (RefusedRule number error) = Refused
+finding_status (Kept labels target) = Done
+finding_status (Dropped number) = Done
 
--- What `allocd relabel` writes for an input, and the status with which it ends.
-pub record Relabels (input : List ℕ) (status : ℕ) (written : List ℕ) : Type 0 where
-  pub outcome : Outcome
-  pub finds : IsOutcome input outcome
-  pub ends : status ≡ outcome_status outcome
-  pub text : written ≡ outcome_text outcome
+abbrev pub told : Finding → Answer
+told finding = Text (finding_text finding) (finding_status finding)
 
--- The writer's bytes are those before and what `allocd relabel` writes for the reader's bytes, where both tell theirs.
-abbrev pub RelabelsTo : Option (List ℕ) → Option (List ℕ) → Option (List ℕ) → ℕ → Type 0
-RelabelsTo None before after status = Unit {0}
-RelabelsTo (Some input) before after status = (written : List ℕ) × Relabels input status written × Appends before after written
+-- ---- answers
 
--- Whatever the status, no more is written than a first part of that, or of the line of a program without an answer.
-abbrev pub RelabelsPart : Option (List ℕ) → Option (List ℕ) → Option (List ℕ) → Type 0
-RelabelsPart None before after = Unit {0}
-RelabelsPart (Some input) before after = ((outcome : Outcome) × IsOutcome input outcome × AppendsPart before after (outcome_text outcome)) ⊎ StopsPart before after
+module _ (too_big : List ℕ → Bool) where
+  -- the names are looked at before the rules
+  abbrev pub IsFinding : Option LabelList → Items → Finding → Type 0
+  IsFinding None items finding = finding ≡ BadLabelName
+  IsFinding (Some labels) items finding = IsRefusal too_big items finding ⊎ IsRelabelled labels items finding
+
+  -- what is found, where there is a document
+  abbrev pub IsFound : Option Document → Option Finding → Type 0
+  IsFound None found = found ≡ None
+  IsFound (Some document) found = (finding : Finding) × (found ≡ Some finding) × IsFinding (labels_in document.labels) document.rules finding
+
+  abbrev pub IsAnswerIn : Option Document → Answer → Type 0
+  IsAnswerIn None answer = answer ≡ NotRead Shape
+  IsAnswerIn (Some document) answer = (finding : Finding) × (answer ≡ told finding) × IsFinding (labels_in document.labels) document.rules finding
+
+  abbrev pub IsAnswerOf : Option Data → Answer → Type 0
+  IsAnswerOf None answer = answer ≡ NotRead NotJson
+  IsAnswerOf (Some d) answer = IsAnswerIn (document_in d) answer
+
+  abbrev pub Relabels : Answers
+  Relabels input answer = IsAnswerOf (json_of input) answer

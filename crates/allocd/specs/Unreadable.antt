@@ -1,15 +1,14 @@
 -- What a program cannot read.
-use Rattle.std.specs.Prelude.{◌<◌, ◌≤◌, ℕ, List, length, codes}
+use Rattle.std.specs.Prelude.{ℕ, List, codes}
 use Rattle.json_values.specs.Texts.{IsJson}
-use Rattle.allocd.specs.Reading.{most_input}
 use Rattle.allocd.specs.declared.unreadable.Unreadable.{Unreadable}
 use Rattle.allocd.specs.declared.unreadable.Unreadable.TheVariants.{TooLong, NotJson, Shape}
 
--- the input is too long, or no JSON, or not what the program accepts
+-- an input that is not too long is no JSON, or not what the command accepts
 abbrev pub IsUnreadable : (List ℕ → Type 0) → List ℕ → Unreadable → Type 0
-IsUnreadable Accepts input TooLong = most_input < length input
-IsUnreadable Accepts input NotJson = (length input ≤ most_input) × (¬ IsJson input)
-IsUnreadable Accepts input Shape = (length input ≤ most_input) × IsJson input × (¬ Accepts input)
+IsUnreadable Accepts input TooLong = ⊥
+IsUnreadable Accepts input NotJson = ¬ IsJson input
+IsUnreadable Accepts input Shape = IsJson input × (¬ Accepts input)
 
 abbrev pub unreadable_line : Unreadable → List ℕ
 unreadable_line TooLong = codes "unreadable TooLong\n"

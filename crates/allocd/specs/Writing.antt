@@ -1,8 +1,8 @@
 -- What a program writes, where a write may fail.
-use Rattle.std.specs.Prelude.{◌≡◌, ◌++◌, ℕ, List, Option, codes}
+use Rattle.std.specs.Prelude.{◌≡◌, ◌⊎◌, ◌++◌, ℕ, List, Option}
 use Rattle.std.specs.Io.KnownBytes.{Appends}
-use Rattle.allocd.specs.declared.input.Stop.{Stop}
-use Rattle.allocd.specs.declared.input.Stop.TheVariants.{Memory, Device}
+use Rattle.allocd.specs.declared.ending.Ending.{Ending}
+use Rattle.allocd.specs.declared.ending.Ending.TheVariants.{Unwritten}
 
 -- the known bytes grew by the text without these last bytes of it
 pub record HasLeft (before after : Option (List ℕ)) (text left : List ℕ) : Type 0 where
@@ -14,11 +14,6 @@ pub record HasLeft (before after : Option (List ℕ)) (text left : List ℕ) : T
 abbrev pub AppendsPart : Option (List ℕ) → Option (List ℕ) → List ℕ → Type 0
 AppendsPart before after text = (left : List ℕ) × HasLeft before after text left
 
--- the line of a program that ends without an answer
-abbrev pub stop_line : Stop → List ℕ
-stop_line Memory = codes "memory\n"
-stop_line Device = codes "device\n"
-
--- what was written is a first part of such a line
-abbrev pub StopsPart : Option (List ℕ) → Option (List ℕ) → Type 0
-StopsPart before after = (stop : Stop) × AppendsPart before after (stop_line stop)
+-- the writer took the whole text and the program ends as it is meant to, or the writer took a first part and failed
+abbrev pub IsWritten : Ending → List ℕ → Option (List ℕ) → Option (List ℕ) → Ending → Type 0
+IsWritten meant text before after ending = ((ending ≡ meant) × Appends before after text) ⊎ ((ending ≡ Unwritten) × AppendsPart before after text)

@@ -2,8 +2,8 @@
 
 ghost use Rattle.std.specs.Prelude.{◌≡◌, IfOk, IfSome, length};
 ghost use Rattle.allocd.specs.Reading.{IsTaken};
-ghost use Rattle.allocd.specs.declared.input.Stop.TheVariants.{Memory};
 
+use crate::ending::Stop;
 use lists::List;
 use std::alloc::{AllocError, Global};
 use std::io::{ErrorKind, Read};
@@ -24,21 +24,6 @@ pub enum Input {
     Whole(List<u8>),
     /// More than the most bytes.
     TooLong,
-}
-
-/// Why a program ends without an answer.
-#[derive(Clone, Copy, Debug, PartialEq, Eq)]
-pub enum Stop {
-    Memory,
-    Device,
-}
-
-impl From<AllocError> for Stop {
-    ghost from_gives = { λ _ e. e ≡ Memory };
-
-    fn from(_error: AllocError) -> Stop {
-        Stop::Memory
-    }
 }
 
 /// Reads to the end of the input, or to its limit. A read that was interrupted is made again; any other that fails, and
@@ -69,7 +54,7 @@ pub fn read_input<R: Read>(alloc: Global, reader: &mut R) -> Result<Input, Stop>
 
 /// Room for one read.
 fn blank(alloc: Global) -> Result<Vec<u8>, AllocError>
-    ensures { IfOk result (λ v. length v.items ≡ 65536) }
+    ensures { IfOk result (λ v. length v.items ≡ PIECE) }
 {
     vec![in alloc; 0; PIECE]
 }

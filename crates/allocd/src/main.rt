@@ -1,33 +1,51 @@
-//! The program `allocd`: it reads standard input and writes standard output.
+//! The program `allocd`: what it writes to standard output is a stated function of what it reads from standard input.
 #![tactic(auto)]
 
+mod answer;
 mod check;
 mod command;
+mod ending;
 mod input;
 mod output;
 mod plan;
 mod relabelling;
 mod replay;
+mod runner;
 #[cfg(test)]
 mod tests;
 mod unreadable;
 
 use command::run;
+use ending::Stop;
+use output::write_stop;
+use std::alloc::{AllocError, Global};
+use std::env::Args;
 use std::process::ExitCode;
 use std::{env, io};
 
 fn main(rt: HostRuntime) -> ExitCode {
-    let mut arguments = Vec::new(rt.alloc());
-    if let Ok(words) = env::args(&rt) {
-        for word in words.skip(1) {
-            let _ = arguments.push(word);
+    let mut writer = io::writer(&rt);
+    let ending = match words_of(rt.alloc(), env::args(&rt)) {
+        Ok(words) => run(rt.alloc(), words.as_slice(), &mut rt.reader(), &mut writer),
+        Err(_) => write_stop(&mut writer, &[], Stop::Memory),
+    };
+    ExitCode::from(ending.exit_status())
+}
+
+/// The arguments behind the program's name. Arguments that are no text are none.
+fn words_of(alloc: Global, arguments: io::Result<Args>) -> Result<Vec<String>, AllocError> {
+    let mut words = Vec::new(alloc);
+    match arguments {
+        Ok(arguments) => {
+            for word in arguments.skip(1) {
+                words.push(word)?;
+            }
+        }
+        Err(error) => {
+            if error.kind() == io::ErrorKind::OutOfMemory {
+                return Err(AllocError);
+            }
         }
     }
-    let status = run(
-        rt.alloc(),
-        arguments.as_slice(),
-        &mut rt.reader(),
-        &mut io::writer(&rt),
-    );
-    ExitCode::from(status)
+    Ok(words)
 }

@@ -1,46 +1,55 @@
 //! Writing an answer whole.
-
-ghost use Rattle.std.specs.Prelude.{◌≡◌, ◌≢◌, ◌≤◌, IsTrue};
+ghost use Rattle.std.specs.Prelude.{◌≡◌, ◌++◌, IsTrue};
 ghost use Rattle.std.specs.Io.KnownBytes.{Appends};
-ghost use Rattle.allocd.specs.Writing.{AppendsPart, stop_line};
+ghost use Rattle.allocd.specs.Writing.{AppendsPart, IsWritten};
+ghost use Rattle.allocd.specs.Ending.{stop_line};
+ghost use Rattle.allocd.specs.Answer.{answer_text, answer_status};
 
-use crate::input::Stop;
+use crate::answer::Answer;
+use crate::ending::{Ending, Status, Stop};
 use std::io::{ErrorKind, Write};
 
-/// The status of a program that found no memory, or whose device failed.
-pub const FAILED: u8 = 3;
-
-/// Writes the text, and gives the status; where the write fails nothing more is written.
-pub fn write_text<W: Write>(writer: &mut W, text: &str, status: u8) -> u8
-    requires { status ≤ 3 }
-    ensures status { result ≢ 3 → result ≡ status }
-    ensures text { result ≢ 3 → Appends (W.contents writer.old) (W.contents writer.new) text.now }
-    ensures part { AppendsPart (W.contents writer.old) (W.contents writer.new) text.now }
-    ensures most { result ≤ 3 }
+/// Writes an answer.
+pub fn write_answer<W: Write>(writer: &mut W, answer: &Answer) -> Ending
+    ensures { IsWritten (Ending.Answered (answer_status answer.now)) (answer_text answer.now) (W.contents writer.old) (W.contents writer.new) result }
 {
-    write_bytes(writer, text.as_bytes(), status)
+    match answer {
+        Answer::NotRead(why) => {
+            let ending = Ending::Answered(Status::Unreadable);
+            write_last(writer, why.line().as_bytes(), ending)
+        }
+        Answer::Text { text, status } => {
+            write_last(writer, text.as_slice(), Ending::Answered(*status))
+        }
+    }
 }
 
-/// Writes the bytes, and gives the status; where the write fails nothing more is written.
-pub fn write_bytes<W: Write>(writer: &mut W, bytes: &[u8], status: u8) -> u8
-    requires { status ≤ 3 }
-    ensures status { result ≢ 3 → result ≡ status }
-    ensures text { result ≢ 3 → Appends (W.contents writer.old) (W.contents writer.new) bytes.now }
-    ensures part { AppendsPart (W.contents writer.old) (W.contents writer.new) bytes.now }
-    ensures most { result ≤ 3 }
+/// Writes the front of an answer, and a line that says why there is no more.
+pub fn write_stop<W: Write>(writer: &mut W, front: &[u8], stop: Stop) -> Ending
+    ensures { IsWritten (Ending.Stopped stop) (front.now ++ stop_line stop) (W.contents writer.old) (W.contents writer.new) result }
+{
+    if !write_whole(writer, front) {
+        return Ending::Unwritten;
+    }
+    write_last(writer, stop.line().as_bytes(), Ending::Stopped(stop))
+}
+
+/// Writes the last bytes, and gives the ending; where the write fails nothing more is written.
+pub fn write_last<W: Write>(writer: &mut W, bytes: &[u8], ending: Ending) -> Ending
+    ensures { IsWritten ending bytes.now (W.contents writer.old) (W.contents writer.new) result }
 {
     if !write_whole(writer, bytes) {
-        return FAILED;
+        return Ending::Unwritten;
     }
     if writer.flush().is_err() {
-        return FAILED;
+        return Ending::Unwritten;
     }
-    status
+    ending
 }
 
 /// Writes the bytes, and says whether the writer took them all. A write that was interrupted is made again; any other
 /// that fails, or that takes nothing, is the last.
-pub(crate) fn write_whole<W: Write>(writer: &mut W, bytes: &[u8]) -> bool
+fn write_whole<W: Write>(writer: &mut W, bytes: &[u8]) -> bool
     ensures whole { IsTrue result → Appends (W.contents writer.old) (W.contents writer.new) bytes.now }
     ensures part { AppendsPart (W.contents writer.old) (W.contents writer.new) bytes.now }
 {
@@ -60,17 +69,4 @@ pub(crate) fn write_whole<W: Write>(writer: &mut W, bytes: &[u8]) -> bool
         }
     }
     false
-}
-
-/// Writes why there is no answer.
-pub fn write_stop<W: Write>(writer: &mut W, stop: Stop) -> u8
-    ensures status { result ≡ 3 }
-    ensures part { AppendsPart (W.contents writer.old) (W.contents writer.new) (stop_line stop) }
-{
-    let text = match stop {
-        Stop::Memory => "memory\n",
-        Stop::Device => "device\n",
-    };
-    let _ = write_text(writer, text, FAILED);
-    FAILED
 }

@@ -1,30 +1,44 @@
 //! The command `relabel`: it applies relabelling rules to a label set.
-
-ghost use Rattle.std.specs.Prelude.{◌≡◌, ◌≤◌, ◌≢◌, ◌⊎◌, IfOk, IfSome, length, string_bytes};
-ghost use Rattle.std.specs.Io.KnownBytes.{Appends};
-ghost use Rattle.allocd.specs.Reading.{most_input};
-ghost use Rattle.allocd.specs.Relabelling.{IsOutcome, outcome_text, outcome_status, RelabelsTo, RelabelsPart};
-ghost use Rattle.allocd.specs.Writing.{AppendsPart, StopsPart};
+ghost use Rattle.std.specs.Prelude.{◌≡◌, IfOk};
+ghost use Rattle.relabel.specs.Compiling.{any_text};
+ghost use Rattle.allocd.specs.Answer.{EndsTo, NoFront};
+ghost use Rattle.allocd.specs.Relabelling.{Relabels, finding_status, told};
 
 mod applying;
 mod documents;
 mod lines;
 
-use crate::input::{Input, Stop, read_input};
-use crate::output::{write_stop, write_text};
+use crate::answer::{Answer, Unfinished, whole_or_nothing};
+use crate::ending::{Ending, Status};
+use crate::runner::{Task, run_task};
 use crate::unreadable::Unreadable;
-use documents::outcome_in;
+use documents::finding_in;
 use json_values::parse;
 use lines::text_of;
-use lists::Text;
-use relabel::RuleError;
+use lists::{List, Text};
+use relabel::{Compiler, RegexCrate, RuleError};
 use std::alloc::{AllocError, Global};
 use std::io::{Read, Write};
 
-/// What the command finds.
+/// The task of the command `relabel`, with what compiles the patterns of the rules.
 #[derive(Drop)]
-pub enum Outcome {
-    Unreadable(Unreadable),
+pub struct Relabel<'c, C> {
+    compiler: &'c C,
+}
+
+impl<'c, C: Compiler> Task for Relabel<'c, C> {
+    ghost answers = { Relabels C.too_big };
+
+    ghost begins = { NoFront };
+
+    fn answer(&self, alloc: Global, input: &[u8]) -> Result<Answer, Unfinished> {
+        whole_or_nothing(alloc, answer_to(self.compiler, alloc, input))
+    }
+}
+
+/// What is found in a document of labels and rules.
+#[derive(Drop)]
+pub enum Finding {
     /// The name of a label is no label name.
     BadLabelName,
     /// The number of the first rule that is refused, and why. The first rule has the number 1.
@@ -39,61 +53,55 @@ pub enum Outcome {
     Dropped(usize),
 }
 
-/// Reads a document of labels and rules to its end, writes what the rules make of the labels, and gives the exit status:
-/// 0 for labels that are kept or dropped, 1 for a name or a rule that is refused, 2 where the input is no such document,
-/// 3 without an answer.
-pub fn run_relabel<R: Read, W: Write>(alloc: Global, reader: &mut R, writer: &mut W) -> u8
-    ensures most { result ≤ 3 }
-    ensures writes { result ≢ 3 → RelabelsTo (R.remaining reader.old) (W.contents writer.old) (W.contents writer.new) result }
-    ensures part { RelabelsPart (R.remaining reader.old) (W.contents writer.old) (W.contents writer.new) }
+/// Reads a document of labels and rules to its end, and writes what the rules make of the labels, which name or rule is
+/// refused, or that the input is no such document.
+pub fn run_relabel<R: Read, W: Write>(alloc: Global, reader: &mut R, writer: &mut W) -> Ending
+    ensures { EndsTo (Relabels any_text) NoFront (R.remaining reader.old) (W.contents writer.old) (W.contents writer.new) result }
 {
-    match outcome_from(alloc, reader) {
-        Ok(outcome) => write_outcome(alloc, writer, &outcome),
-        Err(stop) => write_stop(writer, stop),
+    run_relabel_by(&RegexCrate {}, alloc, reader, writer)
+}
+
+/// The same with a compiler of patterns. A pattern that the grammar reads is refused only where the compiler was asked and
+/// said of it, or of its whole form, that it is too big.
+pub fn run_relabel_by<C: Compiler, R: Read, W: Write>(
+    compiler: &C,
+    alloc: Global,
+    reader: &mut R,
+    writer: &mut W,
+) -> Ending
+    ensures { EndsTo (Relabels C.too_big) NoFront (R.remaining reader.old) (W.contents writer.old) (W.contents writer.new) result }
+{
+    run_task(&Relabel { compiler }, alloc, reader, writer)
+}
+
+fn answer_to<C: Compiler>(compiler: &C, alloc: Global, input: &[u8]) -> Result<Answer, AllocError>
+    ensures { IfOk result (Relabels C.too_big input.now) }
+{
+    let Some(value) = parse(alloc, input)? else {
+        return Ok(Answer::NotRead(Unreadable::NotJson));
+    };
+    match finding_in(compiler, alloc, &value)? {
+        Some(finding) => tell(alloc, &finding),
+        None => Ok(Answer::NotRead(Unreadable::Shape)),
     }
 }
 
-/// What is found in the input.
-fn outcome_from<R: Read>(alloc: Global, reader: &mut R) -> Result<Outcome, Stop>
-    ensures { IfOk result (λ outcome. IfSome (R.remaining reader.old) (λ input. IsOutcome input outcome)) }
+/// The answer that tells a finding.
+fn tell(alloc: Global, finding: &Finding) -> Result<Answer, AllocError>
+    ensures { IfOk result (λ answer. answer ≡ told finding.now) }
 {
-    match read_input(alloc, reader)? {
-        Input::TooLong => Ok(Outcome::Unreadable(Unreadable::TooLong)),
-        Input::Whole(bytes) => Ok(outcome_of(alloc, bytes.as_slice())?),
-    }
+    let text = text_of(alloc, finding)?;
+    Ok(Answer::Text {
+        text: List::from_vec(text.into_bytes()),
+        status: status_of(finding),
+    })
 }
 
-/// What is found in the bytes.
-fn outcome_of(alloc: Global, bytes: &[u8]) -> Result<Outcome, AllocError>
-    ensures { IfOk result (λ outcome. length bytes.now ≤ most_input → IsOutcome bytes.now outcome) }
+fn status_of(finding: &Finding) -> Status
+    ensures { result ≡ finding_status finding.now }
 {
-    match parse(alloc, bytes)? {
-        Some(value) => outcome_in(alloc, &value),
-        None => Ok(Outcome::Unreadable(Unreadable::NotJson)),
-    }
-}
-
-/// Writes the text on an outcome, and gives its status.
-fn write_outcome<W: Write>(alloc: Global, writer: &mut W, outcome: &Outcome) -> u8
-    ensures most { result ≤ 3 }
-    ensures status { result ≢ 3 → result ≡ outcome_status outcome.now }
-    ensures text { result ≢ 3 → Appends (W.contents writer.old) (W.contents writer.new) (outcome_text outcome.now) }
-    ensures part { AppendsPart (W.contents writer.old) (W.contents writer.new) (outcome_text outcome.now) ⊎ StopsPart (W.contents writer.old) (W.contents writer.new) }
-{
-    match text_of(alloc, outcome) {
-        Ok(text) => write_text(writer, text.as_str(), status_of(outcome)),
-        Err(_) => write_stop(writer, Stop::Memory),
-    }
-}
-
-/// The status for an outcome.
-fn status_of(outcome: &Outcome) -> u8
-    ensures value { result ≡ outcome_status outcome.now }
-    ensures most { result ≤ 2 }
-{
-    match outcome {
-        Outcome::Unreadable(_) => 2,
-        Outcome::BadLabelName | Outcome::RefusedRule(..) => 1,
-        Outcome::Kept { .. } | Outcome::Dropped(_) => 0,
+    match finding {
+        Finding::BadLabelName | Finding::RefusedRule(..) => Status::Refused,
+        Finding::Kept { .. } | Finding::Dropped(_) => Status::Done,
     }
 }

@@ -12,3 +12,5 @@ pub mod Inserting
 pub mod Starting
 pub mod Ordered
 pub mod Rolling
+pub mod Exact
+pub mod Tables

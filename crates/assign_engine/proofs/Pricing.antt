@@ -57,8 +57,8 @@ module _ (p : Problem) (ats : List (Option ℕ)) (us vs : List ℕ) (s : ℕ) (d
   pub still_waits : (t : ℕ) → t ≢ s → IsWaiting ats lower t → IsWaiting ats us t
   still_waits t d w = (w.0, omega (arith, r.out t d w.0, w.1))
 
-  module _ (vias ranks : List ℕ) (g : HasParents p ats us vs s distances vias ranks) where
-    tight_link : (b t : ℕ) → IsNear p distances cost (get_or us s 0) b → IsAllowed p t b → Reached p ats us vs s distances ranks b t → get_or lower t 0 + get_or higher b 0 ≡ weight_of p t b
+  module _ (vias ranks : List ℕ) (g : HasParents p ats us vs s distances vias ranks) (before : cost < get_or us s 0) where
+    tight_link : (b t : ℕ) → IsNear p distances cost b → IsAllowed p t b → Reached p ats us vs s distances ranks b t → get_or lower t 0 + get_or higher b 0 ≡ weight_of p t b
     tight_link b t n a (inl e) =
         let u : get_or us t 0 ≡ get_or us s 0 = ap (λ (m : ℕ). get_or us m 0) e.0 in
         let w : get_or lower t 0 ≡ get_or lower s 0 = ap (λ (m : ℕ). get_or lower m 0) e.0 in
@@ -70,16 +70,16 @@ module _ (p : Problem) (ats : List (Option ℕ)) (us vs : List ℕ) (s : ℕ) (d
           | inr m ↦ elim (cases_lt (get_or distances e.0 0) cost) [ inl k ↦ omega (arith, r.far_bin b n.in_range m, r.near t e.0 e.1 k, e.3, n.within) | inr k ↦ omega (arith, r.far_bin b n.in_range m, r.far t e.0 e.1 k, e.3, n.within, q) ]
         ]
 
-    back_link : (b t : ℕ) → IsNear p distances cost (get_or us s 0) b → IsAllowed p t b → Reached p ats us vs s distances ranks b t → (t ≡ s) ⊎ ((y : ℕ) × (seat ats t ≡ Some y) × (slice_index ranks y < slice_index ranks b) × IsNear p distances cost (get_or us s 0) y)
+    back_link : (b t : ℕ) → IsNear p distances cost b → IsAllowed p t b → Reached p ats us vs s distances ranks b t → (t ≡ s) ⊎ ((y : ℕ) × (seat ats t ≡ Some y) × (slice_index ranks y < slice_index ranks b) × IsNear p distances cost y)
     back_link b t n a (inl e) = inl e.0
     back_link b t n a (inr e) =
         let q = h.priced t b a in
         let le : get_or distances e.0 0 ≤ get_or distances b 0 = omega (arith, e.3, q) in
-        inr (e.0, e.1, e.2, record { in_range = allowed_bin p valid t e.0 (h.allowed t e.0 e.1); within = omega (arith, n.within); below = omega (arith, n.below) })
+        inr (e.0, e.1, e.2, record { in_range = allowed_bin p valid t e.0 (h.allowed t e.0 e.1); within = omega (arith, n.within) })
 
-    pub has_trail : HasTrail p ats lower higher s distances vias ranks cost (get_or us s 0)
+    pub has_trail : HasTrail p ats lower higher s distances vias ranks cost
     has_trail = record {
-      allowed = λ b n. g.allowed b n.in_range n.below;
-      tight = λ b n. tight_link b (get_or vias b 0) n (g.allowed b n.in_range n.below) (g.reached b n.in_range n.below);
-      back = λ b n. back_link b (get_or vias b 0) n (g.allowed b n.in_range n.below) (g.reached b n.in_range n.below);
+      allowed = λ b n. g.allowed b n.in_range (omega (arith, n.within, before));
+      tight = λ b n. tight_link b (get_or vias b 0) n (g.allowed b n.in_range (omega (arith, n.within, before))) (g.reached b n.in_range (omega (arith, n.within, before)));
+      back = λ b n. back_link b (get_or vias b 0) n (g.allowed b n.in_range (omega (arith, n.within, before))) (g.reached b n.in_range (omega (arith, n.within, before)));
     }

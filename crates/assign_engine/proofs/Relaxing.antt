@@ -8,7 +8,7 @@ use Rattle.price_certificate.proofs.Rows.{allowed_bin}
 use Rattle.assign_engine.specs.Usable.{one_if}
 use Rattle.assign_engine.specs.Seats.{sits, seat}
 use Rattle.assign_engine.specs.Roll.{times_in}
-use Rattle.assign_engine.specs.Labels.{Labelled}
+use Rattle.assign_engine.specs.SearchTables.{SearchState}
 use Rattle.assign_engine.specs.Changed.{WayOver, WayFrom, IsChanged, IsNoted, IsRelaxed, IsExpanding, IsExpanded}
 use Rattle.assign_engine.proofs.Rolling.{one-there, times_place}
 use Rattle.assign_engine.proofs.Changing.{distance_falls, changed_by, changed_after, changed_one}
@@ -20,7 +20,7 @@ allowed_in p t k row e l = subst (λ (r : List ℕ). Contains r (get_or row k 0)
 pub place_of : (p : Problem) (t b : ℕ) → IsAllowed p t b → (k : ℕ) × (k < length (row_of p t)) × (get_or (row_of p t) k 0 ≡ b)
 place_of p t b a = (a.0, a.1, get_or_default (row_of p t) a.0 0 b a.1 ∙ a.2)
 
-module _ (p : Problem) (ats : List (Option ℕ)) (vs : List ℕ) (t base k b : ℕ) (old now : Labelled) (valid : IsProblem p) (h : IsRelaxed p ats vs t base k old now) (at_k : get_or (row_of p t) k 0 ≡ b) (a : IsAllowed p t b) where
+module _ (p : Problem) (ats : List (Option ℕ)) (vs : List ℕ) (t base k b : ℕ) (old now : SearchState) (valid : IsProblem p) (h : IsRelaxed p ats vs t base k old now) (at_k : get_or (row_of p t) k 0 ≡ b) (a : IsAllowed p t b) where
   here_or_before : (P : ℕ → Type 0) → ((i : ℕ) → i < k → P (get_or (row_of p t) i 0)) → P b → (i : ℕ) → i < k + 1 → P (get_or (row_of p t) i 0)
   here_or_before P before here i l = elim (cases_eq i k) [
     | inl q ↦ subst P (sym (ap (λ (m : ℕ). get_or (row_of p t) m 0) q ∙ at_k)) here
@@ -28,20 +28,20 @@ module _ (p : Problem) (ats : List (Option ℕ)) (vs : List ℕ) (t base k b : �
   ]
 
   -- the way over t is no shorter
-  pub relaxed_same : (new : Labelled) → new ≡ now → get_or now.distances b 0 + weight_of p t b ≤ base + get_or vs b 0 → IsRelaxed p ats vs t base (k + 1) old new
-  relaxed_same new e le = subst (λ (m : Labelled). IsRelaxed p ats vs t base (k + 1) old m) (sym e) (record {
+  pub relaxed_same : (new : SearchState) → new ≡ now → get_or now.distances b 0 + weight_of p t b ≤ base + get_or vs b 0 → IsRelaxed p ats vs t base (k + 1) old new
+  relaxed_same new e le = subst (λ (m : SearchState). IsRelaxed p ats vs t base (k + 1) old m) (sym e) (record {
     changed = h.changed;
     done = here_or_before (λ c. get_or now.distances c 0 + weight_of p t c ≤ base + get_or vs c 0) h.done le;
   })
 
   -- the way over t is shorter
-  pub relaxed_lower : (x : ℕ) (low noted new : Labelled) → new ≡ noted → low ≡ record now { distances = set now.distances b x; vias = set now.vias b t } → b < length now.distances → b < length now.vias → x < get_or now.distances b 0 → x + weight_of p t b ≡ base + get_or vs b 0 → IsNoted p ats b low noted → IsRelaxed p ats vs t base (k + 1) old new
+  pub relaxed_lower : (x : ℕ) (low noted new : SearchState) → new ≡ noted → low ≡ record now { distances = set now.distances b x; vias = set now.vias b t } → b < length now.distances → b < length now.vias → x < get_or now.distances b 0 → x + weight_of p t b ≡ base + get_or vs b 0 → IsNoted p ats b low noted → IsRelaxed p ats vs t base (k + 1) old new
   relaxed_lower x low noted new e le ld lv lt eq n =
-      let noted_low = subst (λ (m : Labelled). IsNoted p ats b m noted) le n in
+      let noted_low = subst (λ (m : SearchState). IsNoted p ats b m noted) le n in
       let one : IsChanged p ats (WayOver p vs t base) now noted = changed_one p ats (WayOver p vs t base) now noted b x t (allowed_bin p valid t b a) ld lv lt (refl, a, eq) noted_low in
       let fall = λ (c : ℕ). distance_falls p ats (WayOver p vs t base) now noted one c in
       let at_b : get_or noted.distances b 0 ≡ x = ap (λ (m : List ℕ). get_or m b 0) noted_low.distances ∙ get_or-set_same now.distances b x 0 ld in
-      subst (λ (m : Labelled). IsRelaxed p ats vs t base (k + 1) old m) (sym e) (record {
+      subst (λ (m : SearchState). IsRelaxed p ats vs t base (k + 1) old m) (sym e) (record {
         changed = changed_after p ats (WayOver p vs t base) old now noted h.changed one;
         done = here_or_before (λ c. get_or noted.distances c 0 + weight_of p t c ≤ base + get_or vs c 0) (λ i l. omega (arith, h.done i l, fall (get_or (row_of p t) i 0))) (omega (arith, at_b));
       })
@@ -52,9 +52,9 @@ way_from p ats us vs y base t s via b x w =
     let P : ℕ → Type 0 = λ m. (seat ats m ≡ Some y) × IsAllowed p m b × (x + weight_of p m b ≡ base + (get_or us m 0 + get_or vs b 0)) in
     subst P (sym w.0) (s, w.1, e)
 
-module _ (p : Problem) (ats : List (Option ℕ)) (us vs : List ℕ) (y base : ℕ) (items : List ℕ) (n : ℕ) (old now : Labelled) (h : IsExpanding p ats us vs y base items n old now) where
+module _ (p : Problem) (ats : List (Option ℕ)) (us vs : List ℕ) (y base : ℕ) (items : List ℕ) (n : ℕ) (old now : SearchState) (h : IsExpanding p ats us vs y base items n old now) where
   -- the pairs of one more item were relaxed
-  pub expanding_more : (t item_base : ℕ) (new : Labelled) → t ≡ get_or items n 0 → item_base ≡ base + get_or us t 0 → seat ats t ≡ Some y → IsRelaxed p ats vs t item_base (length (row_of p t)) now new → IsExpanding p ats us vs y base items (n + 1) old new
+  pub expanding_more : (t item_base : ℕ) (new : SearchState) → t ≡ get_or items n 0 → item_base ≡ base + get_or us t 0 → seat ats t ≡ Some y → IsRelaxed p ats vs t item_base (length (row_of p t)) now new → IsExpanding p ats us vs y base items (n + 1) old new
   expanding_more t item_base new te be s r =
       let r2 = subst (λ (m : ℕ). IsRelaxed p ats vs t m (length (row_of p t)) now new) be r in
       let one = changed_by p ats (WayOver p vs t (base + get_or us t 0)) (WayFrom p ats us vs y base) now new (way_from p ats us vs y base t s) r2.changed in

@@ -13,7 +13,7 @@ use Rattle.assign_engine.specs.Usable.{one_if}
 use Rattle.assign_engine.specs.Seats.{sits, seat, used, IsSound}
 use Rattle.assign_engine.specs.Roll.{times_in}
 use Rattle.assign_engine.specs.Repriced.{IsRepricing}
-use Rattle.assign_engine.specs.Searched.{IsSearched, IsRepriced}
+use Rattle.assign_engine.specs.Searched.{IsSearched, IsListed, IsRepriced}
 use Rattle.assign_engine.specs.Searching.{EndsAt, EndFree}
 use Rattle.assign_engine.specs.declared.ends.End.{End}
 use Rattle.assign_engine.specs.declared.ends.End.TheVariants.{Leave, Room, Uncover}
@@ -62,10 +62,10 @@ one_more a by m e = rw e (omega arith)
 no_more : (a by m : ℕ) → m ≡ 0 → (a + m) * by ≡ a * by
 no_more a by m e = rw e (omega arith)
 
-same_test : (x t : ℕ) → x ≡ t → ◌≡◌ {A = ℕ} (cond (eqb x t) 1 0) 1
+pub same_test : (x t : ℕ) → x ≡ t → ◌≡◌ {A = ℕ} (cond (eqb x t) 1 0) 1
 same_test x t e = grind (arith, nat_tests)
 
-other_test : (x t : ℕ) → x ≢ t → ◌≡◌ {A = ℕ} (cond (eqb x t) 1 0) 0
+pub other_test : (x t : ℕ) → x ≢ t → ◌≡◌ {A = ℕ} (cond (eqb x t) 1 0) 0
 other_test x t e = grind (arith, nat_tests)
 
 -- one more item of the list falls
@@ -90,20 +90,37 @@ module _ (items old now : List ℕ) (by n : ℕ) (l : n < length items) (falls :
             omega (arith, s, k, h t))
       ]
 
+-- the next bin of the list
+module _ (p : Problem) (d : List ℕ) (cost : ℕ) (bins : List ℕ) (h : IsListed p d cost bins) (k : ℕ) (l : k < length bins) where
+  pub turn_here : 0 < times_in (take (k + 1) bins) (get_or bins k 0)
+  turn_here = omega (arith, times_more bins k (get_or bins k 0) l, same_test (get_or bins k 0) (get_or bins k 0) refl)
+
+  pub turn_fresh : times_in (take k bins) (get_or bins k 0) ≡ 0
+  turn_fresh = omega (arith, times_more bins k (get_or bins k 0) l, same_test (get_or bins k 0) (get_or bins k 0) refl, times_most bins (k + 1) (get_or bins k 0), h.once (get_or bins k 0))
+
+  pub turn_there : (y : ℕ) → y ≢ get_or bins k 0 → times_in (take (k + 1) bins) y ≡ times_in (take k bins) y
+  turn_there y q = omega (arith, times_more bins k y l, other_test (get_or bins k 0) y (λ z. q (sym z)))
+
+  pub turn_range : get_or bins k 0 < bins_of p
+  turn_range = h.in_range (get_or bins k 0) (omega (arith, turn_here, times_most bins (k + 1) (get_or bins k 0)))
+
 module _ (ats : List (Option ℕ)) (us vs d : List ℕ) (cost : ℕ) where
-  module _ (n : ℕ) (lower higher : List ℕ) (h : IsRepricing ats us vs d cost n lower higher) where
+  module _ (done done2 : List ℕ) (n : ℕ) (lower higher : List ℕ) (h : IsRepricing ats us vs d cost done lower higher) (fresh : times_in done n ≡ 0) (here : 0 < times_in done2 n) (there : (y : ℕ) → y ≢ n → times_in done2 y ≡ times_in done y) where
+    left_apart : (y : ℕ) → times_in done2 y ≡ 0 → y ≢ n
+    left_apart y k q = let e = ap (times_in done2) q in absurd (omega arith)
+
     -- the bin is no nearer than the cost
-    pub repricing_far : cost ≤ get_or d n 0 → IsRepricing ats us vs d cost (n + 1) lower higher
+    pub repricing_far : cost ≤ get_or d n 0 → IsRepricing ats us vs d cost done2 lower higher
     repricing_far l = record {
       items = h.items;
       bins = h.bins;
-      near = λ t y e k m. elim (cases_eq y n) [ inl q ↦ absurd (let i = ap (λ (j : ℕ). get_or d j 0) q in omega arith) | inr q ↦ h.near t y e (omega arith) m ];
+      near = λ t y e k m. elim (cases_eq y n) [ inl q ↦ absurd (let i = ap (λ (j : ℕ). get_or d j 0) q in omega arith) | inr q ↦ h.near t y e (omega (arith, there y q)) m ];
       far = h.far;
-      left = λ t y e k. h.left t y e (omega arith);
+      left = λ t y e k. h.left t y e (omega (arith, there y (left_apart y k)));
       out = h.out;
-      near_bin = λ b k m. elim (cases_eq b n) [ inl q ↦ absurd (let i = ap (λ (j : ℕ). get_or d j 0) q in omega arith) | inr q ↦ h.near_bin b (omega arith) m ];
+      near_bin = λ b k m. elim (cases_eq b n) [ inl q ↦ absurd (let i = ap (λ (j : ℕ). get_or d j 0) q in omega arith) | inr q ↦ h.near_bin b (omega (arith, there b q)) m ];
       far_bin = h.far_bin;
-      left_bin = λ b k. h.left_bin b (omega arith);
+      left_bin = λ b k. h.left_bin b (omega (arith, there b (left_apart b k)));
     }
 
     module _ (by : ℕ) (lower2 higher2 : List ℕ) (lt : get_or d n 0 < cost) (in_range : n < length vs) (is : by ≡ cost - get_or d n 0) (lc : length lower2 ≡ length lower) (hs : higher2 ≡ set higher n (get_or higher n 0 + by)) (ls : (t : ℕ) → get_or lower2 t 0 + one_if (sits n (seat ats t)) * by ≡ get_or lower t 0) where
@@ -122,27 +139,27 @@ module _ (ats : List (Option ℕ)) (us vs d : List ℕ) (cost : ℕ) where
       rise_there : (b : ℕ) → b ≢ n → get_or higher2 b 0 ≡ get_or higher b 0
       rise_there b q = ap (λ (m : List ℕ). get_or m b 0) hs ∙ get_or-set_other higher n b (get_or higher n 0 + by) 0 q
 
-      near2 : (t y : ℕ) → seat ats t ≡ Some y → y < n + 1 → get_or d y 0 < cost → get_or lower2 t 0 + cost ≡ get_or us t 0 + get_or d y 0
+      near2 : (t y : ℕ) → seat ats t ≡ Some y → 0 < times_in done2 y → get_or d y 0 < cost → get_or lower2 t 0 + cost ≡ get_or us t 0 + get_or d y 0
       near2 t y e k m = elim (cases_eq y n) [
-        | inl q ↦ (let i = ap (λ (j : ℕ). get_or d j 0) q in omega (arith, fall_here t (e ∙ ap Some q), h.left t y e (omega arith), i))
-        | inr q ↦ omega (arith, fall_there t y e q, h.near t y e (omega arith) m)
+        | inl q ↦ (let i = ap (λ (j : ℕ). get_or d j 0) q in omega (arith, fall_here t (e ∙ ap Some q), h.left t y e (omega (arith, fresh, ap (times_in done) q)), i))
+        | inr q ↦ omega (arith, fall_there t y e q, h.near t y e (omega (arith, there y q)) m)
       ]
 
       -- the bin and its items get their new prices
-      pub repricing_near : IsRepricing ats us vs d cost (n + 1) lower2 higher2
+      pub repricing_near : IsRepricing ats us vs d cost done2 lower2 higher2
       repricing_near = record {
         items = lc ∙ h.items;
         bins = ap length hs ∙ length-set higher n (get_or higher n 0 + by) ∙ h.bins;
         near = near2;
         far = λ t y e m. elim (cases_eq y n) [ inl q ↦ absurd (let i = ap (λ (j : ℕ). get_or d j 0) q in omega arith) | inr q ↦ fall_there t y e q ∙ h.far t y e m ];
-        left = λ t y e k. fall_there t y e (λ q. absurd (omega arith)) ∙ h.left t y e (omega arith);
+        left = λ t y e k. fall_there t y e (left_apart y k) ∙ h.left t y e (omega (arith, there y (left_apart y k)));
         out = λ t e. fall_out t e ∙ h.out t e;
         near_bin = λ b k m. elim (cases_eq b n) [
-          | inl q ↦ (let i = ap (λ (j : ℕ). get_or d j 0) q in let j = ap (λ (x : ℕ). get_or higher2 x 0) q in let w = ap (λ (x : ℕ). get_or higher x 0) q in omega (arith, rise_here, h.left_bin b (omega arith), i, j, w))
-          | inr q ↦ omega (arith, rise_there b q, h.near_bin b (omega arith) m)
+          | inl q ↦ (let i = ap (λ (j : ℕ). get_or d j 0) q in let j = ap (λ (x : ℕ). get_or higher2 x 0) q in let w = ap (λ (x : ℕ). get_or higher x 0) q in omega (arith, rise_here, h.left_bin b (omega (arith, fresh, ap (times_in done) q)), i, j, w))
+          | inr q ↦ omega (arith, rise_there b q, h.near_bin b (omega (arith, there b q)) m)
         ];
         far_bin = λ b m. elim (cases_eq b n) [ inl q ↦ absurd (let i = ap (λ (j : ℕ). get_or d j 0) q in omega arith) | inr q ↦ rise_there b q ∙ h.far_bin b m ];
-        left_bin = λ b k. rise_there b (λ q. absurd (omega arith)) ∙ h.left_bin b (omega arith);
+        left_bin = λ b k. rise_there b (left_apart b k) ∙ h.left_bin b (omega (arith, there b (left_apart b k)));
       }
 
 module _ (p : Problem) (ats : List (Option ℕ)) (us vs : List ℕ) (s : ℕ) (d : List ℕ) (cost : ℕ) (valid : IsProblem p) (h : IsSound p ats us vs) (new : seat ats s ≡ None) (is_item : s < items_of p) (f : IsSearched p ats us vs s d cost) where
@@ -153,8 +170,8 @@ module _ (p : Problem) (ats : List (Option ℕ)) (us vs : List ℕ) (s : ℕ) (d
       omega (arith, f.kept one.0 b one.1 n, h.tight one.0 b one.1, weight-small p valid one.0 b)
 
   -- the end of the price step
-  pub repricing_ends : (n : ℕ) (lower higher last : List ℕ) → bins_of p ≤ n → IsRepricing ats us vs d cost n lower higher → last ≡ set lower s (get_or lower s 0 - cost) → IsRepriced p ats us vs s d cost last higher
-  repricing_ends n lower higher last l r e =
+  pub repricing_ends : (done lower higher last : List ℕ) → ((b : ℕ) → b < bins_of p → get_or d b 0 < cost → 0 < times_in done b) → IsRepricing ats us vs d cost done lower higher → last ≡ set lower s (get_or lower s 0 - cost) → IsRepriced p ats us vs s d cost last higher
+  repricing_ends done lower higher last l r e =
       let there = λ (t : ℕ) (q : t ≢ s). (let w : get_or last t 0 ≡ get_or lower t 0 = ap (λ (m : List ℕ). get_or m t 0) e ∙ get_or-set_other lower s t (get_or lower s 0 - cost) 0 q in w) in
       let here : get_or last s 0 ≡ get_or lower s 0 - cost = ap (λ (m : List ℕ). get_or m s 0) e ∙ get_or-set_same lower s (get_or lower s 0 - cost) 0 (omega (arith, r.items, h.items)) in
       let apart = λ (t y : ℕ) (k : seat ats t ≡ Some y). (let w : t ≢ s = λ q. none-some y (sym new ∙ ap (seat ats) (sym q) ∙ k) in w) in
@@ -162,10 +179,10 @@ module _ (p : Problem) (ats : List (Option ℕ)) (us vs : List ℕ) (s : ℕ) (d
         items = ap length e ∙ length-set lower s (get_or lower s 0 - cost) ∙ r.items ∙ h.items;
         bins = r.bins ∙ h.bins;
         new = omega (arith, here, r.out s new, f.least);
-        near = λ t y k m. omega (arith, there t (apart t y k), r.near t y k (omega (arith, allowed_bin p valid t y (h.allowed t y k))) m);
+        near = λ t y k m. omega (arith, there t (apart t y k), r.near t y k (l y (allowed_bin p valid t y (h.allowed t y k)) m) m);
         far = λ t y k m. there t (apart t y k) ∙ r.far t y k m;
         out = λ t q k. there t q ∙ r.out t k;
-        near_bin = λ b k m. r.near_bin b (omega arith) m;
+        near_bin = λ b k m. r.near_bin b (l b k m) m;
         far_bin = λ b k m. r.far_bin b m;
       }
 

@@ -1,21 +1,23 @@
 -- One bin is settled, and the pairs of its items are relaxed.
-use Rattle.std.proofs.Common.{◌≡◌, ◌+◌, ◌<◌, ◌≤◌, ◌≢◌, eqb, cond, ℕ, List, Option, Some, Contains, inl, inr, ◌⊎◌, length, get_or, set, count_by, replicate, zero, suc, refl, sym, ap, ◌∙◌, subst, arith}
+use Rattle.std.proofs.Common.{◌≡◌, ◌+◌, ◌<◌, ◌≤◌, ◌≢◌, eqb, cond, ℕ, List, Option, Some, Contains, inl, inr, ◌⊎◌, length, get_or, set, count_by, replicate, zero, suc, [], ◌∷◌, ◌++◌, refl, sym, ap, ◌∙◌, subst, arith}
 use Rattle.std.proofs.lemmas.Bool.{cases_eq, cases_lt}
 use Rattle.std.proofs.lemmas.Bool.Decides.{nat_tests}
 use Rattle.std.proofs.lemmas.List.{get_or-set_same, get_or-set_other, length-set, get_or-replicate, length-replicate}
-use Rattle.std.proofs.lemmas.List.Sums.{sum_by-set, sum_by-cons, get_or-le-sum_by}
+use Rattle.std.proofs.lemmas.List.Sums.{sum_by-set, sum_by-cons, sum_by_push, get_or-le-sum_by}
 use Rattle.price_certificate.specs.Problem.{Problem, IsProblem, bins_of, capacity_of, row_of, weight_of, IsAllowed}
 use Rattle.price_certificate.proofs.Rows.{allowed_bin}
 use Rattle.assign_engine.specs.Seats.{seat, used, IsSound}
-use Rattle.assign_engine.specs.Labels.{Labelled}
+use Rattle.assign_engine.specs.SearchTables.{SearchState}
 use Rattle.assign_engine.specs.Changed.{WayFrom, IsLowered, IsRelaxed, IsExpanded}
 use Rattle.assign_engine.specs.Pending.{HasPending, HasPendingBut, IsNearest, AllFar}
-use Rattle.assign_engine.specs.Searched.{IsSearched, Reached}
+use Rattle.assign_engine.specs.Roll.{times_in}
+use Rattle.assign_engine.specs.Searched.{IsSearched, IsListed, Reached}
 use Rattle.assign_engine.specs.Searching.{IsSearching, EndsAt, EndSettled, IsNearerEnd}
 use Rattle.assign_engine.specs.declared.ends.End.{End}
 use Rattle.assign_engine.specs.declared.ends.End.TheVariants.{Leave, Room, Uncover}
 use Rattle.assign_engine.proofs.Changing.{cost_falls, distance_falls}
 use Rattle.assign_engine.proofs.Relaxing.{place_of}
+use Rattle.assign_engine.proofs.Repricing.{same_test, other_test}
 
 open_one : (n : ℕ) (x : ℕ) → x ≡ n → ◌≡◌ {A = ℕ} (cond (eqb x n) 1 0) 1
 open_one n x e = grind (arith, nat_tests)
@@ -23,11 +25,11 @@ open_one n x e = grind (arith, nat_tests)
 closed_none : (n : ℕ) (x : ℕ) → x < n → ◌≡◌ {A = ℕ} (cond (eqb x n) 1 0) 0
 closed_none n x e = grind (arith, nat_tests)
 
-module _ (p : Problem) (ats : List (Option ℕ)) (us vs : List ℕ) (s : ℕ) (l : Labelled) (valid : IsProblem p) (sound : IsSound p ats us vs) (h : IsSearching p ats us vs s l) where
+module _ (p : Problem) (ats : List (Option ℕ)) (us vs : List ℕ) (s : ℕ) (l : SearchState) (valid : IsProblem p) (sound : IsSound p ats us vs) (h : IsSearching p ats us vs s l) where
   -- a bin that is not settled: there is room for one more
   pub more_to_settle : (b : ℕ) → b < bins_of p → get_or l.ranks b 0 ≡ bins_of p → l.settled < bins_of p
   more_to_settle b m w =
-      let q = get_or-le-sum_by (λ (r : ℕ). (let n : ℕ = cond (eqb r (bins_of p)) 1 0 in n)) l.ranks b 0 (omega (arith, h.tables.ranks)) in
+      let q = get_or-le-sum_by (λ (r : ℕ). (let n : ℕ = cond (eqb r (bins_of p)) 1 0 in n)) l.ranks b 0 (omega (arith, h.sizes.ranks)) in
       omega (arith, q, open_one (bins_of p) (get_or l.ranks b 0) w, h.count)
 
   -- the seat of an item is a bin
@@ -37,9 +39,9 @@ module _ (p : Problem) (ats : List (Option ℕ)) (us vs : List ℕ) (s : ℕ) (l
   -- the search ends where no bin is nearer than the cost
   pub found : AllFar l.distances l.ranks l.cost → IsSearched p ats us vs s l.distances l.cost
   found f =
-      let near = λ (y : ℕ) (k : y < bins_of p) (m : get_or l.distances y 0 < l.cost). (let r : get_or l.ranks y 0 < l.settled = elim (h.cases y k) [ inl w ↦ absurd (omega (arith, f.far y (omega (arith, h.tables.distances)) (omega (arith, h.tables.ranks)))) | inr q ↦ q ] in r) in
+      let near = λ (y : ℕ) (k : y < bins_of p) (m : get_or l.distances y 0 < l.cost). (let r : get_or l.ranks y 0 < l.settled = elim (h.cases y k) [ inl w ↦ absurd (omega (arith, f.far y (omega (arith, h.sizes.distances)) (omega (arith, h.sizes.ranks)))) | inr q ↦ q ] in r) in
       record {
-        bins = h.tables.distances;
+        bins = h.sizes.distances;
         least = h.least;
         start = h.start;
         relaxed = λ t y x e m a. h.relaxed t y x e (near y (seat_bin t y e) m) m a;
@@ -47,16 +49,24 @@ module _ (p : Problem) (ats : List (Option ℕ)) (us vs : List ℕ) (s : ℕ) (l
         kept = λ t y e m. h.kept t y e (near y (seat_bin t y e) m);
       }
 
-  -- the labels once the bin b is settled and the best end so far is chosen
-  abbrev pub settled_at : ℕ → List (ℕ × ℕ) → ℕ → End → Labelled
-  settled_at b g cost2 end2 = record l { pending = g; ranks = set l.ranks b l.settled; settled = l.settled + 1; cost = cost2; end = end2 }
+  -- the settled bins are those that are nearer than the cost, each once
+  pub found_listed : AllFar l.distances l.ranks l.cost → IsListed p l.distances l.cost l.settled_bins
+  found_listed f = record {
+    once = h.once;
+    near = λ y k m. h.listed y k (elim (h.cases y k) [ inl w ↦ absurd (omega (arith, f.far y (omega (arith, h.sizes.distances)) (omega (arith, h.sizes.ranks)))) | inr q ↦ q ]);
+    in_range = λ y k. (h.in_range y k).0;
+  }
 
-  module _ (b : ℕ) (n : IsNearest l.distances l.ranks l.cost b) (g : List (ℕ × ℕ)) (cost2 : ℕ) (end2 : End) (new : Labelled) (less : cost2 ≤ l.cost) (x : IsExpanded p ats us vs b (get_or l.distances b 0) (settled_at b g cost2 end2) new) where
+  -- the tables once the bin b is settled and the best end so far is chosen
+  abbrev pub settled_at : ℕ → List (ℕ × ℕ) → ℕ → End → SearchState
+  settled_at b g cost2 end2 = record l { pending = g; ranks = set l.ranks b l.settled; settled = l.settled + 1; settled_bins = l.settled_bins ++ b ∷ []; cost = cost2; end = end2 }
+
+  module _ (b : ℕ) (n : IsNearest l.distances l.ranks l.cost b) (g : List (ℕ × ℕ)) (cost2 : ℕ) (end2 : End) (new : SearchState) (less : cost2 ≤ l.cost) (x : IsExpanded p ats us vs b (get_or l.distances b 0) (settled_at b g cost2 end2) new) where
     in_range : b < bins_of p
-    in_range = omega (arith, n.in_range, h.tables.distances)
+    in_range = omega (arith, n.in_range, h.sizes.distances)
 
     waits : get_or l.ranks b 0 ≡ bins_of p
-    waits = n.waits ∙ h.tables.ranks
+    waits = n.waits ∙ h.sizes.ranks
 
     few : l.settled < bins_of p
     few = more_to_settle b in_range waits
@@ -65,7 +75,7 @@ module _ (p : Problem) (ats : List (Option ℕ)) (us vs : List ℕ) (s : ℕ) (l
     cheaper = cost_falls p ats (WayFrom p ats us vs b (get_or l.distances b 0)) (settled_at b g cost2 end2) new x.changed
 
     rank_here : get_or (set l.ranks b l.settled) b 0 ≡ l.settled
-    rank_here = get_or-set_same l.ranks b l.settled 0 (omega (arith, in_range, h.tables.ranks))
+    rank_here = get_or-set_same l.ranks b l.settled 0 (omega (arith, in_range, h.sizes.ranks))
 
     rank_there : (y : ℕ) → y ≢ b → get_or (set l.ranks b l.settled) y 0 ≡ get_or l.ranks y 0
     rank_there y q = get_or-set_other l.ranks b y l.settled 0 q
@@ -97,7 +107,7 @@ module _ (p : Problem) (ats : List (Option ℕ)) (us vs : List ℕ) (s : ℕ) (l
     waiting y m r = elim (cases_eq y b) [ inl q ↦ absurd (let e = ap (λ (i : ℕ). get_or (set l.ranks b l.settled) i 0) q in omega (arith, rank_here, few)) | inr q ↦ (q, sym (rank_there y q) ∙ r) ]
 
     least_left : (y : ℕ) → y < bins_of p → get_or (set l.ranks b l.settled) y 0 ≡ bins_of p → get_or l.distances b 0 ≤ get_or new.distances y 0
-    least_left y m r = elim (x.changed.change y) [ inl k ↦ omega (arith, k.distance, n.least y (omega (arith, h.tables.distances)) ((waiting y m r).1 ∙ sym h.tables.ranks)) | inr k ↦ lowered y k ]
+    least_left y m r = elim (x.changed.change y) [ inl k ↦ omega (arith, k.distance, n.least y (omega (arith, h.sizes.distances)) ((waiting y m r).1 ∙ sym h.sizes.ranks)) | inr k ↦ lowered y k ]
 
     relaxed2 : (t y c : ℕ) → seat ats t ≡ Some y → get_or (set l.ranks b l.settled) y 0 < l.settled + 1 → get_or new.distances y 0 < new.cost → IsAllowed p t c → get_or new.distances c 0 + weight_of p t c ≤ get_or new.distances y 0 + (get_or us t 0 + get_or vs c 0)
     relaxed2 t y c e r m a =
@@ -146,8 +156,20 @@ module _ (p : Problem) (ats : List (Option ℕ)) (us vs : List ℕ) (s : ℕ) (l
 
     count2 : count_by (λ r. eqb r (bins_of p)) (set l.ranks b l.settled) + (l.settled + 1) ≡ bins_of p
     count2 =
-        let one = sum_by-set (λ (r : ℕ). (let m : ℕ = cond (eqb r (bins_of p)) 1 0 in m)) l.ranks b l.settled 0 (omega (arith, in_range, h.tables.ranks)) in
+        let one = sum_by-set (λ (r : ℕ). (let m : ℕ = cond (eqb r (bins_of p)) 1 0 in m)) l.ranks b l.settled 0 (omega (arith, in_range, h.sizes.ranks)) in
         omega (arith, one, open_one (bins_of p) (get_or l.ranks b 0) waits, closed_none (bins_of p) l.settled few, h.count)
+
+    times_after : (y : ℕ) → times_in new.settled_bins y ≡ times_in l.settled_bins y + cond (eqb b y) 1 0
+    times_after y = ap (λ (m : List ℕ). times_in m y) x.changed.settled_bins ∙ sum_by_push (λ (z : ℕ). (let n : ℕ = cond (eqb z y) 1 0 in n)) l.settled_bins b
+
+    not_listed : times_in l.settled_bins b ≡ 0
+    not_listed = elim (cases_lt 0 (times_in l.settled_bins b)) [ inl k ↦ absurd (omega (arith, (h.in_range b k).1, waits, few)) | inr k ↦ omega arith ]
+
+    times_there : (y : ℕ) → y ≢ b → times_in new.settled_bins y ≡ times_in l.settled_bins y
+    times_there y q = omega (arith, times_after y, other_test b y (λ z. q (sym z)))
+
+    times_here : (y : ℕ) → y ≡ b → times_in new.settled_bins y ≡ 1
+    times_here y q = omega (arith, times_after y, same_test b y (sym q), not_listed, ap (times_in l.settled_bins) q)
 
     settled_on : (y : ℕ) → get_or l.ranks y 0 < l.settled → get_or (set l.ranks b l.settled) y 0 < l.settled + 1
     settled_on y r = elim (cases_eq y b) [ inl q ↦ absurd (let e = ap (λ (m : ℕ). get_or l.ranks m 0) q in omega (arith, waits, few)) | inr q ↦ omega (arith, rank_there y q) ]
@@ -182,10 +204,10 @@ module _ (p : Problem) (ats : List (Option ℕ)) (us vs : List ℕ) (s : ℕ) (l
       pending_after : HasPendingBut l.distances l.ranks l.cost b g → HasPending new.distances (set l.ranks b l.settled) new.cost new.pending
       pending_after h2 = record {
         entry = λ z m r lt. (
-            let lz : z < bins_of p = omega (arith, x.changed.distance_count, h.tables.distances) in
-            let w = waiting z lz (r ∙ length-set l.ranks b l.settled ∙ h.tables.ranks) in
+            let lz : z < bins_of p = omega (arith, x.changed.distance_count, h.sizes.distances) in
+            let w = waiting z lz (r ∙ length-set l.ranks b l.settled ∙ h.sizes.ranks) in
             elim (x.changed.change z) [
-              | inl k ↦ subst (λ (i : ℕ). Contains new.pending (i, z)) (sym k.distance) (x.changed.kept _ (h2.entry z w.0 (omega (arith, h.tables.distances)) (w.1 ∙ sym h.tables.ranks) (omega (arith, k.distance, cheaper))))
+              | inl k ↦ subst (λ (i : ℕ). Contains new.pending (i, z)) (sym k.distance) (x.changed.kept _ (h2.entry z w.0 (omega (arith, h.sizes.distances)) (w.1 ∙ sym h.sizes.ranks) (omega (arith, k.distance, cheaper))))
               | inr k ↦ k.entry lt
             ]);
       }
@@ -193,10 +215,10 @@ module _ (p : Problem) (ats : List (Option ℕ)) (us vs : List ℕ) (s : ℕ) (l
       -- the search goes on
       goes_on_at : ((t : ℕ) → seat ats t ≡ Some b → cost2 ≤ get_or l.distances b 0 + get_or us t 0) → HasPendingBut l.distances l.ranks l.cost b g → IsSearching p ats us vs s (record new { ranks = set l.ranks b l.settled; settled = l.settled + 1 })
       goes_on_at kept pending = record {
-        tables = record {
-          distances = x.changed.distance_count ∙ h.tables.distances;
-          vias = x.changed.via_count ∙ h.tables.vias;
-          ranks = length-set l.ranks b l.settled ∙ h.tables.ranks;
+        sizes = record {
+          distances = x.changed.distance_count ∙ h.sizes.distances;
+          vias = x.changed.via_count ∙ h.sizes.vias;
+          ranks = length-set l.ranks b l.settled ∙ h.sizes.ranks;
         };
         least = omega (arith, h.least, cheaper);
         start = λ c a. omega (arith, h.start c a, below c);
@@ -212,6 +234,12 @@ module _ (p : Problem) (ats : List (Option ℕ)) (us vs : List ℕ) (s : ℕ) (l
           | inr q ↦ elim (h.cases y m) [ inl w ↦ inl (rank_there y q ∙ w) | inr w ↦ inr (omega (arith, rank_there y q)) ]
         ];
         count = count2;
+        once = λ y. elim (cases_eq y b) [ inl q ↦ omega (arith, times_here y q) | inr q ↦ omega (arith, times_there y q, h.once y) ];
+        listed = λ y m r. elim (cases_eq y b) [ inl q ↦ omega (arith, times_here y q) | inr q ↦ elim (done y m r) [ inl z ↦ absurd (q z) | inr k ↦ omega (arith, times_there y q, h.listed y m k) ] ];
+        in_range = λ y k. elim (cases_eq y b) [
+          | inl q ↦ (let e = ap (λ (i : ℕ). get_or (set l.ranks b l.settled) i 0) q in (omega (arith, in_range, q), omega (arith, rank_here)))
+          | inr q ↦ (let old = h.in_range y (omega (arith, times_there y q)) in (old.0, settled_on y old.1))
+        ];
         parents = record { allowed = λ z m lt. (parent2 z m lt).0; reached = λ z m lt. (parent2 z m lt).1 };
         pending = pending_after pending;
         ends = end_after.0;
@@ -219,21 +247,21 @@ module _ (p : Problem) (ats : List (Option ℕ)) (us vs : List ℕ) (s : ℕ) (l
       }
 
       new_is : new ≡ record new { ranks = set l.ranks b l.settled; settled = l.settled + 1 }
-      new_is = ap (λ (r : List ℕ). (let m : Labelled = record new { ranks = r } in m)) x.changed.ranks ∙ ap (λ (n : ℕ). (let m : Labelled = record new { ranks = set l.ranks b l.settled; settled = n } in m)) x.changed.settled
+      new_is = ap (λ (r : List ℕ). (let m : SearchState = record new { ranks = r } in m)) x.changed.ranks ∙ ap (λ (n : ℕ). (let m : SearchState = record new { ranks = set l.ranks b l.settled; settled = n } in m)) x.changed.settled
 
       pub goes_on : ((t : ℕ) → seat ats t ≡ Some b → cost2 ≤ get_or l.distances b 0 + get_or us t 0) → HasPendingBut l.distances l.ranks l.cost b g → IsSearching p ats us vs s new
       goes_on kept pending = subst (IsSearching p ats us vs s) (sym new_is) (goes_on_at kept pending)
 
 -- the search goes on, by what the calls of one turn ensure
-pub turn : (p : Problem) (ats : List (Option ℕ)) (us vs : List ℕ) (s : ℕ) (l one two three new : Labelled) (b : ℕ) → IsProblem p → IsSound p ats us vs → IsSearching p ats us vs s l
+pub turn : (p : Problem) (ats : List (Option ℕ)) (us vs : List ℕ) (s : ℕ) (l one two three new : SearchState) (b : ℕ) → IsProblem p → IsSound p ats us vs → IsSearching p ats us vs s l
     → IsNearest l.distances l.ranks l.cost b → HasPendingBut l.distances l.ranks l.cost b one.pending
-    → one ≡ record l { pending = one.pending } → two ≡ record one { ranks = set one.ranks b one.settled; settled = one.settled + 1 } → IsNearerEnd ats us b two three
+    → one ≡ record l { pending = one.pending } → two ≡ record one { ranks = set one.ranks b one.settled; settled = one.settled + 1; settled_bins = one.settled_bins ++ b ∷ [] } → IsNearerEnd ats us b two three
     → IsExpanded p ats us vs b (get_or three.distances b 0) three new → IsSearching p ats us vs s new
 turn p ats us vs s l one two three new b valid sound h n pending e1 e2 k x =
-    let two_is : two ≡ record l { pending = one.pending; ranks = set l.ranks b l.settled; settled = l.settled + 1 } = e2 ∙ ap (λ (m : Labelled). (let r : Labelled = record m { ranks = set m.ranks b m.settled; settled = m.settled + 1 } in r)) e1 in
-    let three_is : three ≡ settled_at p ats us vs s l valid sound h b one.pending three.cost three.end = k.rest ∙ ap (λ (m : Labelled). (let r : Labelled = record m { cost = three.cost; end = three.end } in r)) two_is in
-    let x2 = subst (λ (m : Labelled). IsExpanded p ats us vs b (get_or m.distances b 0) m new) three_is x in
-    let k2 = subst (λ (m : Labelled). IsNearerEnd ats us b m three) two_is k in
+    let two_is : two ≡ record l { pending = one.pending; ranks = set l.ranks b l.settled; settled = l.settled + 1; settled_bins = l.settled_bins ++ b ∷ [] } = e2 ∙ ap (λ (m : SearchState). (let r : SearchState = record m { ranks = set m.ranks b m.settled; settled = m.settled + 1; settled_bins = m.settled_bins ++ b ∷ [] } in r)) e1 in
+    let three_is : three ≡ settled_at p ats us vs s l valid sound h b one.pending three.cost three.end = k.rest ∙ ap (λ (m : SearchState). (let r : SearchState = record m { cost = three.cost; end = three.end } in r)) two_is in
+    let x2 = subst (λ (m : SearchState). IsExpanded p ats us vs b (get_or m.distances b 0) m new) three_is x in
+    let k2 = subst (λ (m : SearchState). IsNearerEnd ats us b m three) two_is k in
     goes_on p ats us vs s l valid sound h b n one.pending three.cost three.end new k2.less x2 k2.same k2.least pending
 
 count_replicate : (n m : ℕ) → count_by (λ (r : ℕ). eqb r m) (replicate n m) ≡ n
@@ -241,7 +269,7 @@ count_replicate zero m = refl
 count_replicate (suc n) m = omega (arith, sum_by-cons (λ (r : ℕ). (let k : ℕ = cond (eqb r m) 1 0 in k)) m (replicate n m), count_replicate n m, open_one m m refl)
 
 -- the pairs of the new item were relaxed
-module _ (p : Problem) (ats : List (Option ℕ)) (us vs : List ℕ) (s top : ℕ) (first l : Labelled) (is_top : top ≡ get_or us s 0) (ds : first.distances ≡ replicate (bins_of p) top) (vc : length first.vias ≡ bins_of p) (rs : first.ranks ≡ replicate (bins_of p) (bins_of p)) (cs : first.cost ≡ top) (es : first.end ≡ Leave) (ss : first.settled ≡ 0) (x : IsRelaxed p ats vs s top (length (row_of p s)) first l) where
+module _ (p : Problem) (ats : List (Option ℕ)) (us vs : List ℕ) (s top : ℕ) (first l : SearchState) (is_top : top ≡ get_or us s 0) (ds : first.distances ≡ replicate (bins_of p) top) (vc : length first.vias ≡ bins_of p) (rs : first.ranks ≡ replicate (bins_of p) (bins_of p)) (cs : first.cost ≡ top) (es : first.end ≡ Leave) (ss : first.settled ≡ 0) (bs : first.settled_bins ≡ []) (x : IsRelaxed p ats vs s top (length (row_of p s)) first l) where
   at_top : (b : ℕ) → b < bins_of p → get_or first.distances b 0 ≡ top
   at_top b m = ap (λ (d : List ℕ). get_or d b 0) ds ∙ get_or-replicate (bins_of p) b top 0 m
 
@@ -250,6 +278,9 @@ module _ (p : Problem) (ats : List (Option ℕ)) (us vs : List ℕ) (s top : ℕ
 
   none_settled : l.settled ≡ 0
   none_settled = x.changed.settled ∙ ss
+
+  none_listed : (y : ℕ) → times_in l.settled_bins y ≡ 0
+  none_listed y = ap (λ (m : List ℕ). times_in m y) (x.changed.settled_bins ∙ bs)
 
   cost_most : l.cost ≤ top
   cost_most = elim x.changed.ends [ inl q ↦ omega (arith, q.0) | inr q ↦ omega (arith, q.less) ]
@@ -284,7 +315,7 @@ module _ (p : Problem) (ats : List (Option ℕ)) (us vs : List ℕ) (s top : ℕ
 
   pub search_starts : IsSearching p ats us vs s l
   search_starts = record {
-    tables = record { distances = count_bins; vias = x.changed.via_count ∙ vc; ranks = ap length (x.changed.ranks ∙ rs) ∙ length-replicate (bins_of p) (bins_of p) };
+    sizes = record { distances = count_bins; vias = x.changed.via_count ∙ vc; ranks = ap length (x.changed.ranks ∙ rs) ∙ length-replicate (bins_of p) (bins_of p) };
     least = omega (arith, cost_most);
     start = start0;
     relaxed = λ t y b e r m a. absurd (omega (arith, none_settled));
@@ -293,6 +324,9 @@ module _ (p : Problem) (ats : List (Option ℕ)) (us vs : List ℕ) (s top : ℕ
     order = λ z y lz ly r w. absurd (omega (arith, none_settled));
     cases = λ y m. inl (rank_all y m);
     count = (let c = ap (λ (m : List ℕ). count_by (λ (r : ℕ). eqb r (bins_of p)) m) (x.changed.ranks ∙ rs) in omega (arith, c, count_replicate (bins_of p) (bins_of p), none_settled));
+    once = λ y. omega (arith, none_listed y);
+    listed = λ y m r. absurd (omega (arith, none_settled));
+    in_range = λ y k. absurd (omega (arith, none_listed y));
     parents = record { allowed = λ b m lt. (parent0 b m lt).0; reached = λ b m lt. (parent0 b m lt).1 };
     pending = record {
       entry = λ b m r lt. elim (x.changed.change b) [

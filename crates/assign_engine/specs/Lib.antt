@@ -1,9 +1,11 @@
 pub mod Usable
 pub mod Seats
+pub mod Table
 pub mod Roll
-pub mod Labels
+pub mod SearchTables
 pub mod Changed
 pub mod Searched
 pub mod Pending
 pub mod Searching
 pub mod Repriced
+pub mod Exact

@@ -2,6 +2,7 @@
 use Rattle.std.specs.Prelude.{◌≡◌, ◌≢◌, ◌==◌, ◌+◌, ◌<◌, ◌≤◌, ◌⊎◌, ℕ, List, Option, Some, None, length, slice_index, if◌then◌else◌}
 use Rattle.price_certificate.specs.Problem.{Problem, items_of, bins_of, capacity_of, weight_of, IsAllowed}
 use Rattle.assign_engine.specs.Seats.{seat, used, IsSound, IsWaiting}
+use Rattle.assign_engine.specs.Roll.{times_in}
 
 -- The distances are final below the cost: no residual pair shortens one of them or passes the end.
 pub record IsSearched (p : Problem) (ats : List (Option ℕ)) (us vs : List ℕ) (s : ℕ) (distances : List ℕ) (cost : ℕ) : Type 0 where
@@ -11,6 +12,12 @@ pub record IsSearched (p : Problem) (ats : List (Option ℕ)) (us vs : List ℕ)
   pub relaxed : (t y b : ℕ) → seat ats t ≡ Some y → slice_index distances y < cost → IsAllowed p t b → slice_index distances b + weight_of p t b ≤ slice_index distances y + (slice_index us t + slice_index vs b)
   pub full : (y : ℕ) → y < bins_of p → slice_index distances y < cost → capacity_of p y ≤ used ats y
   pub kept : (t y : ℕ) → seat ats t ≡ Some y → slice_index distances y < cost → cost ≤ slice_index distances y + slice_index us t
+
+-- the bins that are nearer than the cost, each once
+pub record IsListed (p : Problem) (distances : List ℕ) (cost : ℕ) (bins : List ℕ) : Type 0 where
+  pub once : (b : ℕ) → times_in bins b ≤ 1
+  pub near : (b : ℕ) → b < bins_of p → slice_index distances b < cost → 0 < times_in bins b
+  pub in_range : (b : ℕ) → 0 < times_in bins b → b < bins_of p
 
 -- how the bin b was reached: from the new item, or from an item of a bin that was settled before it
 abbrev pub Reached : Problem → List (Option ℕ) → List ℕ → List ℕ → ℕ → List ℕ → List ℕ → ℕ → ℕ → Type 0
@@ -35,16 +42,15 @@ pub record IsRepriced (p : Problem) (ats : List (Option ℕ)) (us vs : List ℕ)
   pub far_bin : (b : ℕ) → b < bins_of p → cost ≤ slice_index distances b → slice_index higher b ≡ slice_index vs b
 
 -- a bin on the way to the end
-pub record IsNear (p : Problem) (distances : List ℕ) (cost top : ℕ) (b : ℕ) : Type 0 where
+pub record IsNear (p : Problem) (distances : List ℕ) (cost b : ℕ) : Type 0 where
   pub in_range : b < bins_of p
   pub within : slice_index distances b ≤ cost
-  pub below : slice_index distances b < top
 
 -- the pairs that lead to near bins are tight at the new prices
-pub record HasTrail (p : Problem) (ats : List (Option ℕ)) (lower higher : List ℕ) (s : ℕ) (distances vias ranks : List ℕ) (cost top : ℕ) : Type 0 where
-  pub allowed : (b : ℕ) → IsNear p distances cost top b → IsAllowed p (slice_index vias b) b
-  pub tight : (b : ℕ) → IsNear p distances cost top b → slice_index lower (slice_index vias b) + slice_index higher b ≡ weight_of p (slice_index vias b) b
-  pub back : (b : ℕ) → IsNear p distances cost top b → (slice_index vias b ≡ s) ⊎ ((y : ℕ) × (seat ats (slice_index vias b) ≡ Some y) × (slice_index ranks y < slice_index ranks b) × IsNear p distances cost top y)
+pub record HasTrail (p : Problem) (ats : List (Option ℕ)) (lower higher : List ℕ) (s : ℕ) (distances vias ranks : List ℕ) (cost : ℕ) : Type 0 where
+  pub allowed : (b : ℕ) → IsNear p distances cost b → IsAllowed p (slice_index vias b) b
+  pub tight : (b : ℕ) → IsNear p distances cost b → slice_index lower (slice_index vias b) + slice_index higher b ≡ weight_of p (slice_index vias b) b
+  pub back : (b : ℕ) → IsNear p distances cost b → (slice_index vias b ≡ s) ⊎ ((y : ℕ) × (seat ats (slice_index vias b) ≡ Some y) × (slice_index ranks y < slice_index ranks b) × IsNear p distances cost y)
 
 -- While the matching changes along the trail: one more item at the hole would give each bin its target.
 pub record IsWalking (p : Problem) (old : List (Option ℕ)) (us lower higher : List ℕ) (s : ℕ) (ranks : List ℕ) (target : ℕ → ℕ) (hole : ℕ) (ats : List (Option ℕ)) : Type 0 where

@@ -1,3 +1,4 @@
+//! The engine's public call: it starts, inserts who waits, and reads the plan off.
 ghost use Rattle.std.specs.Prelude.{◌≡◌, ◌*◌, ◌<◌, ◌≤◌, Some, ℕ, length, map, OnOk, IfOk, count_by, is_none};
 ghost use Rattle.std.specs.List.Sorted.{IsStrictlyIncreasing};
 ghost use Rattle.price_certificate.specs.Problem.{items_of, bins_of};
@@ -5,13 +6,14 @@ ghost use Rattle.price_certificate.specs.Assignment.{IsOptimal};
 ghost use Rattle.price_certificate.specs.Certificate.{IsCertified};
 ghost use Rattle.assign_engine.specs.Usable.{movers_below};
 ghost use Rattle.assign_engine.specs.Seats.{seat, pairs_of, IsSound, IsWaiting};
-ghost use Rattle.assign_engine.specs.Labels.{HasBins};
+ghost use Rattle.assign_engine.specs.SearchTables.{HasBins};
 
 use crate::insert::insert;
-use crate::labels::Labels;
 use crate::matching::Matching;
+use crate::search_tables::SearchTables;
 use crate::seating::Seating;
 use crate::start::start;
+use crate::walks::{Walks, is_waiting, walk_if_due};
 use lists::List;
 use price_certificate::{Instance, Plan};
 use std::alloc::{AllocError, Global};
@@ -27,13 +29,18 @@ pub struct Work {
 
 /// Inserts each item that has a price and is in no bin.
 fn insert_all(
+    alloc: Global,
     instance: &Instance,
     matching: &mut Matching,
-    labels: &mut Labels,
+    tables: &mut SearchTables,
+    walks: &mut Walks,
 ) -> Result<Work, AllocError>
     requires sound { IsSound instance.now matching.old.seating.seats matching.old.item_prices.items matching.old.bin_prices.items }
     requires bins { matching.old.seating.bins ≡ bins_of instance.now }
-    requires tables { HasBins (bins_of instance.now) labels.old }
+    requires sizes { HasBins (bins_of instance.now) tables.old }
+    requires arcs { length walks.old.arcs.items ≡ items_of instance.now }
+    requires turns { length walks.old.turns.items ≡ bins_of instance.now }
+    requires marks { HasBins (bins_of instance.now) walks.old.tables }
     ensures sound { OnOk result (IsSound instance.now matching.new.seating.seats matching.new.item_prices.items matching.new.bin_prices.items) }
     ensures none { OnOk result ((t : ℕ) → ¬ IsWaiting matching.new.seating.seats matching.new.item_prices.items t) }
     ensures searches { IfOk result (λ w. w.searches ≤ count_by is_none matching.old.seating.seats) }
@@ -42,11 +49,15 @@ fn insert_all(
     instance.is_problem();
     let mut searches = 0;
     let mut settled = 0;
+    let mut due = 0;
     for item in 0..instance.items() {
-        if matching.seating.bin_of(item).is_none() && matching.item_prices[item] > 0 {
-            insert(instance, matching, item, labels)?;
+        due = walk_if_due(alloc, instance, matching, walks, item, due)?;
+        if is_waiting(matching, item) {
+            insert(instance, matching, item, tables)?;
             searches += 1;
-            settled += labels.settled() as u64;
+            let more = tables.settled() as u64;
+            settled += more;
+            due = due.saturating_sub(tables.looked()).saturating_sub(1);
         }
     }
     Ok(Work { searches, settled })
@@ -82,8 +93,9 @@ pub fn solve(alloc: Global, instance: &Instance) -> Result<(Plan, Work), AllocEr
 {
     instance.is_problem();
     let mut matching = start(alloc, instance)?;
-    let mut labels = Labels::new(alloc, instance.bins())?;
-    let work = insert_all(instance, &mut matching, &mut labels)?;
+    let mut tables = SearchTables::new(alloc, instance.bins())?;
+    let mut walks = Walks::new(alloc, instance)?;
+    let work = insert_all(alloc, instance, &mut matching, &mut tables, &mut walks)?;
     let pairs = pairs(alloc, instance, &matching.seating)?;
     let Matching {
         seating: _,

@@ -1,3 +1,4 @@
+//! The bins that a search has come to and not settled, the nearest first.
 ghost use Rattle.std.specs.Prelude.{◌≡◌, ◌<◌, ◌≤◌, ◌⊎◌, ◌∷◌, List, [], ℕ, Contains, length, IfSome, IfNone, OnOk, OnErr, OnSome};
 ghost use Rattle.std.specs.List.Sorted.{IsPermutation};
 

@@ -1,15 +1,16 @@
-ghost use Rattle.std.specs.Prelude.{◌≡◌, ◌<◌, ◌≤◌, ◌≢◌, ℕ, None, slice_index, OnOk};
+//! The insertion of one item, and the way back from an end to it.
+ghost use Rattle.std.specs.Prelude.{◌≡◌, ◌<◌, ◌≤◌, ◌≢◌, ℕ, None, OnOk};
 ghost use Rattle.price_certificate.specs.Problem.{items_of, bins_of};
 ghost use Rattle.assign_engine.specs.Seats.{seat, IsSound, IsWaiting};
-ghost use Rattle.assign_engine.specs.Labels.{HasBins};
-ghost use Rattle.assign_engine.specs.Searched.{HasTrail, IsInserted};
-ghost use Rattle.assign_engine.specs.Searching.{EndsAt, EndFree};
+ghost use Rattle.assign_engine.specs.SearchTables.{HasBins};
+ghost use Rattle.assign_engine.specs.Searched.{IsInserted};
+ghost use Rattle.assign_engine.specs.Searching.{HasWay};
 
 use crate::ends::End;
-use crate::labels::Labels;
 use crate::matching::Matching;
 use crate::reprice::reprice;
 use crate::search::search;
+use crate::search_tables::SearchTables;
 use price_certificate::Instance;
 use std::alloc::AllocError;
 
@@ -18,47 +19,42 @@ fn improve(
     instance: &Instance,
     matching: &mut Matching,
     item: usize,
-    labels: &mut Labels,
+    tables: &mut SearchTables,
 ) -> Result<(), AllocError>
     requires item { item < items_of instance.now }
     requires sound { IsSound instance.now matching.old.seating.seats matching.old.item_prices.items matching.old.bin_prices.items }
     requires new { seat matching.old.seating.seats item ≡ None }
-    requires tables { HasBins (bins_of instance.now) labels.old }
+    requires sizes { HasBins (bins_of instance.now) tables.old }
     ensures seating { OnOk result (matching.new.seating ≡ matching.old.seating) }
     ensures sound { OnOk result (IsSound instance.now matching.old.seating.seats matching.new.item_prices.items matching.new.bin_prices.items) }
-    ensures trail { OnOk result (HasTrail instance.now matching.old.seating.seats matching.new.item_prices.items matching.new.bin_prices.items item labels.new.distances labels.new.vias labels.new.ranks labels.new.cost (slice_index matching.old.item_prices.items item)) }
+    ensures way { OnOk result (HasWay instance.now matching.old.seating.seats matching.new.item_prices.items matching.new.bin_prices.items item tables.new.distances tables.new.vias tables.new.ranks tables.new.cost tables.new.end) }
     ensures waiting { OnOk result ((t : ℕ) → t ≢ item → IsWaiting matching.old.seating.seats matching.new.item_prices.items t → IsWaiting matching.old.seating.seats matching.old.item_prices.items t) }
-    ensures ends { OnOk result (EndsAt instance.now matching.old.seating.seats matching.old.item_prices.items item labels.new.distances labels.new.cost labels.new.end) }
-    ensures free { OnOk result (EndFree matching.new.item_prices.items item labels.new.end) }
-    ensures tables { OnOk result (HasBins (bins_of instance.now) labels.new) }
-    ensures settled { OnOk result (labels.new.settled ≤ bins_of instance.now) }
+    ensures sizes { OnOk result (HasBins (bins_of instance.now) tables.new) }
+    ensures settled { OnOk result (tables.new.settled ≤ bins_of instance.now) }
 {
     instance.is_problem();
-    search(instance, matching, item, labels)?;
-    reprice(instance, matching, item, labels);
+    search(instance, matching, item, tables)?;
+    reprice(instance, matching, item, tables);
     Ok(())
 }
 
-/// Inserts one item: along the way to the nearest end each item moves on to the next bin.
-pub fn insert(
+/// Goes back from the end that was found to the new item: each item on the way moves on to the next bin.
+pub fn follow(
     instance: &Instance,
     matching: &mut Matching,
     item: usize,
-    labels: &mut Labels,
+    tables: &SearchTables,
 ) -> Result<(), AllocError>
-    requires item { item < items_of instance.now }
     requires sound { IsSound instance.now matching.old.seating.seats matching.old.item_prices.items matching.old.bin_prices.items }
     requires new { seat matching.old.seating.seats item ≡ None }
     requires bins { matching.old.seating.bins ≡ bins_of instance.now }
-    requires tables { HasBins (bins_of instance.now) labels.old }
+    requires sizes { HasBins (bins_of instance.now) tables.now }
+    requires way { HasWay instance.now matching.old.seating.seats matching.old.item_prices.items matching.old.bin_prices.items item tables.now.distances tables.now.vias tables.now.ranks tables.now.cost tables.now.end }
     ensures inserted { OnOk result (IsInserted instance.now matching.old.seating.seats matching.old.item_prices.items item matching.new.seating.seats matching.new.item_prices.items matching.new.bin_prices.items) }
     ensures bins { OnOk result (matching.new.seating.bins ≡ bins_of instance.now) }
-    ensures tables { OnOk result (HasBins (bins_of instance.now) labels.new) }
-    ensures settled { OnOk result (labels.new.settled ≤ bins_of instance.now) }
 {
     instance.is_problem();
-    improve(instance, matching, item, labels)?;
-    let mut hole = match labels.end() {
+    let mut hole = match tables.end() {
         End::Leave => return Ok(()),
         End::Room(bin) => bin,
         End::Uncover(other, bin) => {
@@ -67,7 +63,7 @@ pub fn insert(
         }
     };
     'trail: loop {
-        let via = labels.via(hole);
+        let via = tables.via(hole);
         let from = matching.seating.bin_of(via);
         matching.seating.put(via, hole)?;
         match from {
@@ -75,4 +71,25 @@ pub fn insert(
             None => return Ok(()),
         }
     }
+}
+
+/// Inserts one item: along the way to the nearest end each item moves on to the next bin.
+pub fn insert(
+    instance: &Instance,
+    matching: &mut Matching,
+    item: usize,
+    tables: &mut SearchTables,
+) -> Result<(), AllocError>
+    requires item { item < items_of instance.now }
+    requires sound { IsSound instance.now matching.old.seating.seats matching.old.item_prices.items matching.old.bin_prices.items }
+    requires new { seat matching.old.seating.seats item ≡ None }
+    requires bins { matching.old.seating.bins ≡ bins_of instance.now }
+    requires sizes { HasBins (bins_of instance.now) tables.old }
+    ensures inserted { OnOk result (IsInserted instance.now matching.old.seating.seats matching.old.item_prices.items item matching.new.seating.seats matching.new.item_prices.items matching.new.bin_prices.items) }
+    ensures bins { OnOk result (matching.new.seating.bins ≡ bins_of instance.now) }
+    ensures sizes { OnOk result (HasBins (bins_of instance.now) tables.new) }
+    ensures settled { OnOk result (tables.new.settled ≤ bins_of instance.now) }
+{
+    improve(instance, matching, item, tables)?;
+    follow(instance, matching, item, tables)
 }

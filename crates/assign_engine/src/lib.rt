@@ -5,13 +5,15 @@ mod ends;
 mod engine;
 mod frontier;
 mod insert;
-mod labels;
 mod matching;
 mod reprice;
 mod search;
+mod search_tables;
 mod seating;
 mod start;
+mod table;
 #[cfg(test)]
 mod tests;
+mod walks;
 
 pub use engine::{Work, solve};

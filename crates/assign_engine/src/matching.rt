@@ -1,3 +1,4 @@
+//! The engine's matching and its prices.
 use crate::seating::Seating;
 
 /// What the engine changes as it goes: who is in which bin, and the prices.

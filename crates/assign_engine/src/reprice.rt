@@ -1,12 +1,14 @@
+//! The price step after a search.
 ghost use Rattle.std.specs.Prelude.{◌≡◌, ◌+◌, ◌*◌, ◌^◌, ◌<◌, ◌≤◌, ◌≢◌, ℕ, Some, None, length, slice_index, slice_set, OnOk};
 ghost use Rattle.price_certificate.specs.Problem.{items_of, bins_of};
 ghost use Rattle.assign_engine.specs.Usable.{one_if};
 ghost use Rattle.assign_engine.specs.Seats.{sits, seat, IsSound};
 ghost use Rattle.assign_engine.specs.Roll.{times_in};
-ghost use Rattle.assign_engine.specs.Searched.{IsSearched, IsRepriced};
+ghost use Rattle.assign_engine.specs.SearchTables.{HasBins};
+ghost use Rattle.assign_engine.specs.Searched.{IsSearched, IsListed, IsRepriced};
 
-use crate::labels::Labels;
 use crate::matching::Matching;
+use crate::search_tables::SearchTables;
 use price_certificate::Instance;
 
 /// Lowers the price of each item of a list, once for each time that it stands there.
@@ -37,19 +39,22 @@ fn reprice_bin(matching: &mut Matching, bin: usize, by: u32)
 }
 
 /// The price step: what is nearer than the cost of the search gets the difference, bins as a rise and items as a fall.
-pub fn reprice(instance: &Instance, matching: &mut Matching, item: usize, labels: &Labels)
+pub fn reprice(instance: &Instance, matching: &mut Matching, item: usize, tables: &SearchTables)
     requires item { item < items_of instance.now }
     requires sound { IsSound instance.now matching.old.seating.seats matching.old.item_prices.items matching.old.bin_prices.items }
     requires new { seat matching.old.seating.seats item ≡ None }
-    requires searched { IsSearched instance.now matching.old.seating.seats matching.old.item_prices.items matching.old.bin_prices.items item labels.now.distances labels.now.cost }
-    requires cost { labels.now.cost < 2 ^ 32 }
+    requires searched { IsSearched instance.now matching.old.seating.seats matching.old.item_prices.items matching.old.bin_prices.items item tables.now.distances tables.now.cost }
+    requires sizes { HasBins (bins_of instance.now) tables.now }
+    requires listed { IsListed instance.now tables.now.distances tables.now.cost tables.now.settled_bins }
+    requires cost { tables.now.cost < 2 ^ 32 }
     ensures seating { matching.new.seating ≡ matching.old.seating }
-    ensures repriced { IsRepriced instance.now matching.old.seating.seats matching.old.item_prices.items matching.old.bin_prices.items item labels.now.distances labels.now.cost matching.new.item_prices.items matching.new.bin_prices.items }
+    ensures repriced { IsRepriced instance.now matching.old.seating.seats matching.old.item_prices.items matching.old.bin_prices.items item tables.now.distances tables.now.cost matching.new.item_prices.items matching.new.bin_prices.items }
 {
     instance.is_problem();
-    let cost = labels.cost();
-    for bin in 0..instance.bins() {
-        let distance = labels.distance(bin);
+    let cost = tables.cost();
+    for bin in tables.settled_bins() {
+        let bin = *bin;
+        let distance = tables.distance(bin);
         if distance < cost {
             reprice_bin(matching, bin, (cost - distance) as u32);
         }

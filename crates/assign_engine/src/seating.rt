@@ -1,3 +1,4 @@
+//! Who is in which bin, by item and by bin.
 ghost use Rattle.std.specs.Prelude.{◌≡◌, ◌==◌, ◌+◌, ◌++◌, ◌∷◌, ◌<◌, List, [], Option, Some, None, ℕ, length, replicate, slice_index, slice_set, IfOk, OnOk, OnErr};
 ghost use Rattle.assign_engine.specs.Usable.{one_if};
 ghost use Rattle.assign_engine.specs.Seats.{sits, seat, used};

@@ -1,3 +1,4 @@
+//! What the engine starts from.
 ghost use Rattle.std.specs.Prelude.{◌≡◌, ◌==◌, ◌<◌, ◌≤◌, List, ℕ, IfSome, IfNone, IfOk, IsTrue, Contains, Some, replicate, count_by, is_none};
 ghost use Rattle.std.specs.List.{list_any};
 ghost use Rattle.price_certificate.specs.Problem.{items_of, bins_of, capacity_of};

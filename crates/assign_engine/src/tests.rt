@@ -1,3 +1,4 @@
+//! Counts that rows fix, cases at an edge, and small instances against a plain program.
 use crate::{Work, solve};
 use lists::List;
 use price_certificate::{Instance, Verdict, check};
@@ -41,8 +42,13 @@ fn moves_an_item_for_another(rt: HostRuntime) -> Result<(), Fail> {
             moved: 1
         }
     );
-    assert_eq!(rt; work.searches, 1);
-    assert!(rt; work.settled == 1 || work.settled == 2);
+    assert_eq!(rt;
+        work,
+        Work {
+            searches: 1,
+            settled: 1
+        }
+    );
     Ok(())
 }
 
@@ -54,6 +60,7 @@ struct Case<'a> {
     covered: u64,
     moved: u64,
     searches: u64,
+    settled: u64,
 }
 
 #[test]
@@ -66,6 +73,7 @@ fn solves_what_is_at_an_edge(rt: HostRuntime) -> Result<(), Fail> {
         covered: 0,
         moved: 0,
         searches: 0,
+        settled: 0,
     };
     let nothing_in_reach = Case {
         limits: &[1],
@@ -73,7 +81,8 @@ fn solves_what_is_at_an_edge(rt: HostRuntime) -> Result<(), Fail> {
         before: &[(1, 0)],
         covered: 0,
         moved: 1,
-        searches: 2,
+        searches: 0,
+        settled: 0,
     };
     let no_limit = Case {
         limits: &[0],
@@ -81,7 +90,8 @@ fn solves_what_is_at_an_edge(rt: HostRuntime) -> Result<(), Fail> {
         before: &[(2, 0)],
         covered: 3,
         moved: 0,
-        searches: 2,
+        searches: 0,
+        settled: 0,
     };
     let before_is_not_allowed = Case {
         limits: &[1, 1],
@@ -89,7 +99,8 @@ fn solves_what_is_at_an_edge(rt: HostRuntime) -> Result<(), Fail> {
         before: &[(0, 0)],
         covered: 1,
         moved: 1,
-        searches: 1,
+        searches: 0,
+        settled: 0,
     };
     let more_before_than_room = Case {
         limits: &[1, 1],
@@ -98,6 +109,7 @@ fn solves_what_is_at_an_edge(rt: HostRuntime) -> Result<(), Fail> {
         covered: 2,
         moved: 2,
         searches: 2,
+        settled: 2,
     };
     for case in [
         no_items,
@@ -118,7 +130,10 @@ fn solves_what_is_at_an_edge(rt: HostRuntime) -> Result<(), Fail> {
                 moved: case.moved
             }
         );
-        assert_eq!(rt; work.searches, case.searches);
+        assert_eq!(rt;
+            (work.searches, work.settled),
+            (case.searches, case.settled)
+        );
     }
     Ok(())
 }
@@ -160,40 +175,78 @@ fn searches_no_more_than_it_must(rt: HostRuntime) -> Result<(), Fail> {
             moved: 20
         }
     );
-    assert!(rt; work.searches <= 20);
+    assert_eq!(rt;
+        work,
+        Work {
+            searches: 20,
+            settled: 39
+        }
+    );
     Ok(())
 }
 
-const ITEMS: u32 = 4;
+const BINS: u32 = 4;
 
-const BINS: u32 = 3;
+/// How many ways there are for each bin to have none to three items.
+const USES: usize = 256;
 
-/// The digit of a number in base 4, at one of the first eight places.
-fn digit(number: u64, place: u32) -> u32 {
-    ((number >> (2 * (place % 8))) % 4) as u32
+/// A generator of numbers, the same in each run.
+#[derive(Drop)]
+struct Numbers {
+    state: u64,
 }
 
-/// An instance in three numbers. Digits name a bin, or no bin where they are 3; a limit of 0 is no limit.
+impl Numbers {
+    /// The next number, below 2^48.
+    fn next(&mut self) -> u64 {
+        self.state = self
+            .state
+            .wrapping_mul(6364136223846793005)
+            .wrapping_add(1442695040888963407);
+        self.state >> 16
+    }
+}
+
+/// An instance in three numbers: a bit for each pair, three for the bin where an item was, two for a limit, where 0 is none.
 #[derive(Clone, Copy)]
 struct Small {
+    items: u32,
     reach: u64,
     before: u64,
     limits: u64,
 }
 
 impl Small {
+    fn new(numbers: &mut Numbers) -> Small {
+        Small {
+            items: (numbers.next() % 11) as u32,
+            reach: numbers.next() & numbers.next(),
+            before: numbers.next(),
+            limits: numbers.next(),
+        }
+    }
+
     fn may_use(&self, item: u32, bin: u32) -> bool {
-        (self.reach >> (4 * (item % 4) + bin % 4)) % 2 == 1
+        (self.reach >> (4 * (item % 12) + bin % 4)) % 2 == 1
+    }
+
+    /// The bin where an item was, or none where it is no bin.
+    fn home(&self, item: u32) -> u32 {
+        ((self.before >> (3 * (item % 12))) % 8) as u32
+    }
+
+    fn limit(&self, bin: u32) -> u32 {
+        ((self.limits >> (2 * (bin % 4))) % 4) as u32
     }
 
     fn instance(&self, alloc: Global) -> Result<Instance, Fail> {
         let mut limits = List::new(alloc);
         for bin in 0..BINS {
-            limits.push(digit(self.limits, bin))?;
+            limits.push(self.limit(bin))?;
         }
         let mut rows = List::new(alloc);
         let mut before = List::new(alloc);
-        for item in 0..ITEMS {
+        for item in 0..self.items {
             let mut row = List::new(alloc);
             for bin in 0..BINS {
                 if self.may_use(item, bin) {
@@ -201,73 +254,87 @@ impl Small {
                 }
             }
             rows.push(row)?;
-            if digit(self.before, item) < BINS {
-                before.push((item, digit(self.before, item)))?;
+            if self.home(item) < BINS {
+                before.push((item, self.home(item)))?;
             }
         }
         Ok(Instance::new(alloc, limits, rows, before)?)
     }
 
-    /// Whether the choice of a bin for each item is a feasible assignment.
-    fn is_feasible(&self, choice: u64) -> bool {
-        let all_allowed = (0..ITEMS).all(|item| {
-            digit(choice, item) >= BINS || self.may_use(item, digit(choice, item))
-        });
-        let all_within = (0..BINS).all(|bin| {
-            let uses = (0..ITEMS)
-                .filter(|item| digit(choice, *item) == bin)
-                .count();
-            let limit = digit(self.limits, bin) as usize;
-            limit == 0 || uses <= limit
-        });
-        all_allowed && all_within
+    /// The uses of the bins once a bin has one more item; none where it may have no more.
+    fn one_more(&self, uses: usize, bin: u32) -> Option<usize> {
+        let one = 1usize << (2 * (bin % 4));
+        let used = (uses / one) % 4;
+        match self.limit(bin) as usize {
+            0 => Some(uses),
+            limit if used < limit => uses.checked_add(one),
+            _ => None,
+        }
     }
 
-    /// How many pairs of the preceding assignment a choice keeps.
-    fn kept(&self, choice: u64) -> usize {
-        (0..ITEMS)
-            .filter(|item| {
-                digit(choice, *item) < BINS && digit(choice, *item) == digit(self.before, *item)
-            })
-            .count()
-    }
-
-    /// What the best of all choices covers, and what it keeps.
-    fn best(&self) -> (usize, usize) {
-        let mut best = (0, 0);
-        for choice in 0..256 {
-            if self.is_feasible(choice) {
-                let covered = (0..ITEMS)
-                    .filter(|item| digit(choice, *item) < BINS)
-                    .count();
-                best = best.max((covered, self.kept(choice)));
+    /// By the uses of the bins, the most that is covered and then kept once one more item has its choice.
+    fn choose(
+        &self,
+        alloc: Global,
+        item: u32,
+        most: &[Option<(usize, usize)>],
+    ) -> Result<Vec<Option<(usize, usize)>>, AllocError> {
+        let mut after = Vec::from_slice(alloc, most)?;
+        for (uses, reached) in most.iter().enumerate() {
+            let Some((covered, kept)) = *reached else {
+                continue;
+            };
+            for bin in 0..BINS {
+                if !self.may_use(item, bin) {
+                    continue;
+                }
+                let is_home = self.home(item) == bin;
+                let both = (
+                    covered.saturating_add(1),
+                    kept.saturating_add(usize::from(is_home)),
+                );
+                if let Some(place) = self
+                    .one_more(uses, bin)
+                    .and_then(|uses| after.as_mut_slice().get_mut(uses))
+                {
+                    *place = (*place).max(Some(both));
+                }
             }
         }
-        best
+        Ok(after)
+    }
+
+    /// What the best of all assignments covers, and what it keeps.
+    fn best(&self, alloc: Global) -> Result<(usize, usize), AllocError> {
+        let mut most = vec![in alloc; None; USES]?;
+        if let Some(unused) = most.as_mut_slice().get_mut(0) {
+            *unused = Some((0, 0));
+        }
+        for item in 0..self.items {
+            most = self.choose(alloc, item, most.as_slice())?;
+        }
+        let mut best = (0, 0);
+        for both in most.as_slice() {
+            best = best.max(both.unwrap_or((0, 0)));
+        }
+        Ok(best)
     }
 }
 
 #[test]
 fn is_as_good_as_the_best_of_all_assignments(rt: HostRuntime) -> Result<(), Fail> {
     let alloc = rt.alloc();
-    let mut state = 2027u64;
-    for _ in 0..3000 {
-        state = state
-            .wrapping_mul(6364136223846793005)
-            .wrapping_add(1442695040888963407);
-        let small = Small {
-            reach: state >> 16,
-            before: state >> 34,
-            limits: state >> 48,
-        };
+    let mut numbers = Numbers { state: 2027 };
+    for _ in 0..2000 {
+        let small = Small::new(&mut numbers);
         let (plan, _work) = solve(alloc, &small.instance(alloc)?)?;
         let kept = plan
             .pairs
             .as_slice()
             .iter()
-            .filter(|pair| digit(small.before, pair.0) == pair.1)
+            .filter(|pair| small.home(pair.0) == pair.1)
             .count();
-        assert_eq!(rt; (plan.pairs.len(), kept), small.best());
+        assert_eq!(rt; (plan.pairs.len(), kept), small.best(alloc)?);
     }
     Ok(())
 }

@@ -1,10 +1,13 @@
 -- What a list of JSON values spells, value by value.
-use Rattle.std.proofs.Common.{◌≡◌, ℕ, ◌+◌, ◌<◌, ◌≤◌, List, [], ◌∷◌, ◌++◌, length, get_or, take, Option, Some, None, option_map, option_and_then, refl, sym, ap, ◌∙◌, arith}
+use Rattle.std.proofs.Common.{◌≡◌, ℕ, ◌+◌, ◌<◌, ◌≤◌, false, List, [], ◌∷◌, ◌++◌, length, get_or, take, Option, Some, None, option_map, option_and_then, refl, sym, ap, ◌∙◌, arith}
 use Rattle.std.proofs.lemmas.List.{take_more}
-use Rattle.serde_json.specs.Data.{Data, Items, no_items, item}
+use Rattle.std.proofs.Math.Nat.{max-le}
+use Rattle.std.proofs.lemmas.Bool.{or_from}
+use Rattle.serde_json.specs.Data.{Data, Items, no_items, item, depth, items_depth}
+use Rattle.serde_json.specs.Written.{has_float}
 use Rattle.serde_json.specs.View.{view, items_view}
 use Rattle.serde_json.specs.declared.value.Value.{Value}
-use Rattle.json_values.specs.Spelling.{pair_from, all_in, items_data}
+use Rattle.json_values.specs.Spelling.{pair_from, all_in, items_data, list_data}
 
 pub pair_from-short : (xs vs : List Value) → xs ≡ vs → length xs < 2 → None ≡ pair_from (items_view vs)
 pair_from-short xs [] e h = refl
@@ -58,3 +61,13 @@ items_data_more data_of xs i x vs next v l e n here done =
 pub all_in_more : {A : Type 0} (what : Data → Option A) (xs : List A) (i : ℕ) (x : A) (vs next : List Value) (v : Value) → i < length xs → x ≡ get_or xs i x → next ≡ vs ++ v ∷ [] → what (view v) ≡ Some x → all_in what (items_view vs) ≡ Some (take i xs) → all_in what (items_view next) ≡ Some (take (i + 1) xs)
 all_in_more what xs i x vs next v l e n here done =
     ap (all_in what) (ap items_view n ∙ items_view-push vs v) ∙ all_in-push what (items_view vs) (view v) (take i xs) x done here ∙ ap Some (sym (take_next xs i x l e))
+
+-- ---- a list is as its items are: without a float, and of few levels
+
+pub no_float : {A : Type 0} (data_of : A → Data) → ((x : A) → has_float (data_of x) ≡ false) → (xs : List A) → has_float (list_data data_of xs) ≡ false
+no_float data_of each [] = refl
+no_float data_of each (x ∷ xs) = or_from _ _ (each x) (no_float data_of each xs)
+
+pub levels : {A : Type 0} (data_of : A → Data) (n : ℕ) → ((x : A) → depth (data_of x) ≤ n) → (xs : List A) → items_depth (items_data data_of xs) ≤ n
+levels data_of n each [] = omega arith
+levels data_of n each (x ∷ xs) = max-le (each x) (levels data_of n each xs)

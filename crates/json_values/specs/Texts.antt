@@ -1,5 +1,5 @@
 -- JSON texts (RFC 8259, as `serde_json` reads them).
-use Rattle.std.specs.Prelude.{◌≡◌, ℕ, List, Option, Some, None, if◌then◌else◌}
+use Rattle.std.specs.Prelude.{◌≡◌, ℕ, ◌==◌, Bool, List, Option, Some, None, if◌then◌else◌}
 use Rattle.std.specs.Str.{is_utf8}
 use Rattle.serde_json.specs.Data.{Data}
 use Rattle.serde_json.specs.Read.{read}
@@ -15,3 +15,6 @@ ReadsAs bytes d = json_of bytes ≡ Some d
 -- the bytes are a JSON text
 abbrev pub IsJson : List ℕ → Type 0
 IsJson bytes = (d : Data) × ReadsAs bytes d
+
+abbrev pub is_line_feed : ℕ → Bool
+is_line_feed b = b == 10

@@ -1,5 +1,6 @@
-//! What JSON values spell: whole numbers, texts, pairs, lists, and members of objects. Every JSON document of the
-//! program is read with these words.
+//! JSON texts in both directions, and what JSON values spell: whole numbers, texts, pairs, lists, and members of objects. Every
+//! JSON text of the program is parsed here; what its values say beyond these words, each crate that has documents of its own
+//! reads for itself.
 //!
 //! Contracts see a JSON text as the data that `serde_json` reads of it.
 #![tactic(auto)]
@@ -8,6 +9,8 @@ mod parsing;
 mod spelled;
 #[cfg(test)]
 mod tests;
+mod written;
 
 pub use parsing::parse;
 pub use spelled::{Spelled, array_of, member, number};
+pub use written::text_of;

@@ -1,3 +1,4 @@
+//! Parsing JSON texts.
 ghost use Rattle.std.specs.Prelude.{◌≡◌, IfOk, option_map};
 ghost use Rattle.serde_json.specs.View.{view};
 ghost use Rattle.json_values.specs.Texts.{json_of};

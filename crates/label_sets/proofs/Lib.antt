@@ -3,3 +3,4 @@ pub mod Kept
 pub mod LawProofs
 pub mod Objects
 pub mod Identity
+pub mod Finals

@@ -8,13 +8,13 @@ use Rattle.std.specs.FinMap.Entries.{below_all}
 use Rattle.std.proofs.lemmas.Bool.{cases_eq, and_parts}
 use Rattle.std.proofs.lemmas.Cmp.{nat_list_cmp_total, tied_back}
 use Rattle.label_sets.specs.Labels.{LabelList, byte_cmp, label_text, without, with_label, names_of, IsAscending}
-use Rattle.label_sets.specs.Places.{IsHere, IsGap}
+use Rattle.label_sets.specs.inner.Places.{IsHere, IsGap}
 
 -- the order of two names, the other way round
 pub turned : (x y : List ℕ) (o : Ordering) → byte_cmp x y ≡ o → byte_cmp y x ≡ ordering_reverse o
 turned x y o e = nat_list_cmp_total.antisymm y x ∙ ap ordering_reverse e
 
-is_less : (o : Ordering) → is_lt o ≡ true → o ≡ Less
+pub is_less : (o : Ordering) → is_lt o ≡ true → o ≡ Less
 is_less Less e = refl
 is_less Equal e = cc
 is_less Greater e = cc

@@ -1,8 +1,10 @@
 -- The laws of a finite map, of label sets.
-use Rattle.std.specs.Prelude.{◌≡◌, ◌≢◌, List, ℕ, [], IsTrue}
+use Rattle.std.specs.Prelude.{◌≡◌, ◌≢◌, List, ℕ, [], ◌∷◌, ◌++◌, IsTrue, codes}
 use Rattle.label_sets.specs.Name.{is_label_name}
 use Rattle.label_sets.specs.Labels.{LabelList, label_text, without, with_label, IsLabelSet}
-use Rattle.label_sets.specs.Target.{FinalTarget, target_label, target_text}
+use Rattle.label_sets.specs.Finish.{finished}
+use Rattle.label_sets.specs.Target.{FinalTarget, IsFinal, target_label, target_text}
+use Rattle.label_sets.specs.declared.finishing.Finished.TheVariants.{Target}
 
 -- the name has the text, and every other name what it had
 pub record GivesText (old new : LabelList) (name text : List ℕ) : Type 0 where
@@ -24,6 +26,14 @@ RemoveKeepsSets = (labels : LabelList) (name : List ℕ) → IsLabelSet labels �
 -- two sets that answer alike for every name are equal
 abbrev pub AlikeAreEqual : Type 0
 AlikeAreEqual = (a b : LabelList) → IsLabelSet a → IsLabelSet b → ((name : List ℕ) → label_text a name ≡ label_text b name) → a ≡ b
+
+-- a label behind all others of a set is put last, so a set is made of its labels one by one
+abbrev pub LastIsPutLast : Type 0
+LastIsPutLast = (front rest : LabelList) (name text : List ℕ) → IsLabelSet (front ++ (name, text) ∷ rest) → with_label front name text ≡ front ++ (name, text) ∷ []
+
+-- a target's labels, finished again at its address, give the target
+abbrev pub FinishesAgain : Type 0
+FinishesAgain = (target : FinalTarget) → IsFinal target → finished (with_label target.labels (codes "__address__") target.address) ≡ Target target
 
 -- the text of a target's group is the target's identity
 abbrev pub TextDecides : Type 0

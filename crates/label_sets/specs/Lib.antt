@@ -1,7 +1,7 @@
 pub mod Name
 pub mod Labels
-pub mod Places
 pub mod Laws
 pub mod Written
 pub mod Target
 pub mod Finish
+pub mod inner

@@ -1,11 +1,11 @@
 -- Final targets: what is kept of a label set once it is finished, and the text of its group, in the form of
 -- a target group of Prometheus: `{"labels":{..},"targets":["ADDRESS"]}`.
-use Rattle.std.specs.Prelude.{ℕ, List, [], Bool, not, ◌||◌, codes, filter, if◌then◌else◌, nat_eq}
-use Rattle.std.specs.List.{starts_with}
+use Rattle.std.specs.Prelude.{ℕ, List, [], Bool, not, ◌||◌, codes, filter, if◌then◌else◌, nat_eq, IsTrue}
+use Rattle.std.specs.List.{starts_with, list_all}
 use Rattle.std.specs.Str.{bytes_eq}
 use Rattle.serde_json.specs.Data.{Data, string, array, object, no_items, item, no_members, member}
 use Rattle.serde_json.specs.Written.{compact_text}
-use Rattle.label_sets.specs.Labels.{LabelList, label_text, with_label}
+use Rattle.label_sets.specs.Labels.{LabelList, label_text, with_label, is_some_text, IsLabelSet}
 use Rattle.label_sets.specs.Written.{labels_data}
 
 -- an address, and the labels of the group's text
@@ -24,6 +24,13 @@ with_instance labels = if bytes_eq (label_text labels (codes "instance")) [] the
 
 abbrev pub group_labels : LabelList → LabelList
 group_labels labels = filter (λ l. is_group_name l.0) (with_instance labels)
+
+-- the target has an address, and its labels are a set of a group's labels with an `instance`
+pub record IsFinal (target : FinalTarget) : Type 0 where
+  pub address : IsTrue (is_some_text target.address)
+  pub labels : IsLabelSet target.labels
+  pub of_group : IsTrue (list_all (λ l. is_group_name l.0) target.labels)
+  pub instance : IsTrue (is_some_text (label_text target.labels (codes "instance")))
 
 -- what a target answers for a name
 abbrev pub target_label : FinalTarget → List ℕ → List ℕ

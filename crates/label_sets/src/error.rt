@@ -1,3 +1,4 @@
+//! Why a label is refused.
 use std::alloc::{AllocError, AllocFailed};
 
 /// Why a label is refused.

@@ -1,3 +1,4 @@
+//! What a label set is finished to.
 ghost use Rattle.std.specs.Prelude.{◌≡◌, IfOk};
 ghost use Rattle.label_sets.specs.Finish.{finished};
 

@@ -1,3 +1,4 @@
+//! The labels that stand in the text of a target's group.
 ghost use Rattle.std.specs.Prelude.{◌≡◌, filter};
 ghost use Rattle.label_sets.specs.Target.{is_group_name};
 

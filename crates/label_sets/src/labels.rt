@@ -1,14 +1,14 @@
-ghost use Rattle.std.specs.Prelude.{◌≡◌, ◌≢◌, ◌↔◌, IfOk, OnOk, OnErr, IsTrue, [], false};
+//! Label sets.
+ghost use Rattle.std.specs.Prelude.{◌≡◌, ◌≢◌, ◌↔◌, IfOk, OnOk, OnErr, IsTrue, [], false, filter};
 ghost use Rattle.label_sets.specs.Name.{is_label_name};
-ghost use Rattle.std.specs.Prelude.{filter};
 ghost use Rattle.label_sets.specs.Target.{with_instance, is_group_name};
 ghost use Rattle.label_sets.specs.Written.{labels_text};
 ghost use Rattle.label_sets.specs.Labels.{label_text, without, with_label, names_of, IsAscending, IsLabelSet};
 
 use crate::error::LabelError;
 use crate::group::keep_group_names;
-use crate::name::{LabelName, is_name};
-use crate::place::{put, take_out, text_of};
+use crate::name::{LabelName, is_label_name};
+use crate::entries::{put, take_out, text_of};
 use crate::texts::text_of_labels;
 use lists::{List, Plain, Text};
 use std::alloc::{AllocError, Global};
@@ -58,13 +58,11 @@ impl Labels {
         // Only a text that is not empty takes memory.
         ensures removal { text.now ≡ [] → result ≢ Err LabelError.Memory }
     {
-        if !is_name(name.as_str()) {
+        if !is_label_name(name.as_str()) {
             return Err(LabelError::BadLabelName);
         }
-        match put(&mut self.entries, name.as_str(), text) {
-            Ok(()) => Ok(()),
-            Err(_) => Err(LabelError::Memory),
-        }
+        put(&mut self.entries, name.as_str(), text)?;
+        Ok(())
     }
 
     /// Takes a name out. It takes no memory.

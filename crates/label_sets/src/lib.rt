@@ -10,7 +10,7 @@ mod group;
 mod labels;
 mod laws;
 mod name;
-mod place;
+mod entries;
 mod target;
 #[cfg(test)]
 mod tests;
@@ -19,6 +19,6 @@ mod texts;
 pub use error::LabelError;
 pub use finishing::{Finished, finish};
 pub use labels::Labels;
-pub use laws::{map_laws, text_decides};
-pub use name::LabelName;
+pub use laws::{finishes_again, map_laws, text_decides};
+pub use name::{LabelName, is_label_name};
 pub use target::Target;

@@ -1,3 +1,4 @@
+//! Label names.
 ghost use Rattle.std.specs.Prelude.{◌≡◌, ◌↔◌, IfOk, IsTrue, false};
 ghost use Rattle.std.specs.List.{list_all};
 ghost use Rattle.label_sets.specs.Name.{is_label_name, is_name_start, is_name_part};
@@ -32,13 +33,11 @@ impl LabelName {
         ensures name { IfOk result (λ n. n ≡ text.now) }
         ensures bad { (result ≡ Err LabelError.BadLabelName) ↔ (is_label_name text.now ≡ false) }
     {
-        if !is_name(text) {
+        if !is_label_name(text) {
             return Err(LabelError::BadLabelName);
         }
-        match LabelName::of_name(alloc, text) {
-            Ok(name) => Ok(name),
-            Err(_) => Err(LabelError::Memory),
-        }
+        let name = LabelName::of_name(alloc, text)?;
+        Ok(name)
     }
 
     /// The name of a text that is one.
@@ -58,8 +57,8 @@ impl LabelName {
     }
 }
 
-/// Whether the text is a label name.
-pub(crate) fn is_name(text: &str) -> bool
+/// Whether the text is a label name. It takes no memory.
+pub fn is_label_name(text: &str) -> bool
     ensures { result ≡ is_label_name text.now }
 {
     match text.as_bytes().split_first() {

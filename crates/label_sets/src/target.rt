@@ -1,9 +1,12 @@
+//! Final targets.
 ghost use Rattle.std.specs.Prelude.{◌≡◌, IfOk, IsTrue};
-ghost use Rattle.label_sets.specs.Target.{target_label, target_text};
+ghost use Rattle.serde_json.specs.View.{view};
+ghost use Rattle.label_sets.specs.Target.{IsFinal, target_data, target_label, target_text};
 
 use crate::labels::Labels;
-use crate::texts::text_of_target;
+use crate::texts::{text_of_target, value_of_target};
 use lists::{Plain, Text};
+use serde_json::Value;
 use std::alloc::{AllocError, Global};
 use std::convert::AsStr;
 use std::marker::Model;
@@ -18,13 +21,13 @@ pub struct Target {
 
 impl Model for Target {
     ghost use Rattle.std.specs.Prelude.{◌≡◌};
-    ghost use Rattle.label_sets.specs.Target.{FinalTarget, target_text};
+    ghost use Rattle.label_sets.specs.Target.{FinalTarget, IsFinal, target_text};
 
     ghost Value = { FinalTarget };
 
     ghost view = { λ t. record { address = t.address; labels = t.labels } };
 
-    ghost invariant = { λ t. t.text ≡ target_text (record { address = t.address; labels = t.labels }) };
+    ghost invariant = { λ t. (t.text ≡ target_text (record { address = t.address; labels = t.labels })) × IsFinal (record { address = t.address; labels = t.labels }) };
 }
 
 impl Target {
@@ -34,6 +37,7 @@ impl Target {
         labels: Labels,
         address: Text,
     ) -> Result<Target, AllocError>
+        requires { IsFinal (record { address = address; labels = labels }) }
         ensures { IfOk result (λ t. t ≡ record { address = address; labels = labels }) }
     {
         let text = text_of_target(alloc, labels.entries(), address.as_str())?;
@@ -56,6 +60,14 @@ impl Target {
         ensures { result.now ≡ target_text self.now }
     {
         self.text.as_str()
+    }
+
+    /// The group as a JSON value.
+    pub fn to_value(&self, alloc: Global) -> Result<Value, AllocError>
+        ensures form { IfOk result (λ v. view v ≡ target_data self.now) }
+        ensures is_final { IsFinal self.now }
+    {
+        value_of_target(alloc, self.labels.entries(), self.address.as_str())
     }
 
     /// The text of a label of the group or of `__address__`, and else the empty text.

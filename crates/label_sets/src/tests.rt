@@ -1,3 +1,4 @@
+//! What no clause says: texts that are written, and want of memory.
 use crate::{Finished, LabelError, LabelName, Labels, finish, map_laws, text_decides};
 use lists::{Plain, Text};
 use std::alloc::{AllocError, Global};

@@ -1,10 +1,11 @@
+//! JSON texts of label sets and of targets.
 ghost use Rattle.std.specs.Prelude.{◌≡◌, IfOk, IsTrue, codes, false};
 ghost use Rattle.std.specs.FinMap.{is_sorted};
 ghost use Rattle.serde_json.specs.Data.{string, array, object, item, no_items, member, no_members};
 ghost use Rattle.serde_json.specs.View.{view};
 ghost use Rattle.serde_json.specs.Written.{has_float, compact_text};
 ghost use Rattle.label_sets.specs.Labels.{byte_cmp};
-ghost use Rattle.label_sets.specs.Target.{target_text};
+ghost use Rattle.label_sets.specs.Target.{target_data, target_text};
 ghost use Rattle.label_sets.specs.Written.{labels_data, labels_text};
 
 use crate::name::LabelName;
@@ -54,9 +55,21 @@ pub(crate) fn text_of_target(
     requires { IsTrue (is_sorted byte_cmp entries.now) }
     ensures { IfOk result (λ t. t ≡ target_text (record { address = address.now; labels = entries.now })) }
 {
-    let labels = object_of(alloc, entries)?;
-    let group = group_of(alloc, labels, address)?;
+    let group = value_of_target(alloc, entries, address)?;
     written(alloc, &group)
+}
+
+/// The group of a target.
+pub(crate) fn value_of_target(
+    alloc: Global,
+    entries: &[(LabelName, Text)],
+    address: &str,
+) -> Result<Value, AllocError>
+    requires { IsTrue (is_sorted byte_cmp entries.now) }
+    ensures { IfOk result (λ v. view v ≡ target_data (record { address = address.now; labels = entries.now })) }
+{
+    let labels = object_of(alloc, entries)?;
+    group_of(alloc, labels, address)
 }
 
 /// The group of one target.

@@ -6,24 +6,17 @@ use Rattle.std.specs.declared.alloc.AllocError.{AllocError}
 use Rattle.serde_json.specs.Data.{Data, depth, items_depth}
 use Rattle.serde_json.specs.Read.{read, max_depth}
 use Rattle.serde_json.specs.Written.{has_float, compact_text}
+use Rattle.json_values.proofs.Lists.{no_float, levels}
 use Rattle.json_values.proofs.Texts.{json_of-text}
 use Rattle.price_certificate.specs.Problem.{Problem}
 use Rattle.json_values.specs.Spelling.{number_data, pair_data, items_data, list_data}
 use Rattle.price_certificate.specs.Document.{pairs_from, document_data, SpellsInstance, SpellsPlan, IsDocument}
-
-no_float : {A : Type 0} (data_of : A → Data) → ((x : A) → has_float (data_of x) ≡ false) → (xs : List A) → has_float (list_data data_of xs) ≡ false
-no_float data_of each [] = refl
-no_float data_of each (x ∷ xs) = or_from _ _ (each x) (no_float data_of each xs)
 
 pub has_float-document_data : (p : Problem) (pairs : List (ℕ × ℕ)) (item_prices bin_prices : List ℕ) → has_float (document_data p pairs item_prices bin_prices) ≡ false
 has_float-document_data p pairs item_prices bin_prices =
     let numbers = no_float number_data (λ n. refl) in
     let both = no_float pair_data (λ q. refl) in
     or_from _ _ (both (pairs_from 0 p.before)) (or_from _ _ (numbers bin_prices) (or_from _ _ (numbers p.limits) (or_from _ _ (numbers item_prices) (or_from _ _ (both pairs) (or_from _ _ (no_float (list_data number_data) numbers p.rows) refl)))))
-
-levels : {A : Type 0} (data_of : A → Data) (n : ℕ) → ((x : A) → depth (data_of x) ≤ n) → (xs : List A) → items_depth (items_data data_of xs) ≤ n
-levels data_of n each [] = omega arith
-levels data_of n each (x ∷ xs) = max-le (each x) (levels data_of n each xs)
 
 pub depth-document_data : (p : Problem) (pairs : List (ℕ × ℕ)) (item_prices bin_prices : List ℕ) → depth (document_data p pairs item_prices bin_prices) ≤ max_depth
 depth-document_data p pairs item_prices bin_prices =

@@ -8,6 +8,8 @@ pub mod Weights
 pub mod Duality
 pub mod Optimal
 pub mod Placing
+mod Plans
 pub mod First
 pub mod Finding
 pub mod Verdicts
+pub mod LeastFault

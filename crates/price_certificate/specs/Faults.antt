@@ -1,10 +1,10 @@
 -- The checker's verdict: the first fault of a plan, in the order of the kinds, each looked for through the whole plan
 -- before the next.
-use Rattle.std.specs.Prelude.{ℕ, zero, suc, Bool, true, false, List, Option, Some, None, ◌≡◌, ◌<◌, ◌+◌, ◌*◌, ◌==◌, ◌&&◌, not, nat_lt, nat_le, length, slice_index, slice_index_or, take, if◌then◌else◌}
+use Rattle.std.specs.Prelude.{ℕ, zero, suc, Bool, true, false, List, Option, Some, None, ◌≡◌, ◌<◌, ◌≤◌, ◌↔◌, ◌⊎◌, ◌+◌, ◌*◌, ◌==◌, ◌&&◌, not, nat_lt, nat_le, length, slice_index, slice_index_or, take, if◌then◌else◌}
 use Rattle.std.specs.List.{list_any}
-use Rattle.price_certificate.specs.Problem.{Problem, items_of, bins_of, row_of, capacity_of, weight_of}
+use Rattle.price_certificate.specs.Problem.{Problem, IsAllowed, IsProblem, items_of, bins_of, row_of, capacity_of, weight_of}
 use Rattle.price_certificate.specs.Assignment.{uses_of_bin, covered, kept, moved}
-use Rattle.price_certificate.specs.Certificate.{value_of}
+use Rattle.price_certificate.specs.Certificate.{IsCertified, value_of}
 use Rattle.price_certificate.specs.declared.verdict.Fault.{Fault}
 use Rattle.price_certificate.specs.declared.verdict.Fault.TheVariants.{WrongLengths, BadNumber, ItemTwice, OutOfReach, OverLimit, PriceTooLow, SumsDiffer}
 use Rattle.price_certificate.specs.declared.verdict.Verdict.{Verdict}
@@ -95,6 +95,16 @@ fault_of p pairs item_prices bin_prices =
     (or_else (limit_fault p pairs)
     (or_else (price_fault p item_prices bin_prices)
     (sum_fault p pairs item_prices bin_prices))))))
+
+-- a plan has no fault exactly where it is certified
+abbrev pub NoFaultIsCertified : Type 0
+NoFaultIsCertified = (p : Problem) (pairs : List (ℕ × ℕ)) (item_prices bin_prices : List ℕ) → IsProblem p → (fault_of p pairs item_prices bin_prices ≡ None) ↔ IsCertified p pairs item_prices bin_prices
+
+-- no allowed pair of a lower item, or of the same item and a lower bin, is priced below its weight
+abbrev pub PriceFaultIsLeast : Type 0
+PriceFaultIsLeast =
+    (p : Problem) (item_prices bin_prices : List ℕ) (item bin : ℕ) → IsProblem p → price_fault p item_prices bin_prices ≡ Some (PriceTooLow item bin) → (other other_bin : ℕ) → IsAllowed p other other_bin
+    → slice_index item_prices other + slice_index bin_prices other_bin < weight_of p other other_bin → (item < other) ⊎ ((item ≡ other) × (bin ≤ other_bin))
 
 abbrev pub verdict_by : ℕ → ℕ → Option Fault → Verdict
 verdict_by covers moves None = Best covers moves

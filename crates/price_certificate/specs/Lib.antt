@@ -4,3 +4,4 @@ pub mod Assignment
 pub mod Certificate
 pub mod Faults
 pub mod Lines
+pub mod Plan

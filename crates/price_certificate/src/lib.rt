@@ -18,7 +18,9 @@ pub use document::{
     DocumentError, one_document, one_instance, read_document, read_instance, write_document,
 };
 pub use instance::Instance;
-pub use laws::{certified_is_optimal, worth_is_covered_and_kept};
+pub use laws::{
+    certified_is_optimal, no_fault_is_certified, price_fault_is_least, worth_is_covered_and_kept,
+};
 pub use plan::Plan;
 pub use shape::InstanceError;
 pub use verdict::{Fault, Verdict};

@@ -8,6 +8,7 @@ mod name;
 mod reach;
 mod read;
 mod rule;
+mod spelled;
 #[cfg(test)]
 mod tests;
 

@@ -14,8 +14,8 @@ pub struct CollectorName {
     text: Text,
 }
 
-/// A name has at most so many bytes.
-const LONGEST_NAME: usize = 128;
+/// The most bytes of a name.
+pub const LONGEST_NAME: usize = 128;
 
 impl Model for CollectorName {
     ghost use Rattle.std.specs.Prelude.{List, ℕ, IsTrue};

@@ -1,7 +1,9 @@
-ghost use Rattle.std.specs.Prelude.{◌≡◌, ◌≢◌, ◌↔◌, IsTrue, IfOk, IfErr};
+//! The rules by which a collector reaches targets.
+ghost use Rattle.std.specs.Prelude.{◌≡◌, ◌≢◌, ◌≤◌, ◌↔◌, length, IsTrue, IfOk, IfErr};
 ghost use Rattle.serde_json.specs.View.{view};
 ghost use Rattle.reach_rules.specs.Rules.{holds_on, reaches, Reaches};
 ghost use Rattle.reach_rules.specs.Spelling.{reach_spelled};
+ghost use Rattle.reach_rules.specs.declared.reach.TheConstants.{MOST_RULES};
 
 use crate::error::ReachError;
 use crate::read::rules_of;
@@ -19,16 +21,19 @@ pub struct Reach {
 }
 
 impl Model for Reach {
-    ghost use Rattle.std.specs.Prelude.{List};
+    ghost use Rattle.std.specs.Prelude.{List, ◌≤◌, length};
     ghost use Rattle.reach_rules.specs.declared.rule.ReachRule.{ReachRule};
+    ghost use Rattle.reach_rules.specs.declared.reach.TheConstants.{MOST_RULES};
 
     ghost Value = { List ReachRule };
 
     ghost view = { λ r. r.rules };
+
+    ghost invariant = { λ r. length r.rules ≤ MOST_RULES };
 }
 
-/// A reach has at most so many rules.
-const MOST_RULES: usize = 32;
+/// The most rules of a reach.
+pub const MOST_RULES: usize = 32;
 
 impl Reach {
     /// The rules that a JSON value spells.
@@ -43,6 +48,14 @@ impl Reach {
             return Err(ReachError::TooManyRules);
         }
         Ok(Reach { rules })
+    }
+
+    /// The rules.
+    pub(crate) fn rules(&self) -> &[ReachRule]
+        ensures rules { result.now ≡ self.now }
+        ensures few { length self.now ≤ MOST_RULES }
+    {
+        self.rules.as_slice()
     }
 
     /// Whether the first rule whose test holds on the target allows it. Without such a rule the target is

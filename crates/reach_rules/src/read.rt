@@ -21,7 +21,7 @@ pub(crate) fn rules_of(alloc: Global, items: &[Value]) -> Result<List<ReachRule>
     Ok(rules)
 }
 
-fn rule_of(alloc: Global, value: &Value) -> Result<ReachRule, ReachError>
+pub(crate) fn rule_of(alloc: Global, value: &Value) -> Result<ReachRule, ReachError>
     ensures { Gives result (rule_spelled (view value.now)) }
 {
     let allow = value

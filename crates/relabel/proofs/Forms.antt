@@ -1,5 +1,5 @@
 -- What is kept of a compiled pattern, from what `Regex::new` ensures.
-use Rattle.std.proofs.Common.{◌≡◌, ◌≢◌, ◌≤◌, ◌<◌, ◌⊎◌, ℕ, List, false, cond, Option, Some, None, IsSomeAnd, IfSome, is_some, length, nat_le, refl, ⊎_elim, le-leb}
+use Rattle.std.proofs.Common.{◌≡◌, ◌≢◌, ◌≤◌, ◌<◌, ◌⊎◌, ℕ, List, true, false, cond, Option, Some, None, IsSomeAnd, IfSome, is_some, length, nat_le, refl, ap, ⊎_elim, le-leb}
 use Rattle.std.specs.Prelude.{option_and_then}
 use Rattle.std.specs.Str.{chars}
 use Rattle.std.proofs.lemmas.Bool.{lt-leb}
@@ -31,6 +31,10 @@ as_read : (source : List ℕ) (hir : Hir) (names : Names) → Reads default_conf
     (p : Pattern) × (pattern_in source ≡ Some p) × SameCaptures (meaning hir) p.0 × (names ≡ p.1)
 unfolding Reads pattern_in
 as_read source hir names h = read_by (read default_config (chars source)) (meaning hir) names h
+
+-- a text that is read is a pattern
+pub some_pattern : (source : List ℕ) (hir : Hir) (names : Names) → Reads default_config source hir names → is_some (pattern_in source) ≡ true
+some_pattern source hir names h = let found = as_read source hir names h in ap (λ (o : Option Pattern). is_some o) found.1
 
 -- a regex finds what its text finds, and has its names
 pub form_of : (r : Regex) (source : List ℕ) → regex_source r ≡ source → regex_config r ≡ default_config → IsReadFromSource r → IsFormOf source r

@@ -1,5 +1,5 @@
 -- Lists of rules: which they are, and what they make of the labels of a target.
-use Rattle.std.specs.Prelude.{◌≡◌, ◌⊎◌, ℕ, ◌+◌, List, [], ◌∷◌, Result, Ok}
+use Rattle.std.specs.Prelude.{◌≡◌, ◌⊎◌, ℕ, ◌+◌, List, [], ◌∷◌, Bool, Result, Ok}
 use Rattle.std.specs.Option.{option_map_or}
 use Rattle.serde_json.specs.Data.{Items, no_items, item}
 use Rattle.label_sets.specs.Labels.{LabelList}
@@ -17,10 +17,10 @@ rules_said no_items = Ok []
 rules_said (item d ds) = rule_said d >>= λ rule. rules_said ds >>= λ rules. Ok (rule ∷ rules)
 
 -- The first item that is no rule is refused, with its number. The first of the items has the number that is given
-abbrev pub IsRefusedFrom : ℕ → Items → RulesError → Type 0
-IsRefusedFrom number no_items e = ⊥
-IsRefusedFrom number (item d ds) e =
-    ((e.number ≡ number) × Refuses e.error (rule_said d)) ⊎ ((rule : RuleSettings) × (rule_said d ≡ Ok rule) × IsRefusedFrom (number + 1) ds e)
+abbrev pub IsRefusedFrom : (List ℕ → Bool) → ℕ → Items → RulesError → Type 0
+IsRefusedFrom too_big number no_items e = ⊥
+IsRefusedFrom too_big number (item d ds) e =
+    ((e.number ≡ number) × Refuses too_big e.error (rule_said d)) ⊎ ((rule : RuleSettings) × (rule_said d ≡ Ok rule) × IsRefusedFrom too_big (number + 1) ds e)
 
 -- one rule after the other, up to the first that drops the target
 abbrev pub relabelled_from : ℕ → List RuleSettings → LabelList → Relabelled

@@ -1,3 +1,4 @@
+//! Why rules are not read.
 use crate::pattern::PatternError;
 use std::alloc::AllocError;
 use thiserror::Error;

@@ -22,5 +22,6 @@ mod worker;
 pub use action::Action;
 pub use discovery::Found;
 pub use error::{RuleError, RulesError};
+pub use pattern::{Compiler, PatternError, RegexCrate};
 pub use rule::{Rule, RuleSettings};
 pub use rules::{Relabelled, Rules};

@@ -1,7 +1,9 @@
+//! Rules: what they say, and what is compiled of it.
 ghost use Rattle.std.specs.Prelude.{◌≡◌, IfOk, IsTrue, Some, unwrap_or, []};
 ghost use Rattle.regex.specs.Strings.{matcher_pattern, IsReadFrom};
 ghost use Rattle.relabel.specs.Patterns.{FindsAs, names_in};
 ghost use Rattle.serde_json.specs.View.{view};
+ghost use Rattle.relabel.specs.Compiling.{AreTaken, any_text};
 ghost use Rattle.relabel.specs.Reading.{Gives, Reads};
 ghost use Rattle.relabel.specs.Spelling.{settings_for as settings_for_action, settings_of as settings_of_fields, settings_said, has_fit_target as has_fit, with_pattern, rule_said, is_fit};
 
@@ -9,7 +11,7 @@ use crate::action::{Action, action_named};
 use crate::error::RuleError;
 use crate::fields::{Fields, fields_in};
 use crate::name::is_label_name;
-use crate::pattern::compiled;
+use crate::pattern::{Compiler, RegexCrate, compiled_by};
 use label_sets::LabelName;
 use lists::{List, Text};
 use regex::{Matcher, Regex, Template};
@@ -55,10 +57,23 @@ impl Model for Rule {
 impl Rule {
     /// The rule that a JSON value spells.
     pub fn read(alloc: Global, value: &Value) -> Result<Rule, RuleError>
-        ensures { Reads result (rule_said (view value.now)) }
+        ensures { Reads any_text result (rule_said (view value.now)) }
+    {
+        Rule::read_by(&RegexCrate {}, alloc, value)
+    }
+
+    /// The same with a compiler of patterns. A pattern that the grammar reads is refused only where the compiler was asked
+    /// and said of it, or of its whole form, that it is too big.
+    pub fn read_by<C: Compiler>(
+        compiler: &C,
+        alloc: Global,
+        value: &Value,
+    ) -> Result<Rule, RuleError>
+        ensures said { Reads C.too_big result (rule_said (view value.now)) }
+        ensures taken { IfOk result (λ rule. AreTaken C.taken rule.pattern) }
     {
         let settings = settings_in(alloc, value)?;
-        Rule::compile(alloc, settings)
+        Rule::compile(compiler, alloc, settings)
     }
 
     /// What the rule says.
@@ -89,11 +104,16 @@ impl Rule {
         &self.replacement
     }
 
-    fn compile(alloc: Global, settings: RuleSettings) -> Result<Rule, RuleError>
+    fn compile<C: Compiler>(
+        compiler: &C,
+        alloc: Global,
+        settings: RuleSettings,
+    ) -> Result<Rule, RuleError>
         requires { IsTrue (is_fit settings) }
-        ensures { Reads result (with_pattern settings) }
+        ensures said { Reads C.too_big result (with_pattern settings) }
+        ensures taken { IfOk result (λ rule. AreTaken C.taken rule.pattern) }
     {
-        let regex = compiled(alloc, settings.pattern.as_str())?;
+        let regex = compiled_by(compiler, alloc, settings.pattern.as_str())?;
         let names = regex.capture_names();
         let target = Template::new(alloc, names, settings.target_label.as_str())?;
         let replacement = Template::new(alloc, names, settings.replacement.as_str())?;

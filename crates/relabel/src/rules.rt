@@ -1,11 +1,14 @@
 //! Lists of rules.
-ghost use Rattle.std.specs.Prelude.{◌≡◌, ◌++◌, [], ◌∷◌, take, IfOk, IfErr, OnOk};
+ghost use Rattle.std.specs.Prelude.{◌≡◌, ◌++◌, [], ◌∷◌, All, take, IfOk, IfErr, OnOk};
 ghost use Rattle.serde_json.specs.View.{view, items_view};
+ghost use Rattle.relabel.specs.Compiling.{AreTaken, any_text};
+ghost use Rattle.relabel.specs.declared.rule.RuleSettings.{RuleSettings};
 ghost use Rattle.relabel.specs.Reading.{Refuses};
 ghost use Rattle.relabel.specs.Spelling.{rule_said};
 ghost use Rattle.relabel.specs.Applying.{rules_said, IsRefusedFrom, relabelled};
 
 use crate::error::{RuleError, RulesError};
+use crate::pattern::{Compiler, RegexCrate};
 use crate::rule::Rule;
 use crate::worker::Worker;
 use label_sets::Labels;
@@ -41,11 +44,25 @@ impl Rules {
     /// The rules that the JSON values spell.
     pub fn read(alloc: Global, values: &[Value]) -> Result<Rules, RulesError>
         ensures rules { IfOk result (λ rules. rules_said (items_view values.now) ≡ Ok rules) }
-        ensures refused { IfErr result (IsRefusedFrom 1 (items_view values.now)) }
+        ensures refused { IfErr result (IsRefusedFrom any_text 1 (items_view values.now)) }
+    {
+        Rules::read_by(&RegexCrate {}, alloc, values)
+    }
+
+    /// The same with a compiler of patterns. A pattern that the grammar reads is refused only where the compiler was asked
+    /// and said of it, or of its whole form, that it is too big.
+    pub fn read_by<C: Compiler>(
+        compiler: &C,
+        alloc: Global,
+        values: &[Value],
+    ) -> Result<Rules, RulesError>
+        ensures rules { IfOk result (λ rules. rules_said (items_view values.now) ≡ Ok rules) }
+        ensures taken { IfOk result (All (λ (rule : RuleSettings). AreTaken C.taken rule.pattern)) }
+        ensures refused { IfErr result (IsRefusedFrom C.too_big 1 (items_view values.now)) }
     {
         let mut rules = List::new(alloc);
         for (index, value) in values.iter().enumerate() {
-            if let Err(error) = add_rule(alloc, &mut rules, value) {
+            if let Err(error) = add_rule(compiler, alloc, &mut rules, value) {
                 return Err(RulesError {
                     number: index + 1,
                     error,
@@ -76,11 +93,16 @@ impl Rules {
     }
 }
 
-fn add_rule(alloc: Global, rules: &mut List<Rule>, value: &Value) -> Result<(), RuleError>
-    ensures rule { OnOk result ((rule : _) × (rule_said (view value.now) ≡ Ok rule) × (rules.new ≡ rules.old ++ rule ∷ [])) }
-    ensures refused { IfErr result (λ e. Refuses e (rule_said (view value.now))) }
+fn add_rule<C: Compiler>(
+    compiler: &C,
+    alloc: Global,
+    rules: &mut List<Rule>,
+    value: &Value,
+) -> Result<(), RuleError>
+    ensures rule { OnOk result ((rule : _) × (rule_said (view value.now) ≡ Ok rule) × AreTaken C.taken rule.pattern × (rules.new ≡ rules.old ++ rule ∷ [])) }
+    ensures refused { IfErr result (λ e. Refuses C.too_big e (rule_said (view value.now))) }
 {
-    let rule = Rule::read(alloc, value)?;
+    let rule = Rule::read_by(compiler, alloc, value)?;
     rules.push(rule)?;
     Ok(())
 }

@@ -6,9 +6,9 @@ use Rattle.std.specs.Option.{option_map_or}
 use Rattle.std.specs.Str.{bytes_eq}
 use Rattle.allocation_core.specs.State.{State}
 use Rattle.allocation_core.specs.Steps.{answer_of, state_after}
-use Rattle.allocation_core.specs.declared.event.Event.{Event}
+use Rattle.fleet_events.specs.declared.event.Event.{Event}
 use Rattle.replay_lines.specs.Configurations.{opened}
-use Rattle.replay_lines.specs.Events.{event_in}
+use Rattle.fleet_events.specs.Reading.{event_of}
 use Rattle.replay_lines.specs.Replays.{Written, written_from, written_by, replay_of, lines_in, answered, answered_line, unreadable_at, totalled}
 use Rattle.replay_lines.specs.Lines.{is_read, text_of_line, state_past, IsAhead}
 
@@ -33,12 +33,12 @@ unread_by false None number m lines h = refl
 -- at a line that is read
 written_on : (number : ℕ) (m : State) (line : List ℕ) (lines : List (List ℕ)) → is_read line ≡ true → written_from number m (line ∷ lines) ≡ before (text_of_line m line) (written_from (number + 1) (state_past m line) lines)
 unfolding written_from
-written_on number m line lines h = read_by (bytes_eq line []) (event_in line) number m lines h
+written_on number m line lines h = read_by (bytes_eq line []) (event_of line) number m lines h
 
 -- at a line that is not
 written_off : (number : ℕ) (m : State) (line : List ℕ) (lines : List (List ℕ)) → is_read line ≡ false → written_from number m (line ∷ lines) ≡ unreadable_at number
 unfolding written_from
-written_off number m line lines h = unread_by (bytes_eq line []) (event_in line) number m lines h
+written_off number m line lines h = unread_by (bytes_eq line []) (event_of line) number m lines h
 
 written_end : (number : ℕ) (m : State) → written_from number m [] ≡ totalled m
 unfolding written_from
@@ -74,7 +74,7 @@ pub ahead_off : (whole : Written) (number : ℕ) (m : State) (all : List (List �
     → all ≡ line ∷ lines → is_read line ≡ false → new ≡ now ++ text_of_line m line → IsAhead whole (unreadable_at number) old new
 ahead_off whole number m all line lines old now new ahead is read text =
     let step : written_from number m all ≡ unreadable_at number = ap (written_from number m) is ∙ written_off number m line lines read in
-    let same : new ≡ now = text ∙ (ap (λ (t : List ℕ). now ++ t) (added_by (bytes_eq line []) (event_in line) m read) ∙ append-nil now) in
+    let same : new ≡ now = text ∙ (ap (λ (t : List ℕ). now ++ t) (added_by (bytes_eq line []) (event_of line) m read) ∙ append-nil now) in
     subst (λ (t : List ℕ). IsAhead whole (unreadable_at number) old t) (sym same) (subst (λ (w : Written). IsAhead whole w old now) step ahead)
 
 pub ahead_end : (whole : Written) (number : ℕ) (m : State) (all : List (List ℕ)) (old now : List ℕ) → IsAhead whole (written_from number m all) old now → all ≡ [] → IsAhead whole (totalled m) old now

@@ -1,2 +1,3 @@
 mod LineLemmas
 mod Ahead
+pub mod RunLines

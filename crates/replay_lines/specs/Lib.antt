@@ -1,5 +1,4 @@
-pub mod Targets
-pub mod Events
 pub mod Configurations
 pub mod Replays
 pub mod Lines
+pub mod AsRuns

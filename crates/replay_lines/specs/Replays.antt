@@ -6,13 +6,13 @@ use Rattle.std.specs.Fmt.{decimal}
 use Rattle.std.specs.List.{slice_split}
 use Rattle.std.specs.Option.{option_map_or}
 use Rattle.std.specs.Str.{bytes_eq}
-use Rattle.allocation_core.specs.Lines.{answer_line}
+use Rattle.fleet_events.specs.Lines.{answer_line}
 use Rattle.scrape_books.specs.Books.{total_of}
 use Rattle.allocation_core.specs.State.{State}
 use Rattle.allocation_core.specs.Steps.{answer_of, state_after}
-use Rattle.allocation_core.specs.declared.answer.Answer.{Answer}
+use Rattle.fleet_events.specs.declared.answer.Answer.{Answer}
 use Rattle.replay_lines.specs.Configurations.{opened}
-use Rattle.replay_lines.specs.Events.{event_in}
+use Rattle.fleet_events.specs.Reading.{event_of}
 use Rattle.replay_lines.specs.declared.run.Ended.{Ended}
 use Rattle.replay_lines.specs.declared.run.Ended.TheVariants.{Done, Unreadable}
 
@@ -52,7 +52,7 @@ unfoldable pub written_from : ℕ → State → List (List ℕ) → Written
 written_from number m [] = totalled m
 written_from number m (line ∷ lines) =
     if bytes_eq line [] then written_from (number + 1) m lines
-    else option_map_or (λ event. answered (answer_of m event) (written_from (number + 1) (state_after m event) lines)) (event_in line) (unreadable_at number)
+    else option_map_or (λ event. answered (answer_of m event) (written_from (number + 1) (state_after m event) lines)) (event_of line) (unreadable_at number)
 
 -- by the first line, and the others
 unfoldable pub written_by : List (List ℕ) → Written

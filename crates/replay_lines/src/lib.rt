@@ -4,11 +4,11 @@
 #![tactic(auto)]
 
 mod configuration;
-mod event;
+mod laws;
 mod line;
 mod run;
-mod target;
 #[cfg(test)]
 mod tests;
 
+pub use laws::replays_are_runs;
 pub use run::{Ended, replay};

@@ -2,12 +2,13 @@
 ghost use Rattle.std.specs.Prelude.{◌≡◌, ◌++◌, IfOk, OnOk, OnErr};
 ghost use Rattle.allocation_core.specs.Steps.{answer_of, state_after};
 ghost use Rattle.replay_lines.specs.Lines.{lines_left, is_read, text_of_line, state_past, AddsFront};
+ghost use Rattle.replay_lines.specs.AsRuns.{IsRunOf};
 ghost use Rattle.replay_lines.specs.Replays.{answered_line, totalled, unreadable_at, written_from, replay_of};
 
 use crate::configuration::open_core;
-use crate::event::read_event;
 use crate::line::first_line;
-use allocation_core::{Core, Event};
+use allocation_core::{Core, booked_by_holders, published_are_best};
+use fleet_events::{Event, read_event};
 use std::alloc::{AllocError, Global};
 
 /// How a replay ended.
@@ -24,7 +25,10 @@ pub fn replay(alloc: Global, input: &[u8], text: &mut Vec<u8>) -> Result<Ended, 
     ensures text { OnOk result (text.new.items ≡ text.old.items ++ (replay_of input.now).text) }
     ensures ended { IfOk result (λ e. e ≡ (replay_of input.now).ended) }
     ensures memory { OnErr result (AddsFront (replay_of input.now).text text.old.items text.new.items) }
+    ensures run { IsRunOf input.now (replay_of input.now) }
 {
+    published_are_best();
+    booked_by_holders();
     let (line, others) = first_line(input);
     match open_core(alloc, line)? {
         Some(mut core) => answer_lines(alloc, &mut core, others, text),

@@ -2,7 +2,8 @@
 use Rattle.std.proofs.Common.{◌≡◌, List, ℕ, [], ◌∷◌, ◌++◌, sym, ap}
 use Rattle.std.proofs.lemmas.List.{append-nil}
 use Rattle.std.specs.List.{join_with_byte}
-use Rattle.sd_documents.specs.Written.{list_text, after_commas}
+use Rattle.sd_documents.specs.Written.{list_text}
+use Rattle.sd_documents.specs.inner.Commas.{after_commas}
 
 pub join_with_byte-cons : (x : List ℕ) (xs : List (List ℕ)) → join_with_byte 44 (x ∷ xs) ≡ x ++ after_commas xs
 join_with_byte-cons x [] = sym (append-nil x)

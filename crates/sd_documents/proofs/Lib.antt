@@ -1,4 +1,7 @@
+pub mod AcceptedConfig
+pub mod AcceptedGroups
 pub mod Blanks
+pub mod FirstLabelsLaws
 pub mod Joined
 pub mod NoFloat
 pub mod Told

@@ -11,10 +11,11 @@ use Rattle.serde_json.specs.Find.{get, as_str, as_array, as_object}
 use Rattle.serde_json.specs.Written.{has_float}
 use Rattle.serde_json.specs.Events.{items_len}
 use Rattle.serde_json.proofs.Views.{items_len-items_view}
-use Rattle.sd_documents.specs.declared.error.DocumentError.{DocumentError}
-use Rattle.sd_documents.specs.declared.error.DocumentError.TheVariants.{Shape, RepeatedJob, UnsupportedDiscovery, TooMany}
+use Rattle.sd_documents.specs.declared.error.SdError.{SdError}
+use Rattle.sd_documents.specs.declared.error.SdError.TheVariants.{Shape, RepeatedJob, UnsupportedDiscovery, TooMany}
 use Rattle.sd_documents.specs.declared.error.Limit.TheVariants.{Jobs, Sources, Rules, Targets}
 use Rattle.sd_documents.specs.declared.error.Member.TheVariants.{JobName, Number, MetricsPath, Scheme, StaticConfigs, HttpSdConfigs, RelabelConfigs}
+use Rattle.sd_documents.specs.declared.limits.TheConstants.{MOST_JOBS, MOST_URLS, MOST_RULES, MOST_TARGETS}
 use Rattle.sd_documents.specs.declared.group.Group.{Group}
 use Rattle.sd_documents.specs.declared.config.Job.{Job}
 use Rattle.sd_documents.specs.declared.config.Param.{Param}
@@ -25,24 +26,24 @@ use Rattle.sd_documents.specs.Limits.{are_new, IsWithinLimits, AreJobs}
 use Rattle.sd_documents.proofs.NoFloat.{bind_ok}
 
 -- what passed a test
-passed : {A : Type 0} (b : Bool) (x y : A) (e : DocumentError) → cond b (Ok x) (Err e) ≡ Ok y → (b ≡ true) × (x ≡ y)
+pub passed : {A : Type 0} (b : Bool) (x y : A) (e : SdError) → cond b (Ok x) (Err e) ≡ Ok y → (b ≡ true) × (x ≡ y)
 passed true x y e is = (refl, cc)
 passed false x y e is = cc
 
 -- what failed one
-failed : {A : Type 0} (b : Bool) (x y : A) (e : DocumentError) → cond b (Err e) (Ok x) ≡ Ok y → (b ≡ false) × (x ≡ y)
+pub failed : {A : Type 0} (b : Bool) (x y : A) (e : SdError) → cond b (Err e) (Ok x) ≡ Ok y → (b ≡ false) × (x ≡ y)
 failed true x y e is = cc
 failed false x y e is = (refl, cc)
 
-went : {A : Type 0} (b : Bool) (r : Result A DocumentError) (y : A) (e : DocumentError) → cond b r (Err e) ≡ Ok y → r ≡ Ok y
+pub went : {A : Type 0} (b : Bool) (r : Result A SdError) (y : A) (e : SdError) → cond b r (Err e) ≡ Ok y → r ≡ Ok y
 went true r y e is = is
 went false r y e is = cc
 
-went_on : {A : Type 0} (b : Bool) (r : Result A DocumentError) (y : A) (e : DocumentError) → cond b (Err e) r ≡ Ok y → r ≡ Ok y
+pub went_on : {A : Type 0} (b : Bool) (r : Result A SdError) (y : A) (e : SdError) → cond b (Err e) r ≡ Ok y → r ≡ Ok y
 went_on true r y e is = cc
 went_on false r y e is = is
 
-pub record Four {A B C D Y : Type 0} (a : Result A DocumentError) (b : Result B DocumentError) (c : Result C DocumentError) (d : Result D DocumentError) (y : A → B → C → D → Y) (made : Y) : Type 0 where
+pub record Four {A B C D Y : Type 0} (a : Result A SdError) (b : Result B SdError) (c : Result C SdError) (d : Result D SdError) (y : A → B → C → D → Y) (made : Y) : Type 0 where
   pub p : A
   pub q : B
   pub r : C
@@ -53,7 +54,7 @@ pub record Four {A B C D Y : Type 0} (a : Result A DocumentError) (b : Result B 
   pub of_d : d ≡ Ok s
   pub is : y p q r s ≡ made
 
-four_ok : {A B C D Y : Type 0} (a : Result A DocumentError) (b : Result B DocumentError) (c : Result C DocumentError) (d : Result D DocumentError) (y : A → B → C → D → Y) (made : Y)
+pub four_ok : {A B C D Y : Type 0} (a : Result A SdError) (b : Result B SdError) (c : Result C SdError) (d : Result D SdError) (y : A → B → C → D → Y) (made : Y)
     → (a >>= λ p. b >>= λ q. c >>= λ r. d >>= λ s. Ok (y p q r s)) ≡ Ok made → Four a b c d y made
 four_ok (Ok p) (Ok q) (Ok r) (Ok s) y made e = record { p = p; q = q; r = r; s = s; of_a = refl; of_b = refl; of_c = refl; of_d = refl; is = cc }
 four_ok (Ok p) (Ok q) (Ok r) (Err e) y made is = cc
@@ -65,82 +66,82 @@ four_ok (Err e) b c d y made is = cc
 
 pub record IsSound (job : JobData) : Type 0 where
   pub named : bytes_eq job.settings.name [] ≡ false
-  pub targets : sum_by (λ (group : Group). length group.targets) job.parts.static_groups ≤ 16384
-  pub urls : length job.parts.http_urls ≤ 64
-  pub rules : items_len job.parts.rules ≤ 256
+  pub targets : sum_by (λ (group : Group). length group.targets) job.parts.static_groups ≤ MOST_TARGETS
+  pub urls : length job.parts.http_urls ≤ MOST_URLS
+  pub rules : items_len job.parts.rules ≤ MOST_RULES
 
-name_filled : (place : ℕ) (o : Option Data) (name : List ℕ) → name_said place o ≡ Ok name → bytes_eq name [] ≡ false
-name_filled place o name e =
-    let text = bind_ok (ok_or (option_and_then as_str o) (Shape place JobName)) (λ t. cond (bytes_eq t []) (Err (Shape place JobName)) (Ok t)) name e in
-    let test = failed (bytes_eq text.0 []) text.0 name (Shape place JobName) text.2 in
+name_filled : (index : ℕ) (o : Option Data) (name : List ℕ) → name_said index o ≡ Ok name → bytes_eq name [] ≡ false
+name_filled index o name e =
+    let text = bind_ok (ok_or (option_and_then as_str o) (Shape index JobName)) (λ t. cond (bytes_eq t []) (Err (Shape index JobName)) (Ok t)) name e in
+    let test = failed (bytes_eq text.0 []) text.0 name (Shape index JobName) text.2 in
     subst (λ (t : List ℕ). bytes_eq t [] ≡ false) test.1 test.0
 
-settings_named : (place : ℕ) (d : Data) (settings : SettingsData) → settings_said place d ≡ Ok settings → bytes_eq settings.name [] ≡ false
+settings_named : (index : ℕ) (d : Data) (settings : SettingsData) → settings_said index d ≡ Ok settings → bytes_eq settings.name [] ≡ false
 unfolding settings_said
-settings_named place d settings e =
+settings_named index d settings e =
     let made : List ℕ → List ℕ → List ℕ → ℕ → SettingsData = λ name metrics_path scheme target_limit. record { name = name; metrics_path = metrics_path; scheme = scheme; target_limit = target_limit } in
-    let read = four_ok (name_said place (get (codes "job_name") d)) (text_or (codes "/metrics") place MetricsPath (get (codes "metrics_path") d)) (text_or (codes "http") place Scheme (get (codes "scheme") d)) (limit_said place (get (codes "target_limit") d)) made settings e in
-    subst (λ (s : SettingsData). bytes_eq s.name [] ≡ false) read.is (name_filled place (get (codes "job_name") d) read.p read.of_a)
+    let read = four_ok (name_said index (get (codes "job_name") d)) (text_or (codes "/metrics") index MetricsPath (get (codes "metrics_path") d)) (text_or (codes "http") index Scheme (get (codes "scheme") d)) (limit_said index (get (codes "target_limit") d)) made settings e in
+    subst (λ (s : SettingsData). bytes_eq s.name [] ≡ false) read.is (name_filled index (get (codes "job_name") d) read.p read.of_a)
 
-groups_few : (place : ℕ) (o : Option Data) (groups : List Group) → static_said place o ≡ Ok groups → sum_by (λ (group : Group). length group.targets) groups ≤ 16384
-groups_few place None groups e = let none : [] ≡ groups = cc in subst (λ (gs : List Group). sum_by (λ (group : Group). length group.targets) gs ≤ 16384) none (omega arith)
-groups_few place (Some d) groups e =
-    let all = bind_ok (ok_or (as_array d) (Shape place StaticConfigs) >>= each_said (group_said place StaticConfigs)) few_targets groups e in
-    let test = passed (nat_le (sum_by (λ (group : Group). length group.targets) all.0) 16384) all.0 groups (TooMany Targets) all.2 in
-    subst (λ (gs : List Group). sum_by (λ (group : Group). length group.targets) gs ≤ 16384) test.1 (leb-true (sum_by (λ (group : Group). length group.targets) all.0) 16384 test.0)
+groups_few : (index : ℕ) (o : Option Data) (groups : List Group) → static_said index o ≡ Ok groups → sum_by (λ (group : Group). length group.targets) groups ≤ MOST_TARGETS
+groups_few index None groups e = let none : [] ≡ groups = cc in subst (λ (gs : List Group). sum_by (λ (group : Group). length group.targets) gs ≤ MOST_TARGETS) none (omega arith)
+groups_few index (Some d) groups e =
+    let all = bind_ok (ok_or (as_array d) (Shape index StaticConfigs) >>= each_said (group_said index StaticConfigs)) few_targets groups e in
+    let test = passed (nat_le (sum_by (λ (group : Group). length group.targets) all.0) MOST_TARGETS) all.0 groups (TooMany Targets) all.2 in
+    subst (λ (gs : List Group). sum_by (λ (group : Group). length group.targets) gs ≤ MOST_TARGETS) test.1 (leb-true (sum_by (λ (group : Group). length group.targets) all.0) MOST_TARGETS test.0)
 
-urls_few : (place : ℕ) (o : Option Data) (urls : List (List ℕ)) → urls_said place o ≡ Ok urls → length urls ≤ 64
-urls_few place None urls e = let none : [] ≡ urls = cc in subst (λ (us : List (List ℕ)). length us ≤ 64) none (omega arith)
-urls_few place (Some d) urls e =
-    let all = bind_ok (ok_or (as_array d) (Shape place HttpSdConfigs) >>= each_said (url_said place)) few_urls urls e in
-    let test = passed (nat_le (length all.0) 64) all.0 urls (TooMany Sources) all.2 in
-    subst (λ (us : List (List ℕ)). length us ≤ 64) test.1 (leb-true (length all.0) 64 test.0)
+urls_few : (index : ℕ) (o : Option Data) (urls : List (List ℕ)) → urls_said index o ≡ Ok urls → length urls ≤ MOST_URLS
+urls_few index None urls e = let none : [] ≡ urls = cc in subst (λ (us : List (List ℕ)). length us ≤ MOST_URLS) none (omega arith)
+urls_few index (Some d) urls e =
+    let all = bind_ok (ok_or (as_array d) (Shape index HttpSdConfigs) >>= each_said (url_said index)) few_urls urls e in
+    let test = passed (nat_le (length all.0) MOST_URLS) all.0 urls (TooMany Sources) all.2 in
+    subst (λ (us : List (List ℕ)). length us ≤ MOST_URLS) test.1 (leb-true (length all.0) MOST_URLS test.0)
 
-rules_few : (place : ℕ) (o : Option Data) (rules : Items) → rules_said place o ≡ Ok rules → items_len rules ≤ 256
-rules_few place None rules e = let none : no_items ≡ rules = cc in subst (λ (rs : Items). items_len rs ≤ 256) none (omega arith)
-rules_few place (Some d) rules e =
-    let all = bind_ok (ok_or (as_array d) (Shape place RelabelConfigs)) (λ ds. cond (all_objects ds) (few_rules ds) (Err (Shape place RelabelConfigs))) rules e in
-    let few = went (all_objects all.0) (few_rules all.0) rules (Shape place RelabelConfigs) all.2 in
-    let test = passed (nat_le (items_len all.0) 256) all.0 rules (TooMany Rules) few in
-    subst (λ (rs : Items). items_len rs ≤ 256) test.1 (leb-true (items_len all.0) 256 test.0)
+rules_few : (index : ℕ) (o : Option Data) (rules : Items) → rules_said index o ≡ Ok rules → items_len rules ≤ MOST_RULES
+rules_few index None rules e = let none : no_items ≡ rules = cc in subst (λ (rs : Items). items_len rs ≤ MOST_RULES) none (omega arith)
+rules_few index (Some d) rules e =
+    let all = bind_ok (ok_or (as_array d) (Shape index RelabelConfigs)) (λ ds. cond (all_objects ds) (few_rules ds) (Err (Shape index RelabelConfigs))) rules e in
+    let few = went (all_objects all.0) (few_rules all.0) rules (Shape index RelabelConfigs) all.2 in
+    let test = passed (nat_le (items_len all.0) MOST_RULES) all.0 rules (TooMany Rules) few in
+    subst (λ (rs : Items). items_len rs ≤ MOST_RULES) test.1 (leb-true (items_len all.0) MOST_RULES test.0)
 
 pub record PartsFew (parts : PartsData) : Type 0 where
-  pub targets : sum_by (λ (group : Group). length group.targets) parts.static_groups ≤ 16384
-  pub urls : length parts.http_urls ≤ 64
-  pub rules : items_len parts.rules ≤ 256
+  pub targets : sum_by (λ (group : Group). length group.targets) parts.static_groups ≤ MOST_TARGETS
+  pub urls : length parts.http_urls ≤ MOST_URLS
+  pub rules : items_len parts.rules ≤ MOST_RULES
 
-parts_few : (place : ℕ) (d : Data) (parts : PartsData) → parts_said place d ≡ Ok parts → PartsFew parts
+pub parts_few : (index : ℕ) (d : Data) (parts : PartsData) → parts_said index d ≡ Ok parts → PartsFew parts
 unfolding parts_said
-parts_few place d parts e =
+parts_few index d parts e =
     let made : List Param → List Group → List (List ℕ) → Items → PartsData = λ params static_groups http_urls rules. record { params = params; static_groups = static_groups; http_urls = http_urls; rules = rules } in
-    let read = four_ok (params_said place (get (codes "params") d)) (static_said place (get (codes "static_configs") d)) (urls_said place (get (codes "http_sd_configs") d)) (rules_said place (get (codes "relabel_configs") d)) made parts e in
+    let read = four_ok (params_said index (get (codes "params") d)) (static_said index (get (codes "static_configs") d)) (urls_said index (get (codes "http_sd_configs") d)) (rules_said index (get (codes "relabel_configs") d)) made parts e in
     let few : PartsFew (made read.p read.q read.r read.s) = record {
-      targets = groups_few place (get (codes "static_configs") d) read.q read.of_b;
-      urls = urls_few place (get (codes "http_sd_configs") d) read.r read.of_c;
-      rules = rules_few place (get (codes "relabel_configs") d) read.s read.of_d;
+      targets = groups_few index (get (codes "static_configs") d) read.q read.of_b;
+      urls = urls_few index (get (codes "http_sd_configs") d) read.r read.of_c;
+      rules = rules_few index (get (codes "relabel_configs") d) read.s read.of_d;
     } in
     subst (λ (ps : PartsData). PartsFew ps) read.is few
 
-kept_job : (o : Option (List ℕ)) (job other : JobData) → option_map_or (λ name. Err (UnsupportedDiscovery name)) o (Ok job) ≡ Ok other → job ≡ other
-kept_job None job other e = cc
-kept_job (Some name) job other e = cc
+pub passed_job : (o : Option (List ℕ)) (job other : JobData) → option_map_or (λ name. Err (UnsupportedDiscovery name)) o (Ok job) ≡ Ok other → job ≡ other
+passed_job None job other e = cc
+passed_job (Some name) job other e = cc
 
-members_sound : (place : ℕ) (d : Data) (job : JobData) → members_said place d ≡ Ok job → IsSound job
+members_sound : (index : ℕ) (d : Data) (job : JobData) → members_said index d ≡ Ok job → IsSound job
 unfolding members_said
-members_sound place d job e =
+members_sound index d job e =
     let made : SettingsData → PartsData → JobData = λ settings parts. record { settings = settings; parts = parts } in
-    let first = bind_ok (settings_said place d) (λ settings. parts_said place d >>= λ parts. supported d (made settings parts)) job e in
-    let second = bind_ok (parts_said place d) (λ parts. supported d (made first.0 parts)) job first.2 in
-    let few = parts_few place d second.0 second.1 in
-    let sound : IsSound (made first.0 second.0) = record { named = settings_named place d first.0 first.1; targets = few.targets; urls = few.urls; rules = few.rules } in
-    subst (λ (j : JobData). IsSound j) (kept_job (option_and_then unsupported_in (as_object d)) (made first.0 second.0) job second.2) sound
+    let first = bind_ok (settings_said index d) (λ settings. parts_said index d >>= λ parts. supported d (made settings parts)) job e in
+    let second = bind_ok (parts_said index d) (λ parts. supported d (made first.0 parts)) job first.2 in
+    let few = parts_few index d second.0 second.1 in
+    let sound : IsSound (made first.0 second.0) = record { named = settings_named index d first.0 first.1; targets = few.targets; urls = few.urls; rules = few.rules } in
+    subst (λ (j : JobData). IsSound j) (passed_job (option_and_then unsupported_in (as_object d)) (made first.0 second.0) job second.2) sound
 
-job_sound : (place : ℕ) (d : Data) (job : JobData) → job_said place d ≡ Ok job → IsSound job
+job_sound : (index : ℕ) (d : Data) (job : JobData) → job_said index d ≡ Ok job → IsSound job
 unfolding job_said
-job_sound place d job e =
-    members_sound place d job
-    (went_on (has_float d) (members_said place d) job (Shape place Number)
-    (went (is_some (as_object d)) (cond (has_float d) (Err (Shape place Number)) (members_said place d)) job (Shape place JobName) e))
+job_sound index d job e =
+    members_sound index d job
+    (went_on (has_float d) (members_said index d) job (Shape index Number)
+    (went (is_some (as_object d)) (cond (has_float d) (Err (Shape index Number)) (members_said index d)) job (Shape index JobName) e))
 
 -- ---- the jobs
 
@@ -176,9 +177,9 @@ each_more : (jobs : List JobData) (job : JobData) → AllByRecursion IsSound job
 each_more [] job each sound = (sound, tt)
 each_more (j ∷ jobs) job each sound = (each.0, each_more jobs job each.1 sound)
 
-next_sound : (place : ℕ) (jobs more : List JobData) (job : JobData) → next_job place jobs job ≡ Ok more → IsSound job → AreSound jobs → AreSound more
-next_sound place jobs more job e sound before =
-    let test = failed (is_taken jobs job.settings.name) (jobs ++ job ∷ []) more (RepeatedJob place) e in
+next_sound : (index : ℕ) (jobs more : List JobData) (job : JobData) → next_job index jobs job ≡ Ok more → IsSound job → AreSound jobs → AreSound more
+next_sound index jobs more job e sound before =
+    let test = failed (is_taken jobs job.settings.name) (jobs ++ job ∷ []) more (RepeatedJob index) e in
     let new : are_new [] (names jobs ++ job.settings.name ∷ []) ≡ true = are_new-more [] (names jobs) job.settings.name before.new sound.named (any_name jobs job.settings.name ∙ test.0) in
     let all : AreSound (jobs ++ job ∷ []) = record {
       each = each_more jobs job before.each sound;
@@ -186,26 +187,26 @@ next_sound place jobs more job e sound before =
     } in
     subst (λ (js : List JobData). AreSound js) test.1 all
 
-jobs_sound : (place : ℕ) (jobs more : List JobData) (ds : Items) → jobs_from place jobs ds ≡ Ok more → AreSound jobs → AreSound more
-jobs_sound place jobs more no_items e before = let same : jobs ≡ more = cc in subst (λ (js : List JobData). AreSound js) same before
-jobs_sound place jobs more (item d ds) e before =
-    let next = bind_ok (with_job place jobs d) (λ (js : List JobData). jobs_from (place + 1) js ds) more e in
-    let job = bind_ok (job_said place d) (next_job place jobs) next.0 next.1 in
-    jobs_sound (place + 1) next.0 more ds next.2 (next_sound place jobs next.0 job.0 job.2 (job_sound place d job.0 job.1) before)
+pub jobs_sound : (index : ℕ) (jobs more : List JobData) (ds : Items) → jobs_from index jobs ds ≡ Ok more → AreSound jobs → AreSound more
+jobs_sound index jobs more no_items e before = let same : jobs ≡ more = cc in subst (λ (js : List JobData). AreSound js) same before
+jobs_sound index jobs more (item d ds) e before =
+    let next = bind_ok (with_job index jobs d) (λ (js : List JobData). jobs_from (index + 1) js ds) more e in
+    let job = bind_ok (job_said index d) (next_job index jobs) next.0 next.1 in
+    jobs_sound (index + 1) next.0 more ds next.2 (next_sound index jobs next.0 job.0 job.2 (job_sound index d job.0 job.1) before)
 
-jobs_count : (place : ℕ) (jobs more : List JobData) (ds : Items) → jobs_from place jobs ds ≡ Ok more → length more ≡ length jobs + items_len ds
-jobs_count place jobs more no_items e = let same : jobs ≡ more = cc in omega (arith, ap length same)
-jobs_count place jobs more (item d ds) e =
-    let next = bind_ok (with_job place jobs d) (λ (js : List JobData). jobs_from (place + 1) js ds) more e in
-    let job = bind_ok (job_said place d) (next_job place jobs) next.0 next.1 in
-    let test = failed (is_taken jobs job.0.settings.name) (jobs ++ job.0 ∷ []) next.0 (RepeatedJob place) job.2 in
-    omega (arith, jobs_count (place + 1) next.0 more ds next.2, ap length test.1, length-append jobs (job.0 ∷ []))
+pub jobs_count : (index : ℕ) (jobs more : List JobData) (ds : Items) → jobs_from index jobs ds ≡ Ok more → length more ≡ length jobs + items_len ds
+jobs_count index jobs more no_items e = let same : jobs ≡ more = cc in omega (arith, ap length same)
+jobs_count index jobs more (item d ds) e =
+    let next = bind_ok (with_job index jobs d) (λ (js : List JobData). jobs_from (index + 1) js ds) more e in
+    let job = bind_ok (job_said index d) (next_job index jobs) next.0 next.1 in
+    let test = failed (is_taken jobs job.0.settings.name) (jobs ++ job.0 ∷ []) next.0 (RepeatedJob index) job.2 in
+    omega (arith, jobs_count (index + 1) next.0 more ds next.2, ap length test.1, length-append jobs (job.0 ∷ []))
 
-entries_few : (d : Data) (entries : Items) → listed_entries d ≡ Ok entries → items_len entries ≤ 1024
+pub entries_few : (d : Data) (entries : Items) → listed_entries d ≡ Ok entries → items_len entries ≤ MOST_JOBS
 entries_few d entries e =
     let all = bind_ok (entries_said d) few_entries entries e in
-    let test = passed (nat_le (items_len all.0) 1024) all.0 entries (TooMany Jobs) all.2 in
-    subst (λ (ds : Items). items_len ds ≤ 1024) test.1 (leb-true (items_len all.0) 1024 test.0)
+    let test = passed (nat_le (items_len all.0) MOST_JOBS) all.0 entries (TooMany Jobs) all.2 in
+    subst (λ (ds : Items). items_len ds ≤ MOST_JOBS) test.1 (leb-true (items_len all.0) MOST_JOBS test.0)
 
 -- ---- the jobs as the program has them
 

@@ -4,7 +4,9 @@ pub mod Groups
 pub mod Media
 pub mod Written
 pub mod Config
-pub mod Seen
 pub mod FirstLabels
 pub mod Limits
 pub mod Names
+pub mod Documents
+pub mod Laws
+pub mod inner

@@ -5,8 +5,3 @@ use Rattle.std.specs.List.{join_with_byte}
 -- in brackets, joined by commas
 abbrev pub list_text : List (List ℕ) → List ℕ
 list_text texts = 91 ∷ (join_with_byte 44 texts ++ 93 ∷ [])
-
--- each after a comma
-abbrev pub after_commas : List (List ℕ) → List ℕ
-after_commas [] = []
-after_commas (text ∷ texts) = 44 ∷ (text ++ after_commas texts)

@@ -1,16 +1,16 @@
 //! The configuration: its jobs, and the scrape configs as they were read.
-ghost use Rattle.std.specs.Prelude.{◌≡◌, ◌≢◌, IfOk, false};
-ghost use Rattle.serde_json.specs.Data.{Data};
+ghost use Rattle.std.specs.Prelude.{◌≡◌, IfOk, false};
 ghost use Rattle.serde_json.specs.View.{view};
 ghost use Rattle.serde_json.specs.Written.{has_float, compact_text};
 
+mod as_read;
+mod discovery;
 mod entry;
+mod floats;
 mod jobs;
-mod kept;
-mod members;
-mod numbers;
 mod parts;
 mod reading;
+mod rules;
 mod settings;
 
 use crate::group::Group;
@@ -24,7 +24,9 @@ use std::alloc::{AllocError, Global};
 pub struct Config {
     pub jobs: List<Job>,
     /// An object with each scrape config, as read, under the name of its job.
-    pub kept: Value,
+    pub as_read: Value,
+    // So its text is exact.
+    pub ghost no_float: { has_float (view as_read) ≡ false },
 }
 
 /// A scrape config.
@@ -53,8 +55,7 @@ pub struct Param {
 
 /// The scrape configs as one compact JSON object, the members in byte order at every depth.
 pub fn scrape_configs_text(alloc: Global, config: &Config) -> Result<Text, AllocError>
-    // A configuration that was read has no float.
-    ensures { IfOk result (λ t. has_float (view config.now.kept) ≡ false → t ≡ compact_text (view config.now.kept)) }
+    ensures { IfOk result (λ t. t ≡ compact_text (view config.now.as_read)) }
 {
-    Ok(Text::from_string(config.kept.to_string(alloc)?))
+    Ok(Text::from_string(config.as_read.to_string(alloc)?))
 }

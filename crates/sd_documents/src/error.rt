@@ -1,3 +1,4 @@
+//! Why a document is not read.
 use label_sets::LabelError;
 use lists::Text;
 use std::alloc::AllocError;
@@ -6,15 +7,15 @@ use thiserror::Error;
 
 /// Why a document was not read.
 #[derive(Debug, Drop, Error)]
-pub enum DocumentError {
+pub enum SdError {
     #[error("no JSON")]
     NotJson,
-    /// The place of a scrape configuration, and the member that has another shape.
+    /// The index of a scrape configuration, and the member that has another shape.
     #[error("another shape of {1} at {0}")]
     Shape(usize, Member),
     #[error("no label name")]
     BadLabelName,
-    /// The place of a scrape configuration whose name an earlier one has.
+    /// The index of a scrape configuration whose name an earlier one has.
     #[error("the name of the job at {0} is taken")]
     RepeatedJob(usize),
     /// The name of a member for a service discovery that is not supported.
@@ -115,27 +116,27 @@ impl fmt::Display for Limit {
     }
 }
 
-impl From<AllocError> for DocumentError {
+impl From<AllocError> for SdError {
     ghost use Rattle.std.specs.Prelude.{◌≡◌};
-    ghost use Rattle.sd_documents.specs.declared.error.DocumentError.TheVariants.{Memory};
+    ghost use Rattle.sd_documents.specs.declared.error.SdError.TheVariants.{Memory};
 
     ghost from_gives = { λ _ e. e ≡ Memory };
 
-    fn from(_refused: AllocError) -> DocumentError {
-        DocumentError::Memory
+    fn from(_refused: AllocError) -> SdError {
+        SdError::Memory
     }
 }
 
-impl From<LabelError> for DocumentError {
+impl From<LabelError> for SdError {
     ghost use Rattle.std.specs.Prelude.{◌≡◌};
     ghost use Rattle.sd_documents.specs.Refused.{refused_as};
 
     ghost from_gives = { λ l e. e ≡ refused_as l };
 
-    fn from(refused: LabelError) -> DocumentError {
+    fn from(refused: LabelError) -> SdError {
         match refused {
-            LabelError::BadLabelName => DocumentError::BadLabelName,
-            LabelError::Memory => DocumentError::Memory,
+            LabelError::BadLabelName => SdError::BadLabelName,
+            LabelError::Memory => SdError::Memory,
         }
     }
 }

@@ -1,3 +1,4 @@
+//! A target group.
 use label_sets::Labels;
 use lists::{List, Plain, Text};
 use std::alloc::AllocError;

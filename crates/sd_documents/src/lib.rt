@@ -11,15 +11,20 @@ mod group;
 mod groups;
 mod json;
 mod labelling;
+mod laws;
+mod limits;
 mod media;
 #[cfg(test)]
 mod tests;
 mod written;
 
 pub use config::{Config, Job, Param, read_config, scrape_configs_text};
-pub use error::{DocumentError, Limit, Member};
+pub use error::SdError as DocumentError;
+pub use error::{Limit, Member, SdError};
 pub use group::Group;
 pub use groups::{read_group, read_groups};
 pub use labelling::first_labels;
+pub use laws::{documents_laws, first_labels_laws};
+pub use limits::{MOST_JOBS, MOST_RULES, MOST_TARGETS, MOST_URLS};
 pub use media::is_json_media;
 pub use written::write_groups;

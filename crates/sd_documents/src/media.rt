@@ -1,3 +1,4 @@
+//! Media types of HTTP answers.
 ghost use Rattle.std.specs.Prelude.{◌≡◌, ◌↔◌, ◌==◌, IsTrue};
 ghost use Rattle.std.specs.List.{before_first};
 ghost use Rattle.sd_documents.specs.Media.{is_blank as is_blank_byte, past_blanks, up_to_blanks, IsJsonMedia};

@@ -1,26 +1,26 @@
 mod configs;
 mod discovery;
 
-use crate::{Config, DocumentError, Group, read_config, read_groups};
+use crate::{Config, SdError, Group, read_config, read_groups};
 use lists::List;
 use std::alloc::{AllocError, Global};
 
 /// How a refusal is told, or that there is none. Want of memory is passed on.
-fn told<T: Drop>(alloc: Global, outcome: Result<T, DocumentError>) -> Result<String, AllocError> {
+fn told<T: Drop>(alloc: Global, outcome: Result<T, SdError>) -> Result<String, AllocError> {
     match outcome {
         Ok(_) => String::from_str(alloc, "read"),
-        Err(DocumentError::Memory) => Err(AllocError),
+        Err(SdError::Memory) => Err(AllocError),
         Err(fault) => format!(in alloc; "{fault:?}"),
     }
 }
 
 fn config_told(alloc: Global, text: &str) -> Result<String, AllocError> {
-    let outcome: Result<Config, DocumentError> = read_config(alloc, text.as_bytes());
+    let outcome: Result<Config, SdError> = read_config(alloc, text.as_bytes());
     told(alloc, outcome)
 }
 
 fn groups_told(alloc: Global, text: &str) -> Result<String, AllocError> {
-    let outcome: Result<List<Group>, DocumentError> = read_groups(alloc, text.as_bytes());
+    let outcome: Result<List<Group>, SdError> = read_groups(alloc, text.as_bytes());
     told(alloc, outcome)
 }
 

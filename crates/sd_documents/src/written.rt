@@ -1,5 +1,7 @@
+//! Writing a list of target groups.
 ghost use Rattle.std.specs.Prelude.{◌≡◌, ◌++◌, IfOk, OnOk, map};
-ghost use Rattle.sd_documents.specs.Written.{list_text, after_commas};
+ghost use Rattle.sd_documents.specs.Written.{list_text};
+ghost use Rattle.sd_documents.specs.inner.Commas.{after_commas};
 
 use std::alloc::{AllocError, Global};
 

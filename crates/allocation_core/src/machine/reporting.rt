@@ -1,74 +1,59 @@
+//! Reports of scrapes, each booked where nothing is against it.
 ghost use Rattle.std.specs.Prelude.{◌≡◌, None, IfOk, OnOk, OnErr};
 ghost use Rattle.allocation_core.specs.Steps.{answer_of, refusal_of, state_after, report_refusal, round_refusal};
-ghost use Rattle.allocation_core.specs.declared.event.Event.TheVariants.{Report};
 
 use super::Core;
-use crate::answer::{Answer, Refusal};
-use crate::collectors::has_id;
-use handover::{CollectorId, TargetId};
-use scrape_books::{Entry, Outcome};
+use fleet_events::{Answer, Event, Refusal, Report, Round, TargetId};
+use scrape_books::Entry;
 use std::alloc::AllocError;
 
 impl Core {
     /// A collector's report of a target is booked. Memory is wanted only after all checks.
     #[tactic(auto, unfolding(crate::specs::Steps::answer_of, crate::specs::Steps::state_after))]
-    pub(super) fn report(
-        &mut self,
-        collector: CollectorId,
-        number: u32,
-        target: TargetId,
-        round: u32,
-        outcome: Outcome,
-    ) -> Result<Answer, AllocError>
-        ensures answer { IfOk result (λ a. a ≡ answer_of self.old (Report collector number target round outcome)) }
-        ensures state { OnOk result (self.new ≡ state_after self.old (Report collector number target round outcome)) }
+    pub(super) fn report(&mut self, report: Report) -> Result<Answer, AllocError>
+        ensures answer { IfOk result (λ a. a ≡ answer_of self.old (Event.Report report)) }
+        ensures state { OnOk result (self.new ≡ state_after self.old (Event.Report report)) }
         ensures err { OnErr result (self.new ≡ self.old) }
-        ensures late { OnErr result (refusal_of self.old (Report collector number target round outcome) ≡ None) }
+        ensures late { OnErr result (refusal_of self.old (Event.Report report) ≡ None) }
     {
-        if !has_id(self.collectors.as_slice(), collector) {
+        if !self.fleet.is_joined(report.collector) {
             return Ok(Answer::Not(Refusal::UnknownCollector));
         }
-        if let Some(refusal) = self.report_refusal(collector, number, target, round) {
+        if let Some(refusal) = self.report_refusal(report) {
             return Ok(Answer::Not(refusal));
         }
         let entry = Entry {
-            round,
-            number,
-            collector,
-            outcome,
+            round: report.round,
+            number: report.allocation,
+            collector: report.collector,
+            outcome: report.outcome,
         };
-        match self.books.book(target, entry) {
+        match self.books.book(report.target, entry) {
             Ok(()) => Ok(Answer::Booked),
             Err(_) => Err(AllocError),
         }
     }
 
     /// The first reason against a report of a live collector.
-    fn report_refusal(
-        &self,
-        collector: CollectorId,
-        number: u32,
-        target: TargetId,
-        round: u32,
-    ) -> Option<Refusal>
-        ensures { result ≡ report_refusal self.now collector number target round }
+    fn report_refusal(&self, report: Report) -> Option<Refusal>
+        ensures { result ≡ report_refusal self.now report.collector report.allocation report.target report.round }
     {
-        let taken = self.holders.taken(collector);
-        if taken != number {
+        let taken = self.holders.taken(report.collector);
+        if taken != report.allocation {
             return Some(Refusal::NotTaken(taken));
         }
-        if target as usize >= self.known.len() {
+        if report.target as usize >= self.fleet.known().len() {
             return Some(Refusal::UnknownTarget);
         }
-        let holder = self.holders.holder(number, target);
-        if holder != Some(collector) {
+        let holder = self.holders.holder(report.allocation, report.target);
+        if holder != Some(report.collector) {
             return Some(Refusal::NotHolder(holder));
         }
-        self.round_refusal(target, round)
+        self.round_refusal(report.target, report.round)
     }
 
     /// The round is not the open one, or the target's report of it is booked.
-    fn round_refusal(&self, target: TargetId, round: u32) -> Option<Refusal>
+    fn round_refusal(&self, target: TargetId, round: Round) -> Option<Refusal>
         ensures { result ≡ round_refusal self.now target round }
     {
         if round < self.round {

@@ -1,11 +1,10 @@
+//! Rounds that open, and allocations that are taken.
 ghost use Rattle.std.specs.Prelude.{◌≡◌, None, IfOk, OnOk, OnErr};
 ghost use Rattle.allocation_core.specs.Steps.{answer_of, refusal_of, state_after};
-ghost use Rattle.allocation_core.specs.declared.event.Event.TheVariants.{NextRound, Take};
+ghost use Rattle.fleet_events.specs.declared.event.Event.TheVariants.{NextRound, Take};
 
 use super::Core;
-use crate::answer::{Answer, Refusal};
-use crate::collectors::has_id;
-use handover::CollectorId;
+use fleet_events::{Answer, CollectorId, Refusal};
 use std::alloc::AllocError;
 
 /// The last round.
@@ -33,17 +32,17 @@ impl Core {
         ensures err { OnErr result (self.new ≡ self.old) }
         ensures late { OnErr result (refusal_of self.old (Take id) ≡ None) }
     {
-        if !has_id(self.collectors.as_slice(), id) {
+        if !self.fleet.is_joined(id) {
             return Ok(Answer::Not(Refusal::UnknownCollector));
         }
         let held = self.held(id)?;
-        let number = self.holders.current();
-        if self.holders.take(id, number).is_err() {
+        let allocation = self.holders.current();
+        if self.holders.take(id, allocation).is_err() {
             return Err(AllocError);
         }
         let round = self.round;
         Ok(Answer::Taken {
-            number,
+            allocation,
             round,
             held,
         })

@@ -1,6 +1,6 @@
 //! Want of memory changes nothing: the same event is then answered as if it had been there at once.
 use super::{core, discover};
-use crate::{Core, Event, Outcome};
+use crate::{Core, Event, Outcome, Report};
 use lists::List;
 use price_certificate::Plan;
 use reach_rules::{CollectorName, Reach};
@@ -40,13 +40,13 @@ fn event(alloc: Global, step: u32) -> Result<Event, Fail> {
         1 => join(alloc),
         2 => Ok(install(alloc)?),
         3 => Ok(Event::Take(1)),
-        _ => Ok(Event::Report {
+        _ => Ok(Event::Report(Report {
             collector: 1,
-            number: 1,
+            allocation: 1,
             target: 0,
             round: 1,
             outcome: Outcome::Up(7),
-        }),
+        })),
     }
 }
 

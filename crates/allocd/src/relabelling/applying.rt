@@ -5,26 +5,27 @@ ghost use Rattle.serde_json.specs.View.{items_view, members_view};
 ghost use Rattle.label_sets.specs.Finish.{finished};
 ghost use Rattle.label_sets.specs.Written.{labels_text};
 ghost use Rattle.relabel.specs.Applying.{relabelled};
-ghost use Rattle.allocd.specs.Relabelling.{IsAnswer, answered, finished_text, labels_in as labels_in_members};
+ghost use Rattle.allocd.specs.Relabelling.{IsFinding, finding_of, finished_text, labels_in as labels_in_members};
 
-use super::Outcome;
+use super::Finding;
 use label_sets::{Finished, LabelError, Labels, finish};
 use lists::Text;
-use relabel::{Relabelled, RuleError, Rules};
+use relabel::{Compiler, Relabelled, RuleError, Rules};
 use serde_json::{Map, Value};
 use std::alloc::{AllocError, Global};
 
 /// What is found for labels and rules. The names are looked at before the rules.
-pub(super) fn answer(
+pub(super) fn found_for<C: Compiler>(
+    compiler: &C,
     alloc: Global,
     members: &Map<String, Value>,
     rules: &[Value],
-) -> Result<Outcome, AllocError>
-    ensures { IfOk result (λ outcome. IsAnswer (labels_in_members (members_view members.now.entries)) (items_view rules.now) outcome) }
+) -> Result<Finding, AllocError>
+    ensures { IfOk result (IsFinding C.too_big (labels_in_members (members_view members.now.entries)) (items_view rules.now)) }
 {
     match labels_in(alloc, members) {
-        Ok(labels) => answer_for(alloc, &labels, rules),
-        Err(LabelError::BadLabelName) => Ok(Outcome::BadLabelName),
+        Ok(labels) => found_by_rules(compiler, alloc, &labels, rules),
+        Err(LabelError::BadLabelName) => Ok(Finding::BadLabelName),
         Err(LabelError::Memory) => Err(AllocError),
     }
 }
@@ -42,33 +43,38 @@ fn labels_in(alloc: Global, members: &Map<String, Value>) -> Result<Labels, Labe
 }
 
 /// What is found for the rules.
-fn answer_for(alloc: Global, labels: &Labels, rules: &[Value]) -> Result<Outcome, AllocError>
-    ensures { IfOk result (λ outcome. IsAnswer (Some labels.now) (items_view rules.now) outcome) }
+fn found_by_rules<C: Compiler>(
+    compiler: &C,
+    alloc: Global,
+    labels: &Labels,
+    rules: &[Value],
+) -> Result<Finding, AllocError>
+    ensures { IfOk result (IsFinding C.too_big (Some labels.now) (items_view rules.now)) }
 {
-    match Rules::read(alloc, rules) {
+    match Rules::read_by(compiler, alloc, rules) {
         Ok(rules) => applied(alloc, &rules, labels),
         Err(refused) => match refused.error {
             RuleError::Memory => Err(AllocError),
-            error => Ok(Outcome::RefusedRule(refused.number, error)),
+            error => Ok(Finding::RefusedRule(refused.number, error)),
         },
     }
 }
 
 /// What the rules make of the labels.
-fn applied(alloc: Global, rules: &Rules, labels: &Labels) -> Result<Outcome, AllocError>
-    ensures { IfOk result (λ outcome. outcome ≡ answered (relabelled rules.now labels.now)) }
+fn applied(alloc: Global, rules: &Rules, labels: &Labels) -> Result<Finding, AllocError>
+    ensures { IfOk result (λ finding. finding ≡ finding_of (relabelled rules.now labels.now)) }
 {
     match rules.apply(alloc, labels)? {
         Relabelled::Kept(labels) => kept(alloc, &labels),
-        Relabelled::Dropped(number) => Ok(Outcome::Dropped(number)),
+        Relabelled::Dropped(number) => Ok(Finding::Dropped(number)),
     }
 }
 
 /// The texts of the labels and of the target that they are finished to.
-fn kept(alloc: Global, labels: &Labels) -> Result<Outcome, AllocError>
-    ensures { IfOk result (λ outcome. outcome ≡ Outcome.Kept (labels_text labels.now) (finished_text (finished labels.now))) }
+fn kept(alloc: Global, labels: &Labels) -> Result<Finding, AllocError>
+    ensures { IfOk result (λ finding. finding ≡ Finding.Kept (labels_text labels.now) (finished_text (finished labels.now))) }
 {
-    Ok(Outcome::Kept {
+    Ok(Finding::Kept {
         labels: labels.to_json()?,
         target: target_text(alloc, labels)?,
     })

@@ -4,25 +4,29 @@ ghost use Rattle.std.specs.Prelude.{◌≡◌, IfOk, option_map, codes};
 ghost use Rattle.serde_json.specs.Find.{as_array, as_object};
 ghost use Rattle.serde_json.specs.View.{view, items_view, members_view};
 ghost use Rattle.json_values.specs.Spelling.{member_in};
-ghost use Rattle.allocd.specs.Relabelling.{IsOutcomeIn, document_in, are_texts as are_texts_of};
+ghost use Rattle.allocd.specs.Relabelling.{IsFound, document_in, are_texts as are_texts_of};
 
-use super::Outcome;
-use super::applying::answer;
-use crate::unreadable::Unreadable;
+use super::Finding;
+use super::applying::found_for;
+use relabel::Compiler;
 use serde_json::{Map, Value};
 use std::alloc::{AllocError, Global};
 
-/// What is found in a JSON value.
-pub(super) fn outcome_in(alloc: Global, value: &Value) -> Result<Outcome, AllocError>
-    ensures { IfOk result (λ outcome. IsOutcomeIn (document_in (view value.now)) outcome) }
+/// What is found in a JSON value, where it is a document.
+pub(super) fn finding_in<C: Compiler>(
+    compiler: &C,
+    alloc: Global,
+    value: &Value,
+) -> Result<Option<Finding>, AllocError>
+    ensures { IfOk result (IsFound C.too_big (document_in (view value.now))) }
 {
     let (Some(labels), Some(rules)) = (labels_of(value), rules_of(value)) else {
-        return Ok(Outcome::Unreadable(Unreadable::Shape));
+        return Ok(None);
     };
     if !are_texts(labels) {
-        return Ok(Outcome::Unreadable(Unreadable::Shape));
+        return Ok(None);
     }
-    answer(alloc, labels, rules)
+    Ok(Some(found_for(compiler, alloc, labels, rules)?))
 }
 
 /// The members of the object `labels`.

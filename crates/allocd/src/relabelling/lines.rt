@@ -1,35 +1,34 @@
-//! The texts on outcomes.
+//! The texts on findings.
 
 ghost use Rattle.std.specs.Prelude.{◌≡◌, IfOk, string_bytes};
-ghost use Rattle.allocd.specs.Relabelling.{outcome_text, rule_error_name};
+ghost use Rattle.allocd.specs.Relabelling.{finding_text, rule_error_name};
 
-use super::Outcome;
+use super::Finding;
 use lists::Text;
 use relabel::RuleError;
 use std::alloc::{AllocError, Global};
 
-/// The text on an outcome.
-pub(super) fn text_of(alloc: Global, outcome: &Outcome) -> Result<String, AllocError>
-    ensures { IfOk result (λ text. string_bytes text ≡ outcome_text outcome.now) }
+/// The text on a finding.
+pub(super) fn text_of(alloc: Global, finding: &Finding) -> Result<String, AllocError>
+    ensures { IfOk result (λ text. string_bytes text ≡ finding_text finding.now) }
 {
-    match outcome {
-        Outcome::Unreadable(unreadable) => String::from_str(alloc, unreadable.line()),
-        Outcome::BadLabelName => String::from_str(alloc, "refused BadLabelName\n"),
-        Outcome::RefusedRule(number, error) => refused_line(alloc, *number, *error),
-        Outcome::Kept { labels, target } => kept_lines(alloc, labels, target),
-        Outcome::Dropped(number) => format!(in alloc; "dropped {number}\n"),
+    match finding {
+        Finding::BadLabelName => String::from_str(alloc, "refused BadLabelName\n"),
+        Finding::RefusedRule(number, error) => refused_line(alloc, *number, *error),
+        Finding::Kept { labels, target } => kept_lines(alloc, labels, target),
+        Finding::Dropped(number) => format!(in alloc; "dropped {number}\n"),
     }
 }
 
 fn refused_line(alloc: Global, number: usize, error: RuleError) -> Result<String, AllocError>
-    ensures { IfOk result (λ text. string_bytes text ≡ outcome_text (Outcome.RefusedRule number error)) }
+    ensures { IfOk result (λ text. string_bytes text ≡ finding_text (Finding.RefusedRule number error)) }
 {
     let name = name_of(error);
     format!(in alloc; "refused {number} {name}\n")
 }
 
 fn kept_lines(alloc: Global, labels: &Text, target: &Option<Text>) -> Result<String, AllocError>
-    ensures { IfOk result (λ text. string_bytes text ≡ outcome_text (Outcome.Kept labels.now target.now)) }
+    ensures { IfOk result (λ text. string_bytes text ≡ finding_text (Finding.Kept labels.now target.now)) }
 {
     let labels = labels.as_str();
     match target {

@@ -1,28 +1,30 @@
-//! Replays through the program's streams.
-use super::{BreaksAt, Endless, FailsAt, is_device};
-use crate::replay::{Ending, replay_all, run_replay};
+//! Replays through the command `replay`.
+use super::{answers, found_memory};
+use crate::ending::{Ending, Status, Stop};
+use crate::replay::run_replay;
 use std::process::Abort;
+use std::test::Fail;
 
-const INPUT: &str =
+pub(super) const INPUT: &str =
     "{\"scrape_configs\":[{\"job_name\":\"j\",\"target_limit\":1}]}\n{\"event\":\"join\",\"name\":\"a\",\"reach\":[{\"allow\":true,\"test\":\"any\"}]}\n{\"event\":\"leave\",\"collector\":2}\n\n{\"event\":\"leave\",\"collector\":1}\n";
 
-const TEXT: &str = "Joined 1\nUnknownCollector\nLeft\ntotal 0\n";
+pub(super) const TEXT: &str = "Joined 1\nUnknownCollector\nLeft\ntotal 0\n";
 
+/// A replay that finds no memory writes a front of its text before the line that says so.
 #[test]
-fn replays_a_collector(rt: HostRuntime) -> Result<(), &'static str> {
+fn replays_a_collector(rt: HostRuntime) -> Result<(), Fail> {
     let mut written: Vec<u8> = Vec::new(rt.alloc());
-    let ended = run_replay(rt.alloc(), &mut INPUT.as_bytes(), &mut written);
-    if ended == 3 {
-        stopped(&rt, written.as_slice());
-        return Err("no memory");
+    let ending = run_replay(rt.alloc(), &mut INPUT.as_bytes(), &mut written);
+    if ending == Ending::Stopped(Stop::Memory) {
+        is_front(&rt, written.as_slice());
     }
+    found_memory(ending)?;
     assert_eq!(rt; written.as_slice(), TEXT.as_bytes());
-    assert_eq!(rt; ended, 0);
+    assert_eq!(rt; ending, Ending::Answered(Status::Done));
     Ok(())
 }
 
-/// What stands before the line `memory` is a front of the text.
-fn stopped(rt: &impl Abort, written: &[u8]) {
+fn is_front(rt: &impl Abort, written: &[u8]) {
     let Some(front) = written.strip_suffix(b"memory\n".as_slice()) else {
         panic!(rt; "another end");
     };
@@ -30,42 +32,33 @@ fn stopped(rt: &impl Abort, written: &[u8]) {
 }
 
 #[test]
-fn a_replay_past_the_limit_stands_alone(rt: HostRuntime) -> Result<(), &'static str> {
-    let mut written: Vec<u8> = Vec::new(rt.alloc());
-    let ended = run_replay(rt.alloc(), &mut Endless, &mut written);
-    if ended == 3 {
-        return Err("no memory");
-    }
-    assert_eq!(rt; written.as_slice(), b"unreadable TooLong\n".as_slice());
-    assert_eq!(rt; ended, 2);
-    Ok(())
+fn an_unreadable_line_ends_a_replay(rt: HostRuntime) -> Result<(), Fail> {
+    answers(
+        &rt,
+        rt.alloc(),
+        "replay",
+        "{}\n\r",
+        "unreadable 2\n",
+        Status::Unreadable,
+    )
 }
 
 #[test]
-fn an_unreadable_line_ends_a_replay(rt: HostRuntime) -> Result<(), &'static str> {
-    let mut written: Vec<u8> = Vec::new(rt.alloc());
-    let ended = run_replay(rt.alloc(), &mut b"{}\n\r".as_slice(), &mut written);
-    if ended == 3 {
-        return Err("no memory");
+fn writes_an_answer_that_takes_many_writes(rt: HostRuntime) -> Result<(), Fail> {
+    let alloc = rt.alloc();
+    let mut input = String::from_str(alloc, "{\"scrape_configs\":[{\"job_name\":\"j\"}]}\n")?;
+    let mut text = String::new(alloc);
+    for _ in 0..6000 {
+        input.push_str("{\"event\":\"leave\",\"collector\":7}\n")?;
+        text.push_str("UnknownCollector\n")?;
     }
-    assert_eq!(rt; written.as_slice(), b"unreadable 2\n".as_slice());
-    assert_eq!(rt; ended, 2);
-    Ok(())
-}
-
-#[test]
-fn a_replay_whose_reader_fails_is_the_device(rt: HostRuntime) -> Result<(), &'static str> {
-    let mut written: Vec<u8> = Vec::new(rt.alloc());
-    let ended = run_replay(rt.alloc(), &mut BreaksAt(2), &mut written);
-    is_device(&rt, written.as_slice(), ended)
-}
-
-#[test]
-fn a_replay_whose_writer_fails_is_not_written(rt: HostRuntime) {
-    for left in 0..7 {
-        let mut writer = FailsAt { left, behind: 0 };
-        let ending = replay_all(rt.alloc(), &mut INPUT.as_bytes(), &mut writer);
-        assert!(rt; ending == Ending::Unwritten);
-        assert_eq!(rt; writer.behind, 1);
-    }
+    text.push_str("total 0\n")?;
+    answers(
+        &rt,
+        alloc,
+        "replay",
+        input.as_str(),
+        text.as_str(),
+        Status::Done,
+    )
 }

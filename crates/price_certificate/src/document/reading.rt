@@ -9,7 +9,7 @@ use crate::document::DocumentError;
 use crate::instance::Instance;
 use crate::plan::Plan;
 use crate::shape::InstanceError;
-use json_values::{member, parse};
+use json_values::{Spelled, member, parse};
 use lists::List;
 use serde_json::Value;
 use std::alloc::{AllocError, Global};
@@ -79,18 +79,5 @@ pub(crate) fn plan_in(alloc: Global, value: &Value) -> Result<Option<Plan>, Allo
         (λ o. IfNone o ((pairs : List (ℕ × ℕ)) (item_prices bin_prices : List ℕ)
         → ¬ SpellsPlan (view value.now) pairs item_prices bin_prices)) }
 {
-    let Some(pairs) = member(alloc, value, "pairs")? else {
-        return Ok(None);
-    };
-    let Some(item_prices) = member(alloc, value, "item_prices")? else {
-        return Ok(None);
-    };
-    let Some(bin_prices) = member(alloc, value, "bin_prices")? else {
-        return Ok(None);
-    };
-    Ok(Some(Plan {
-        pairs,
-        item_prices,
-        bin_prices,
-    }))
+    Plan::read(alloc, value)
 }

@@ -154,3 +154,20 @@ fn serves_operators(rt: HostRuntime) -> Result<(), Fail> {
     ];
     tells(&rt, rt.alloc(), &rows)
 }
+
+#[test]
+fn reads_a_long_pattern(rt: HostRuntime) -> Result<(), Fail> {
+    let alloc = rt.alloc();
+    let mut long = String::new(alloc);
+    for _ in 0..300 {
+        long.push('a')?;
+    }
+    let long = long.as_str();
+    let labels = format!(in alloc; "{{\"k\":\"{long}\"}}")?;
+    let rules = format!(in alloc;
+        "[{{\"action\":\"drop\",\"source_labels\":[\"k\"],\"regex\":\"{long}\"}}]"
+    )?;
+    let found = told(alloc, labels.as_str(), rules.as_str())?;
+    assert_eq!(rt; found.as_str(), "dropped 1");
+    Ok(())
+}

@@ -1,3 +1,4 @@
+//! The jobs of a configuration, each with a name of its own.
 ghost use Rattle.std.specs.Prelude.{◌≡◌, [], map};
 ghost use Rattle.serde_json.specs.View.{view, items_view};
 ghost use Rattle.sd_documents.specs.Reading.{Gives};
@@ -5,18 +6,18 @@ ghost use Rattle.sd_documents.specs.Config.{job_data, jobs_from, with_job, is_ta
 
 use crate::config::Job;
 use crate::config::entry::job_in;
-use crate::error::DocumentError;
+use crate::error::SdError;
 use lists::List;
 use serde_json::Value;
 use std::alloc::Global;
 
 /// The jobs of all entries.
-pub(crate) fn jobs_in(alloc: Global, entries: &[Value]) -> Result<List<Job>, DocumentError>
+pub(crate) fn jobs_in(alloc: Global, entries: &[Value]) -> Result<List<Job>, SdError>
     ensures { Gives (λ jobs. map job_data jobs) result (jobs_from 0 [] (items_view entries.now)) }
 {
     let mut jobs = List::new(alloc);
-    for (place, entry) in entries.iter().enumerate() {
-        add_job(alloc, &mut jobs, place, entry)?;
+    for (index, entry) in entries.iter().enumerate() {
+        add_job(alloc, &mut jobs, index, entry)?;
     }
     Ok(jobs)
 }
@@ -25,14 +26,14 @@ pub(crate) fn jobs_in(alloc: Global, entries: &[Value]) -> Result<List<Job>, Doc
 fn add_job(
     alloc: Global,
     jobs: &mut List<Job>,
-    place: usize,
+    index: usize,
     entry: &Value,
-) -> Result<(), DocumentError>
-    ensures { Gives (λ _. map job_data jobs.new) result (with_job place (map job_data jobs.old) (view entry.now)) }
+) -> Result<(), SdError>
+    ensures { Gives (λ _. map job_data jobs.new) result (with_job index (map job_data jobs.old) (view entry.now)) }
 {
-    let job = job_in(alloc, place, entry)?;
+    let job = job_in(alloc, index, entry)?;
     if is_taken(jobs.as_slice(), job.name.as_str()) {
-        return Err(DocumentError::RepeatedJob(place));
+        return Err(SdError::RepeatedJob(index));
     }
     jobs.push(job)?;
     Ok(())

@@ -1,19 +1,20 @@
 //! The members of a scrape config that are lists or objects.
-ghost use Rattle.std.specs.Prelude.{◌≡◌, IfOk, option_map};
+ghost use Rattle.std.specs.Prelude.{option_map};
 ghost use Rattle.serde_json.specs.View.{view, items_view, members_view};
 ghost use Rattle.sd_documents.specs.Reading.{Gives, each_said};
-ghost use Rattle.sd_documents.specs.Config.{params_from, params_said, static_said, url_said, few_urls, urls_said, few_rules, rules_said, parts_said};
-ghost use Rattle.sd_documents.specs.Seen.{parts_data};
+ghost use Rattle.sd_documents.specs.Config.{params_from, params_said, static_said, url_said, few_urls, urls_said, parts_said};
+ghost use Rattle.sd_documents.specs.inner.Seen.{parts_data};
 
 use crate::config::Param;
-use crate::config::members::{are_objects, count_of};
-use crate::error::{DocumentError, Limit, Member};
+use crate::config::rules::rules_in;
+use crate::error::{SdError, Limit, Member};
 use crate::group::Group;
 use crate::groups::groups_in;
 use crate::json::texts_in;
+use crate::limits::MOST_URLS;
 use lists::{List, Text};
 use serde_json::{Map, Value};
-use std::alloc::{AllocError, Global};
+use std::alloc::Global;
 
 #[derive(Drop)]
 pub(crate) struct Parts {
@@ -24,13 +25,13 @@ pub(crate) struct Parts {
 }
 
 #[tactic(auto, unfolding(crate::specs::Config::parts_said))]
-pub(crate) fn parts_in(alloc: Global, place: usize, entry: &Value) -> Result<Parts, DocumentError>
-    ensures { Gives parts_data result (parts_said place (view entry.now)) }
+pub(crate) fn parts_in(alloc: Global, index: usize, entry: &Value) -> Result<Parts, SdError>
+    ensures { Gives parts_data result (parts_said index (view entry.now)) }
 {
-    let params = params_in(alloc, place, entry.get("params"))?;
-    let static_groups = static_in(alloc, place, entry.get("static_configs"))?;
-    let http_urls = urls_in(alloc, place, entry.get("http_sd_configs"))?;
-    let rules = rules_in(alloc, place, entry.get("relabel_configs"))?;
+    let params = params_in(alloc, index, entry.get("params"))?;
+    let static_groups = static_in(alloc, index, entry.get("static_configs"))?;
+    let http_urls = urls_in(alloc, index, entry.get("http_sd_configs"))?;
+    let rules = rules_in(alloc, index, entry.get("relabel_configs"))?;
     Ok(Parts {
         params,
         static_groups,
@@ -41,30 +42,30 @@ pub(crate) fn parts_in(alloc: Global, place: usize, entry: &Value) -> Result<Par
 
 fn params_in(
     alloc: Global,
-    place: usize,
+    index: usize,
     found: Option<&Value>,
-) -> Result<List<Param>, DocumentError>
-    ensures { Gives (λ p. p) result (params_said place (option_map (λ v. view v.now) found.entry)) }
+) -> Result<List<Param>, SdError>
+    ensures { Gives (λ p. p) result (params_said index (option_map (λ v. view v.now) found.entry)) }
 {
     let Some(value) = found else {
         return Ok(List::new(alloc));
     };
     let members = value
         .as_object()
-        .ok_or(DocumentError::Shape(place, Member::Params))?;
-    each_param(alloc, place, members)
+        .ok_or(SdError::Shape(index, Member::Params))?;
+    each_param(alloc, index, members)
 }
 
 fn each_param(
     alloc: Global,
-    place: usize,
+    index: usize,
     members: &Map<String, Value>,
-) -> Result<List<Param>, DocumentError>
-    ensures { Gives (λ p. p) result (params_from place (members_view members.now.entries)) }
+) -> Result<List<Param>, SdError>
+    ensures { Gives (λ p. p) result (params_from index (members_view members.now.entries)) }
 {
     let mut params = List::new(alloc);
     for (name, value) in members.iter() {
-        let values = texts_in(alloc, place, Member::Params, value)?;
+        let values = texts_in(alloc, index, Member::Params, value)?;
         let name = Text::from_str(alloc, name.as_str())?;
         params.push(Param { name, values })?;
     }
@@ -73,104 +74,58 @@ fn each_param(
 
 fn static_in(
     alloc: Global,
-    place: usize,
+    index: usize,
     found: Option<&Value>,
-) -> Result<List<Group>, DocumentError>
-    ensures { Gives (λ g. g) result (static_said place (option_map (λ v. view v.now) found.entry)) }
+) -> Result<List<Group>, SdError>
+    ensures { Gives (λ g. g) result (static_said index (option_map (λ v. view v.now) found.entry)) }
 {
     match found {
-        Some(value) => groups_in(alloc, place, Member::StaticConfigs, value),
+        Some(value) => groups_in(alloc, index, Member::StaticConfigs, value),
         None => Ok(List::new(alloc)),
     }
 }
 
-const MOST_URLS: usize = 64;
-
-fn urls_in(alloc: Global, place: usize, found: Option<&Value>) -> Result<List<Text>, DocumentError>
-    ensures { Gives (λ u. u) result (urls_said place (option_map (λ v. view v.now) found.entry)) }
+fn urls_in(alloc: Global, index: usize, found: Option<&Value>) -> Result<List<Text>, SdError>
+    ensures { Gives (λ u. u) result (urls_said index (option_map (λ v. view v.now) found.entry)) }
 {
     let Some(value) = found else {
         return Ok(List::new(alloc));
     };
     let values = value
         .as_array()
-        .ok_or(DocumentError::Shape(place, Member::HttpSdConfigs))?;
-    let urls = each_url(alloc, place, values.as_slice())?;
+        .ok_or(SdError::Shape(index, Member::HttpSdConfigs))?;
+    let urls = each_url(alloc, index, values.as_slice())?;
     few_urls_of(urls)
 }
 
 /// The URLs, if there are no more than the most.
-fn few_urls_of(urls: List<Text>) -> Result<List<Text>, DocumentError>
+fn few_urls_of(urls: List<Text>) -> Result<List<Text>, SdError>
     ensures { Gives (λ u. u) result (few_urls urls) }
 {
     if urls.len() > MOST_URLS {
-        return Err(DocumentError::TooMany(Limit::Sources));
+        return Err(SdError::TooMany(Limit::Sources));
     }
     Ok(urls)
 }
 
-fn each_url(alloc: Global, place: usize, values: &[Value]) -> Result<List<Text>, DocumentError>
-    ensures { Gives (λ u. u) result (each_said (url_said place) (items_view values.now)) }
+fn each_url(alloc: Global, index: usize, values: &[Value]) -> Result<List<Text>, SdError>
+    ensures { Gives (λ u. u) result (each_said (url_said index) (items_view values.now)) }
 {
     let mut urls = List::new(alloc);
     for value in values {
-        let url = url_in(alloc, place, value)?;
+        let url = url_in(alloc, index, value)?;
         urls.push(url)?;
     }
     Ok(urls)
 }
 
-fn url_in(alloc: Global, place: usize, value: &Value) -> Result<Text, DocumentError>
-    ensures { Gives (λ t. t) result (url_said place (view value.now)) }
+fn url_in(alloc: Global, index: usize, value: &Value) -> Result<Text, SdError>
+    ensures { Gives (λ t. t) result (url_said index (view value.now)) }
 {
     let url = value
         .get("url")
         .and_then(Value::as_str)
-        .ok_or(DocumentError::Shape(place, Member::HttpSdConfigs))?;
+        .ok_or(SdError::Shape(index, Member::HttpSdConfigs))?;
     let url = Text::from_str(alloc, url)?;
     Ok(url)
-}
-
-const MOST_RULES: usize = 256;
-
-fn rules_in(
-    alloc: Global,
-    place: usize,
-    found: Option<&Value>,
-) -> Result<List<Value>, DocumentError>
-    ensures { Gives (λ r. items_view r) result (rules_said place (option_map (λ v. view v.now) found.entry)) }
-{
-    let Some(value) = found else {
-        return Ok(List::new(alloc));
-    };
-    let values = value
-        .as_array()
-        .ok_or(DocumentError::Shape(place, Member::RelabelConfigs))?;
-    if !are_objects(values.as_slice()) {
-        return Err(DocumentError::Shape(place, Member::RelabelConfigs));
-    }
-    few_rules_of(alloc, values.as_slice())
-}
-
-/// The rules, if there are no more than the most.
-fn few_rules_of(alloc: Global, values: &[Value]) -> Result<List<Value>, DocumentError>
-    ensures { Gives (λ r. items_view r) result (few_rules (items_view values.now)) }
-{
-    if count_of(values) > MOST_RULES {
-        return Err(DocumentError::TooMany(Limit::Rules));
-    }
-    let rules = copies(alloc, values)?;
-    Ok(rules)
-}
-
-/// Equal copies of all values.
-fn copies(alloc: Global, values: &[Value]) -> Result<List<Value>, AllocError>
-    ensures { IfOk result (λ r. items_view r ≡ items_view values.now) }
-{
-    let mut all = List::new(alloc);
-    for value in values {
-        let copy = value.clone()?;
-        all.push(copy)?;
-    }
-    Ok(all)
 }

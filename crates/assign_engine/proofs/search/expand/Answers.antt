@@ -23,7 +23,7 @@ loop-item-preserved c =
     let price : c.from.result ≡ get_or us t 0 = c.from.ensures ∙ get_or_read us t c.index.result.now (omega (arith, c.requires.seated _ _ s, c.requires.items)) c.index.ensures 0 in
     record {
       listed = c.members-item-items.ensures;
-      expanding = expanding_more p ats us vs c.args.bin c.distance-base.result items n c.args.labels.now c.loop-item.labels c.loop-item.invariant.expanding t _ c.relax.new.labels refl (ap (λ (m : ℕ). c.distance-base.result + m) price) s c.in_ok-relax.ensures;
+      expanding = expanding_more p ats us vs c.args.bin c.distance-base.result items n c.args.tables.now c.loop-item.tables c.loop-item.invariant.expanding t _ c.relax.new.tables refl (ap (λ (m : ℕ). c.distance-base.result + m) price) s c.in_ok-relax.ensures;
     }
 
 pub returns : goal.returns
@@ -33,5 +33,5 @@ returns c =
     let us = c.args.matching.now.item_prices.items in
     let vs = c.args.matching.now.bin_prices.items in
     let items = c.members-item-items.result.now in
-    let all = expanded_all p ats us vs c.args.bin c.distance-base.result items c.loop-item.item-index c.args.labels.now c.loop-item.labels c.loop-item.invariant.expanding c.loop-item-test.false c.members-item-items.ensures in
-    subst (λ (m : ℕ). IsExpanded p ats us vs c.args.bin m c.args.labels.now c.loop-item.labels) c.distance-base.ensures all
+    let all = expanded_all p ats us vs c.args.bin c.distance-base.result items c.loop-item.item-index c.args.tables.now c.loop-item.tables c.loop-item.invariant.expanding c.loop-item-test.false c.members-item-items.ensures in
+    subst (λ (m : ℕ). IsExpanded p ats us vs c.args.bin m c.args.tables.now c.loop-item.tables) c.distance-base.ensures all

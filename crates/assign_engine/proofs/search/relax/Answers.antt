@@ -14,7 +14,7 @@ index-requires c =
 pub distance-requires : goal.distance-requires
 distance-requires c =
     let a = allowed_in c.args.instance.now c.args.item c.loop-bin.bin-index c.row-bin-items.result.now c.row-bin-items.ensures c.loop-bin-test.true in
-    omega (arith, allowed_bin c.args.instance.now c.is_problem.ensures c.args.item _ a, c.requires.tables.distances, c.loop-bin.invariant.relaxed.changed.distance_count)
+    omega (arith, allowed_bin c.args.instance.now c.is_problem.ensures c.args.item _ a, c.requires.sizes.distances, c.loop-bin.invariant.relaxed.changed.distance_count)
 
 pub loop-bin-preserved : goal.loop-bin-preserved
 loop-bin-preserved c =
@@ -35,14 +35,14 @@ loop-bin-preserved c =
       row = c.row-bin-items.ensures;
       relaxed = elim c.if-distance.branch [
         | then-distance+in_ok-note w ↦
-            relaxed_lower p ats vs t c.args.base k b c.args.labels.now c.loop-bin.labels c.is_problem.ensures i at_k a _ w.lower.new.self w.note.new.labels _ w.labels-is w.lower.ensures
-            (omega (arith, in_range, c.requires.tables.distances, i.changed.distance_count))
-            (omega (arith, in_range, c.requires.tables.vias, i.changed.via_count))
+            relaxed_lower p ats vs t c.args.base k b c.args.tables.now c.loop-bin.tables c.is_problem.ensures i at_k a _ w.lower.new.self w.note.new.tables _ w.tables-is w.lower.ensures
+            (omega (arith, in_range, c.requires.sizes.distances, i.changed.distance_count))
+            (omega (arith, in_range, c.requires.sizes.vias, i.changed.via_count))
             (omega (arith, w.if-distance.true, c.distance.ensures))
             (omega (arith, priced, price, c.weight.ensures, c.from-in-loop-bin.ensures))
             w.in_ok-note.ensures
         | else-distance w ↦
-            relaxed_same p ats vs t c.args.base k b c.args.labels.now c.loop-bin.labels c.is_problem.ensures i at_k a _ w.labels-is
+            relaxed_same p ats vs t c.args.base k b c.args.tables.now c.loop-bin.tables c.is_problem.ensures i at_k a _ w.tables-is
             (omega (arith, priced, price, c.weight.ensures, c.from-in-loop-bin.ensures, w.if-distance.false, c.distance.ensures))
       ];
     }

@@ -1,4 +1,5 @@
 use Rattle.label_sets.proofs.LawProofs.{set_gives_text, remove_gives_no_text, set_keeps_sets, remove_keeps_sets, alike_are_equal}
+use Rattle.label_sets.proofs.Finals.{last_is_put_last}
 use Rattle.label_sets.proofs.laws.map_laws.Goals as goal
 
 pub returns-clause-set : goal.returns-clause-set
@@ -15,3 +16,6 @@ returns-clause-remove_keeps c = remove_keeps_sets
 
 pub returns-clause-alike : goal.returns-clause-alike
 returns-clause-alike c = alike_are_equal
+
+pub returns-clause-last : goal.returns-clause-last
+returns-clause-last c = last_is_put_last

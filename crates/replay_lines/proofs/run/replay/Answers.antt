@@ -3,6 +3,7 @@ use Rattle.std.specs.Prelude.{OnOk, OnErr, IfOk}
 use Rattle.replay_lines.specs.Lines.{lines_left, AddsFront}
 use Rattle.replay_lines.specs.Replays.{Written, replay_of, written_from, unreadable_at}
 use Rattle.replay_lines.proofs.Ahead.{replay_opened, replay_unopened}
+use Rattle.replay_lines.proofs.RunLines.{replay_is_run}
 use Rattle.replay_lines.proofs.run.replay.Goals as goal
 
 pub returns-in-Some : goal.returns-in-Some
@@ -16,6 +17,7 @@ returns-in-Some c =
       text = subst (λ (w : Written). OnOk c.answer_lines.result (new ≡ old ++ w.text)) same told.text;
       ended = subst (λ (w : Written). IfOk c.answer_lines.result (λ e. e ≡ w.ended)) same told.ended;
       memory = subst (λ (w : Written). OnErr c.answer_lines.result (AddsFront w.text old new)) same told.memory;
+      run = replay_is_run c.published_are_best.ensures c.booked_by_holders.ensures c.args.input.now;
     }
 
 pub returns-in-None : goal.returns-in-None
@@ -29,4 +31,8 @@ returns-in-None c =
       text = subst (λ (w : Written). OnOk c.write_unreadable.result (new ≡ old ++ w.text)) same told.text;
       ended = subst (λ (w : Written). IfOk c.write_unreadable.result (λ e. e ≡ w.ended)) same told.ended;
       memory = search rules;
+      run = replay_is_run c.published_are_best.ensures c.booked_by_holders.ensures c.args.input.now;
     }
+
+pub returns-in_err-core-clause-run : goal.returns-in_err-core-clause-run
+returns-in_err-core-clause-run c = replay_is_run c.published_are_best.ensures c.booked_by_holders.ensures c.args.input.now

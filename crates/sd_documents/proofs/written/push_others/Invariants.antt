@@ -1,5 +1,5 @@
 use Rattle.std.proofs.Common.{◌≡◌, ◌++◌, drop, map}
-use Rattle.sd_documents.specs.Written.{after_commas}
+use Rattle.sd_documents.specs.inner.Commas.{after_commas}
 use Rattle.sd_documents.proofs.written.push_others.Given as goal
 
 abbrev pub invariant-loop-text : goal.invariant-loop-text

@@ -1,10 +1,14 @@
-use Rattle.std.proofs.Common.{◌<◌, ℕ, List, sym, subst}
-use Rattle.std.specs.Prelude.{AllPairs}
-use Rattle.allocation_core.proofs.SoundLemmas.{allocation_ascending}
+use Rattle.std.proofs.Common.{◌≡◌, Some, None, ap, subst, ◌∙◌}
+use Rattle.price_certificate.specs.Faults.{fault_of}
+use Rattle.fleet_assignment.specs.Instance.{instance_of}
+use Rattle.allocation_core.specs.State.{current_pairs, instance_at}
+use Rattle.allocation_core.specs.Kept.{IsKept}
 use Rattle.allocation_core.proofs.machine.Core.install.Goals as goal
 
-pub publish-requires : goal.publish-requires
-publish-requires c =
-    record {
-      ascending = subst (λ (ps : List (ℕ × ℕ)). AllPairs (λ (a b : ℕ × ℕ). a.0 < b.0) ps) (sym c.in_ok-pairs.ensures) (allocation_ascending _ c.as_slice.result.now);
-    }
+pub returns-in-Some-clause-certified : goal.returns-in-Some-clause-certified
+returns-in-Some-clause-certified c = λ h.
+    let kept : IsKept c.args.self.now = subst IsKept c.self.view_is c.self.invariant in
+    let none : fault_of (instance_at c.args.self.now) c.args.plan.pairs c.args.plan.item_prices c.args.plan.bin_prices ≡ None = (c.no_fault_is_certified.ensures (instance_at c.args.self.now) c.args.plan.pairs c.args.plan.item_prices c.args.plan.bin_prices (c.instances_are_problems.ensures c.args.self.now.fleet (current_pairs c.args.self.now) kept.fleet)).1 h in
+    let is : c.in_ok-instance.instance ≡ instance_at c.args.self.now =
+    c.in_ok-instance.ensures ∙ (λ i. instance_of c.self.inside.fleet (c.current_pairs-before.ensures i)) ∙ ap instance_at c.self.view_is in
+    cc (none, is, c.in_ok-fault.ensures, c.in-Some.is)

@@ -1,8 +1,12 @@
-use Rattle.std.proofs.Common.{refl, ap, arith}
-use Rattle.std.proofs.lemmas.Grind.{common_steps}
+use Rattle.std.proofs.Common.{refl, ap}
+use Rattle.std.proofs.Common.{subst, sym}
 use Rattle.handover.specs.Handover.{Handover}
-use Rattle.allocation_core.proofs.KeptLemmas.{first_kept}
+use Rattle.fleet.specs.Fleet.{FleetState, first_fleet}
+use Rattle.fleet.specs.IsFleet.{IsFleet}
+use Rattle.fleet.proofs.KeptLemmas.{first_kept as fleet_first_kept}
+use Rattle.allocation_core.proofs.StepLemmas.{first_kept}
 use Rattle.allocation_core.proofs.machine.Core.open.Goals as goal
 
 pub invariant_of-result : goal.invariant_of-result
-invariant_of-result c = first_kept _ (grind (arith, common_steps)) (grind (arith, common_steps)) c.new-2.ensures.items refl (ap (λ (h : Handover). h.published) c.open.ensures) refl c.open-2.ensures
+invariant_of-result c =
+    first_kept _ (subst IsFleet (sym c.in_ok-fleet.ensures.first) (fleet_first_kept (first_fleet c.args.jobs.items) refl refl refl refl)) (ap (λ (h : Handover). h.published) c.open-2.ensures) refl c.open-3.ensures

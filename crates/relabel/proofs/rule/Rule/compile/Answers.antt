@@ -1,7 +1,7 @@
 use Rattle.relabel.proofs.rule.Rule.compile.Goals as goal
 
 pub invariant_of-result : goal.invariant_of-result
-invariant_of-result c =
+invariant_of-result g c =
     let made = c.in_ok-regex.ensures in (
       record {
         finds = rw c.as_str.ensures at made.form;

@@ -5,4 +5,4 @@ use Rattle.sd_documents.specs.Config.{params_from}
 use Rattle.sd_documents.proofs.config.parts.each_param.Given as goal
 
 abbrev pub invariant-loop-name : goal.invariant-loop-name
-invariant-loop-name l = params_from l.place (members_view l.name-iterator) >>= (λ ps. Ok (l.params ++ ps)) ≡ params_from l.place (members_view l.members.entries)
+invariant-loop-name l = params_from l.index (members_view l.name-iterator) >>= (λ ps. Ok (l.params ++ ps)) ≡ params_from l.index (members_view l.members.entries)

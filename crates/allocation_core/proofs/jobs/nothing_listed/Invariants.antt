@@ -1,6 +1,0 @@
-use Rattle.std.proofs.Common.{◌≡◌, take}
-use Rattle.allocation_core.specs.Jobs.{nothing_listed}
-use Rattle.allocation_core.proofs.jobs.nothing_listed.Given as goal
-
-abbrev pub invariant-loop-job : goal.invariant-loop-job
-invariant-loop-job l = l.listed.items ≡ nothing_listed (take l.job-index l.jobs)

@@ -1,7 +1,0 @@
-use Rattle.std.proofs.Common.{◌≡◌, ◌≤◌, ◌&&◌, ℕ}
-use Rattle.std.specs.Prelude.{not}
-use Rattle.allocation_core.specs.Live.{count_below, mark_at}
-use Rattle.allocation_core.proofs.live.count_only.Given as goal
-
-abbrev pub invariant-loop-n : goal.invariant-loop-n
-invariant-loop-n l = (l.count ≡ count_below (λ (n : ℕ). mark_at l.these n && not (mark_at l.those n)) l.n) × (l.count ≤ l.n)

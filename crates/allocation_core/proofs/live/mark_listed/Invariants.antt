@@ -1,7 +1,0 @@
-use Rattle.std.proofs.Common.{ℕ, List}
-use Rattle.allocation_core.specs.Live.{is_listed_in}
-use Rattle.allocation_core.proofs.Marks.{MarksLeft}
-use Rattle.allocation_core.proofs.live.mark_listed.Given as goal
-
-abbrev pub invariant-loop-sources : goal.invariant-loop-sources
-invariant-loop-sources l = MarksLeft (λ (sources : List (List ℕ)) (n : ℕ). is_listed_in sources n) l.listed l.sources-index l.fn.marks l.marks

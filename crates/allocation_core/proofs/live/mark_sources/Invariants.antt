@@ -1,7 +1,0 @@
-use Rattle.std.proofs.Common.{ℕ, List}
-use Rattle.allocation_core.specs.Live.{is_in}
-use Rattle.allocation_core.proofs.Marks.{MarksLeft}
-use Rattle.allocation_core.proofs.live.mark_sources.Given as goal
-
-abbrev pub invariant-loop-numbers : goal.invariant-loop-numbers
-invariant-loop-numbers l = MarksLeft (λ (numbers : List ℕ) (n : ℕ). is_in numbers n) l.sources l.numbers-index l.fn.marks l.marks

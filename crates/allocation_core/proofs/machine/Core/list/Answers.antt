@@ -1,9 +1,0 @@
-use Rattle.std.proofs.Common.{ap, arith, length}
-use Rattle.allocation_core.specs.State.{State}
-use Rattle.allocation_core.proofs.LiveLemmas.{relisted_kept}
-use Rattle.allocation_core.proofs.machine.Core.list.Goals as goal
-
-pub invariant_of-self : goal.invariant_of-self
-invariant_of-self c =
-    relisted_kept _ c.args.job c.args.source _ c.args.targets c.list.new.listed.items c.list.new.known.keys c.self.invariant (omega (arith, c.requires.job, ap (λ (m : State). length m.jobs) c.self.view_is))
-    (rw c.in-Ok-Ok.field-0-is at c.in-Ok-Ok.ensures.listed) c.in-Ok-Ok.ensures.known (rw c.in-Ok-Ok.field-0-is at c.in-Ok-Ok.ensures.change).0

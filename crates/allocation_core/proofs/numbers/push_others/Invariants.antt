@@ -1,7 +1,0 @@
-use Rattle.std.proofs.Common.{◌≡◌, ◌++◌, drop}
-use Rattle.std.specs.Prelude.{string_bytes}
-use Rattle.allocation_core.specs.Lines.{after_commas}
-use Rattle.allocation_core.proofs.numbers.push_others.Given as goal
-
-abbrev pub invariant-loop-number : goal.invariant-loop-number
-invariant-loop-number l = string_bytes l.line ++ after_commas (drop l.number-index l.numbers) ≡ string_bytes l.fn.line ++ after_commas l.numbers

@@ -1,5 +1,0 @@
-use Rattle.allocation_core.proofs.Placing.{PlacesLeft}
-use Rattle.allocation_core.proofs.places.place_all.Given as goal
-
-abbrev pub invariant-loop-i : goal.invariant-loop-i
-invariant-loop-i l = PlacesLeft l.pairs l.i l.fn.places l.places

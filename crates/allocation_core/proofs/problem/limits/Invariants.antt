@@ -1,6 +1,0 @@
-use Rattle.std.proofs.Common.{◌≡◌, ◌++◌, drop}
-use Rattle.allocation_core.specs.Instances.{limits_for}
-use Rattle.allocation_core.proofs.problem.limits.Given as goal
-
-abbrev pub invariant-loop-collector : goal.invariant-loop-collector
-invariant-loop-collector l = l.limits.items ++ limits_for l.jobs (drop l._collector-index l.collectors) ≡ limits_for l.jobs l.collectors

@@ -1,0 +1,6 @@
+pub mod ChangeLemmas
+pub mod Chosen
+pub mod KeptLemmas
+pub mod LiveLemmas
+pub mod Marks
+pub mod OrderLemmas

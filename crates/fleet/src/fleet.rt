@@ -1,0 +1,216 @@
+//! The fleet, and how it changes.
+ghost use Rattle.std.specs.Prelude.{◌≡◌, ◌<◌, ◌↔◌, ◌==◌, Some, None, Ok, Err, false, length, slice_get, MatchOption, IfOk, OnOk, OnErr};
+ghost use Rattle.fleet.specs.Fleet.{first_fleet, id_named, is_joined, live_of};
+ghost use Rattle.fleet.specs.IsFleet.{IsFleet};
+ghost use Rattle.fleet.specs.Jobs.{are_jobs, sources_at};
+ghost use Rattle.fleet.specs.Changes.{listing_of, fleet_after_list, joining_of, join_refusal, fleet_after_join, fleet_after_leave, relisted, IsChange, state_unless};
+
+use crate::collector::{Collector, has_id, id_named, take_out};
+use crate::error::OpenError;
+use crate::job::JobSpec;
+use crate::jobs::{are_jobs, job_named, nothing_listed, sources_at};
+use crate::known_target::KnownTarget;
+use crate::limits::{LAST_COLLECTOR, MOST_BINS, MOST_COLLECTORS};
+use crate::listing::list;
+use crate::live::live_numbers;
+use crate::outcome::{JoinRefusal, Joining, ListRefusal, Listing};
+use indexmap::IndexSet;
+use label_sets::Target;
+use lists::List;
+use reach_rules::{CollectorName, Reach};
+use std::alloc::{AllocError, Global};
+use std::marker::Model;
+
+/// Who and what there is. Contracts see it as its state.
+#[derive(Drop)]
+pub struct Fleet {
+    alloc: Global,
+    jobs: List<JobSpec>,
+    listed: Vec<List<List<usize>>>,
+    known: IndexSet<KnownTarget>,
+    collectors: Vec<Collector>,
+    last_collector: u32,
+}
+
+impl Model for Fleet {
+    ghost use Rattle.fleet.specs.Fleet.{FleetState};
+    ghost use Rattle.fleet.specs.IsFleet.{IsFleet};
+
+    ghost Value = { FleetState };
+
+    ghost view = { λ f. record { jobs = f.jobs; listed = f.listed.items; known = f.known.keys; collectors = f.collectors.items; last_collector = f.last_collector } };
+
+    ghost invariant = { λ f. IsFleet (record { jobs = f.jobs; listed = f.listed.items; known = f.known.keys; collectors = f.collectors.items; last_collector = f.last_collector }) };
+}
+
+impl Fleet {
+    /// The fleet of these jobs: nothing is listed, and nobody joined.
+    pub fn open(alloc: Global, jobs: Vec<JobSpec>) -> Result<Fleet, OpenError>
+        ensures first { IfOk result (λ f. f ≡ first_fleet jobs.items) }
+        ensures bad { (result ≡ Err OpenError.BadJobs) ↔ (are_jobs jobs.items ≡ false) }
+    {
+        if !are_jobs(jobs.as_slice()) {
+            return Err(OpenError::BadJobs);
+        }
+        let listed = nothing_listed(alloc, jobs.as_slice())?;
+        Ok(Fleet {
+            alloc,
+            jobs: List::from_vec(jobs),
+            listed,
+            known: IndexSet::new(alloc),
+            collectors: Vec::new(alloc),
+            last_collector: 0,
+        })
+    }
+
+    /// A source of a job lists targets, in place of those that it listed before. Where that is refused, or without memory, all
+    /// stays as it was.
+    #[tactic(auto, unfolding(crate::specs::Changes::listing_of, crate::specs::Changes::fleet_after_list))]
+    pub fn list(
+        &mut self,
+        job: &str,
+        source: u32,
+        targets: List<Target>,
+    ) -> Result<Listing, AllocError>
+        ensures listing { IfOk result (λ l. l ≡ listing_of self.old job.now source targets) }
+        ensures state { OnOk result (self.new ≡ fleet_after_list self.old job.now source targets) }
+        ensures err { OnErr result (self.new ≡ self.old) }
+    {
+        let job = match job_named(self.jobs.as_slice(), job) {
+            Some(job) => job,
+            None => return Ok(Listing::Refused(ListRefusal::UnknownJob)),
+        };
+        if source >= sources_at(self.jobs.as_slice(), job) {
+            return Ok(Listing::Refused(ListRefusal::UnknownSource));
+        }
+        match self.relist(job, source, targets)? {
+            Ok((added, removed)) => Ok(Listing::Changed { added, removed }),
+            Err(refusal) => Ok(Listing::Refused(refusal)),
+        }
+    }
+
+    /// The source lists the targets, unless too many were live or known then.
+    fn relist(
+        &mut self,
+        job: usize,
+        source: u32,
+        targets: List<Target>,
+    ) -> Result<Result<(u32, u32), ListRefusal>, AllocError>
+        requires job { job < length self.old.jobs }
+        requires source { source < sources_at self.old.jobs job }
+        ensures change { IfOk result (λ r. IsChange self.old.listed (relisted self.old job source targets).listed (length (relisted self.old job source targets).known) r) }
+        ensures state { IfOk result (λ r. self.new ≡ state_unless r self.old (relisted self.old job source targets)) }
+        ensures err { OnErr result (self.new ≡ self.old) }
+    {
+        let count = self.known.len();
+        match list(
+            self.alloc,
+            &mut self.known,
+            &mut self.listed,
+            job,
+            source as usize,
+            targets,
+        ) {
+            Ok(Ok(counts)) => Ok(Ok(counts)),
+            Ok(Err(refusal)) => {
+                self.known.truncate(count);
+                Ok(Err(refusal))
+            }
+            Err(error) => {
+                self.known.truncate(count);
+                Err(error)
+            }
+        }
+    }
+
+    /// A collector joins. Memory is wanted only where nothing is against it.
+    #[tactic(auto, unfolding(crate::specs::Changes::joining_of, crate::specs::Changes::fleet_after_join))]
+    pub fn join(&mut self, name: CollectorName, reach: Reach) -> Result<Joining, AllocError>
+        ensures joining { IfOk result (λ j. j ≡ joining_of self.old name) }
+        ensures state { OnOk result (self.new ≡ fleet_after_join self.old name reach) }
+        ensures err { OnErr result (self.new ≡ self.old) }
+        ensures late { OnErr result (join_refusal self.old name ≡ None) }
+    {
+        if let Some(id) = id_named(self.collectors.as_slice(), name.as_str()) {
+            return Ok(Joining::Refused(JoinRefusal::AlreadyJoined(id)));
+        }
+        let count = self.collectors.len() + 1;
+        if count > MOST_COLLECTORS || self.jobs.len() * count > MOST_BINS {
+            return Ok(Joining::Refused(JoinRefusal::TooManyCollectors));
+        }
+        if self.last_collector >= LAST_COLLECTOR {
+            return Ok(Joining::Refused(JoinRefusal::IdsSpent));
+        }
+        let id = self.last_collector + 1;
+        self.collectors.push(Collector { id, name, reach })?;
+        self.last_collector = id;
+        Ok(Joining::Joined(id))
+    }
+
+    /// A collector leaves. False where no live collector has the number. It takes no memory.
+    #[tactic(auto, unfolding(crate::specs::Changes::fleet_after_leave))]
+    pub fn leave(&mut self, id: u32) -> bool
+        ensures was { result ≡ is_joined self.old id }
+        ensures state { self.new ≡ fleet_after_leave self.old id }
+    {
+        if !has_id(self.collectors.as_slice(), id) {
+            return false;
+        }
+        take_out(&mut self.collectors, id);
+        true
+    }
+
+    /// The live targets in order of number.
+    pub fn live(&self) -> Result<Vec<usize>, AllocError>
+        ensures { IfOk result (λ v. v.items ≡ live_of self.now) }
+    {
+        live_numbers(self.alloc, self.listed.as_slice(), self.known.len())
+    }
+
+    /// The jobs in order. Its contract also says what every fleet keeps.
+    pub fn jobs(&self) -> &[JobSpec]
+        ensures jobs { result.now ≡ self.now.jobs }
+        ensures kept { IsFleet self.now }
+    {
+        self.jobs.as_slice()
+    }
+
+    /// The live collectors in order of number.
+    pub fn collectors(&self) -> &[Collector]
+        ensures { result.now ≡ self.now.collectors }
+    {
+        self.collectors.as_slice()
+    }
+
+    /// The known targets in order of number, live or not.
+    pub fn known(&self) -> &[KnownTarget]
+        ensures { result.now ≡ self.now.known }
+    {
+        self.known.as_slice()
+    }
+
+    /// The number of the live collector of a name.
+    pub fn id_named(&self, name: &str) -> Option<u32>
+        ensures { result ≡ id_named self.now.collectors name.now }
+    {
+        id_named(self.collectors.as_slice(), name)
+    }
+
+    /// Whether a live collector has the number.
+    pub fn is_joined(&self, id: u32) -> bool
+        ensures { result ≡ is_joined self.now id }
+    {
+        has_id(self.collectors.as_slice(), id)
+    }
+
+    /// The index of a known target's job, and the target.
+    pub fn target(&self, number: u32) -> Option<(usize, &Target)>
+        ensures { MatchOption result (slice_get self.now.known number ≡ None)
+            (λ r. slice_get self.now.known number ≡ Some (record { job = r.0; target = r.1.now })) }
+    {
+        match self.known.get_index(number as usize) {
+            Some(known) => Some((known.job, &known.target)),
+            None => None,
+        }
+    }
+}

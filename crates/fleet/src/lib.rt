@@ -1,0 +1,28 @@
+//! Who and what there is: jobs, the targets that their sources list, and the collectors.
+//!
+//! Contracts see a `Fleet` as a record of plain lists. A source's list is replaced whole, a number that was given to a target
+//! or to a collector is never given again, and what is refused changes nothing.
+#![tactic(auto)]
+
+mod collector;
+mod error;
+mod fleet;
+mod job;
+mod jobs;
+mod known_target;
+mod limits;
+mod listing;
+mod live;
+mod outcome;
+#[cfg(test)]
+mod tests;
+
+pub use collector::Collector;
+pub use error::OpenError;
+pub use fleet::Fleet;
+pub use job::JobSpec;
+pub use known_target::KnownTarget;
+pub use limits::{
+    LAST_COLLECTOR, MOST_BINS, MOST_COLLECTORS, MOST_JOBS, MOST_KNOWN_TARGETS, MOST_LIVE_TARGETS,
+};
+pub use outcome::{JoinRefusal, Joining, ListRefusal, Listing};

@@ -1,0 +1,11 @@
+pub mod CountLemmas
+pub mod FitLemmas
+pub mod Moment
+pub mod MovedLemmas
+pub mod PairLemmas
+pub mod Placing
+pub mod Shapes
+pub mod SoundLemmas
+pub mod TransferLemmas
+pub mod WithinLemmas
+pub mod ProblemLemmas

@@ -1,0 +1,5 @@
+pub mod Allocation
+pub mod Beside
+pub mod Best
+pub mod Instance
+pub mod Tables

@@ -1,0 +1,250 @@
+//! The assignment problem of a fleet: items are its live targets, bins each collector's share of each job. The way back, from a
+//! plan to an allocation, is in `allocation.rt`.
+ghost use Rattle.std.specs.Prelude.{◌≡◌, ◌<◌, ◌≤◌, ◌*◌, ◌+◌, ◌++◌, ℕ, [], None, All, length, map, option_and_then, slice_index_or, IfOk, IfSome, OnOk};
+ghost use Rattle.price_certificate.specs.Problem.{IsShaped, IsProblemOf};
+ghost use Rattle.fleet.specs.Fleet.{live_of};
+ghost use Rattle.fleet.specs.declared.job.JobSpec.{JobSpec};
+ghost use Rattle.fleet.specs.declared.known_target.KnownTarget.{KnownTarget};
+ghost use Rattle.fleet_assignment.specs.Instance.{instance_of, limits_for, row_from, row_in, place_of, bin_in, problem_of};
+ghost use Rattle.fleet_assignment.specs.Tables.{preceding_from};
+
+use crate::table::placed;
+use fleet::{Collector, Fleet, JobSpec, KnownTarget, MOST_BINS, MOST_COLLECTORS, MOST_LIVE_TARGETS};
+use lists::List;
+use price_certificate::{Instance, InstanceError};
+use std::alloc::{AllocError, Global};
+
+/// The assignment problem of a fleet, of which the live targets are given, and of a preceding allocation.
+#[tactic(auto, unfolding(crate::specs::Instance::instance_of))]
+pub fn build_instance(
+    alloc: Global,
+    fleet: &Fleet,
+    live: &[usize],
+    before: &[(u32, u32)],
+) -> Result<Instance, AllocError>
+    requires { live.now ≡ live_of fleet.now }
+    ensures { IfOk result (λ i. i ≡ instance_of fleet.now before.now) }
+{
+    instance(
+        alloc,
+        fleet.jobs(),
+        fleet.collectors(),
+        fleet.known(),
+        live,
+        before,
+    )
+}
+
+/// The instance of the live targets, with the pairs of an allocation before.
+fn instance(
+    alloc: Global,
+    jobs: &[JobSpec],
+    collectors: &[Collector],
+    known: &[KnownTarget],
+    live: &[usize],
+    pairs: &[(u32, u32)],
+) -> Result<Instance, AllocError>
+    requires homes { All (λ (k : KnownTarget). k.job < length jobs.now) known.now }
+    requires bins { length jobs.now * length collectors.now ≤ MOST_BINS }
+    requires collectors { length collectors.now ≤ MOST_COLLECTORS }
+    requires live { length live.now ≤ MOST_LIVE_TARGETS }
+    requires numbers { All (λ n. n < length known.now) live.now }
+    ensures { IfOk result (λ i. i ≡ problem_of jobs.now collectors.now known.now live.now pairs.now) }
+{
+    let limits = limits(alloc, jobs, collectors)?;
+    let rows = rows(alloc, jobs.len(), collectors, known, live)?;
+    let holders = placed(alloc, known.len(), pairs)?;
+    let before = preceding(
+        alloc,
+        jobs.len(),
+        collectors,
+        known,
+        live,
+        holders.as_slice(),
+    )?;
+    let instance = made(alloc, limits, rows, before)?;
+    Ok(instance)
+}
+
+/// The instance of its parts.
+fn made(
+    alloc: Global,
+    limits: Vec<u32>,
+    rows: Vec<List<u32>>,
+    before: Vec<(u32, u32)>,
+) -> Result<Instance, AllocError>
+    requires { IsShaped limits.items rows.items before.items }
+    ensures { IfOk result (λ i. IsProblemOf i limits.items rows.items before.items) }
+{
+    let limits = List::from_vec(limits);
+    let rows = List::from_vec(rows);
+    let before = List::from_vec(before);
+    match Instance::new(alloc, limits, rows, before) {
+        Ok(instance) => Ok(instance),
+        Err(InstanceError::Memory) => Err(AllocError),
+        Err(InstanceError::Shape) => unreachable!(),
+    }
+}
+
+/// The limits of the bins: for each collector those of the jobs.
+fn limits(alloc: Global, jobs: &[JobSpec], collectors: &[Collector]) -> Result<Vec<u32>, AllocError>
+    ensures { IfOk result (λ v. v.items ≡ limits_for jobs.now collectors.now) }
+{
+    let mut limits = Vec::new(alloc);
+    for _collector in collectors {
+        push_limits(&mut limits, jobs)?;
+    }
+    Ok(limits)
+}
+
+fn push_limits(limits: &mut Vec<u32>, jobs: &[JobSpec]) -> Result<(), AllocError>
+    ensures { OnOk result (limits.new.items ≡ limits.old.items ++ map (λ (job : JobSpec). job.target_limit) jobs.now) }
+{
+    for job in jobs {
+        limits.push(job.target_limit)?;
+    }
+    Ok(())
+}
+
+/// For each live target the bins that it may use.
+fn rows(
+    alloc: Global,
+    jobs: usize,
+    collectors: &[Collector],
+    known: &[KnownTarget],
+    live: &[usize],
+) -> Result<Vec<List<u32>>, AllocError>
+    requires homes { All (λ (k : KnownTarget). k.job < jobs) known.now }
+    requires bins { jobs * length collectors.now ≤ MOST_BINS }
+    ensures { IfOk result (λ v. v.items ≡ map (row_in jobs collectors.now known.now) live.now) }
+{
+    let mut rows = Vec::with_capacity(alloc, live.len())?;
+    for number in live {
+        let row = row_at(alloc, jobs, collectors, known, *number)?;
+        rows.push(List::from_vec(row))?;
+    }
+    Ok(rows)
+}
+
+fn row_at(
+    alloc: Global,
+    jobs: usize,
+    collectors: &[Collector],
+    known: &[KnownTarget],
+    number: usize,
+) -> Result<Vec<u32>, AllocError>
+    requires homes { All (λ (k : KnownTarget). k.job < jobs) known.now }
+    requires bins { jobs * length collectors.now ≤ MOST_BINS }
+    ensures { IfOk result (λ v. v.items ≡ row_in jobs collectors.now known.now number) }
+{
+    if number >= known.len() {
+        return Ok(Vec::new(alloc));
+    }
+    row(alloc, jobs, collectors, &known[number])
+}
+
+/// The bins of the target's job at the collectors that reach it.
+fn row(
+    alloc: Global,
+    jobs: usize,
+    collectors: &[Collector],
+    known: &KnownTarget,
+) -> Result<Vec<u32>, AllocError>
+    requires home { known.now.job < jobs }
+    requires bins { jobs * length collectors.now ≤ MOST_BINS }
+    ensures { IfOk result (λ v. v.items ≡ row_from jobs 0 collectors.now known.now) }
+{
+    let mut row = Vec::new(alloc);
+    for place in 0..collectors.len() {
+        let bin = bin_of(jobs, collectors.len(), place, known.job);
+        if collectors[place].reach.reaches(&known.target) {
+            row.push(bin)?;
+        }
+    }
+    Ok(row)
+}
+
+/// The bin of a collector's place and a job's.
+fn bin_of(jobs: usize, collectors: usize, place: usize, job: usize) -> u32
+    requires home { job < jobs }
+    requires place { place < collectors }
+    requires bins { jobs * collectors ≤ MOST_BINS }
+    ensures bin { result ≡ place * jobs + job }
+    ensures below { result < jobs * collectors }
+{
+    (place * jobs + job) as u32
+}
+
+/// The place of a live collector.
+fn place_of(collectors: &[Collector], id: u32) -> Option<usize>
+    ensures place { result ≡ place_of collectors.now id }
+    ensures within { IfSome result (λ p. p < length collectors.now) }
+{
+    collectors.iter().position(|collector| collector.id == id)
+}
+
+/// The bin of a target at a collector, where that is live.
+fn bin_in(
+    jobs: usize,
+    collectors: &[Collector],
+    known: &[KnownTarget],
+    number: usize,
+    collector: u32,
+) -> Option<u32>
+    requires homes { All (λ (k : KnownTarget). k.job < jobs) known.now }
+    requires bins { jobs * length collectors.now ≤ MOST_BINS }
+    ensures { result ≡ bin_in jobs collectors.now known.now number collector }
+{
+    if number >= known.len() {
+        return None;
+    }
+    let job = known[number].job;
+    match place_of(collectors, collector) {
+        None => None,
+        Some(place) => Some(bin_of(jobs, collectors.len(), place, job)),
+    }
+}
+
+/// The bins before, as pairs of an item and a bin.
+fn preceding(
+    alloc: Global,
+    jobs: usize,
+    collectors: &[Collector],
+    known: &[KnownTarget],
+    live: &[usize],
+    holders: &[Option<u32>],
+) -> Result<Vec<(u32, u32)>, AllocError>
+    requires homes { All (λ (k : KnownTarget). k.job < jobs) known.now }
+    requires bins { jobs * length collectors.now ≤ MOST_BINS }
+    requires live { length live.now ≤ MOST_LIVE_TARGETS }
+    ensures { IfOk result (λ v. v.items ≡ preceding_from (λ (t : ℕ). option_and_then (bin_in jobs collectors.now known.now t) (slice_index_or holders.now t None)) 0 live.now) }
+{
+    let mut pairs = Vec::new(alloc);
+    for item in 0..live.len() {
+        if let Some(bin) = bin_held(jobs, collectors, known, holders, live[item]) {
+            pairs.push((item as u32, bin))?;
+        }
+    }
+    Ok(pairs)
+}
+
+/// The bin of a target at the collector that holds it.
+fn bin_held(
+    jobs: usize,
+    collectors: &[Collector],
+    known: &[KnownTarget],
+    holders: &[Option<u32>],
+    number: usize,
+) -> Option<u32>
+    requires homes { All (λ (k : KnownTarget). k.job < jobs) known.now }
+    requires bins { jobs * length collectors.now ≤ MOST_BINS }
+    ensures { result ≡ option_and_then (bin_in jobs collectors.now known.now number) (slice_index_or holders.now number None) }
+{
+    if number >= holders.len() {
+        return None;
+    }
+    match holders[number] {
+        None => None,
+        Some(collector) => bin_in(jobs, collectors, known, number, collector),
+    }
+}

@@ -1,0 +1,77 @@
+-- An event as it is written has no float and few levels, so its text is known and reads back.
+use Rattle.std.proofs.Common.{◌≡◌, ◌≤◌, ℕ, false, List, [], ◌∷◌, refl, arith}
+use Rattle.std.proofs.Math.Nat.{max-le}
+use Rattle.std.proofs.lemmas.Bool.{or_from}
+use Rattle.serde_json.specs.Data.{depth, members_depth}
+use Rattle.serde_json.specs.Read.{max_depth}
+use Rattle.serde_json.specs.Written.{has_float, members_have_float}
+use Rattle.json_values.specs.Spelling.{number_data, pair_data, list_data}
+use Rattle.json_values.proofs.Lists.{no_float, levels}
+use Rattle.label_sets.specs.Labels.{LabelList}
+use Rattle.label_sets.specs.Target.{FinalTarget, target_data}
+use Rattle.label_sets.specs.Written.{label_members}
+use Rattle.reach_rules.specs.Spelling.{rule_data, rule_data_of, reach_data}
+use Rattle.reach_rules.specs.declared.rule.ReachRule.{ReachRule}
+use Rattle.reach_rules.specs.declared.rule.ReachTest.{ReachTest}
+use Rattle.reach_rules.specs.declared.rule.ReachTest.TheVariants.{Any, Present, Equals}
+use Rattle.scrape_books.specs.declared.report.Outcome.{Outcome}
+use Rattle.scrape_books.specs.declared.report.Outcome.TheVariants.{Up, Down}
+use Rattle.fleet_events.specs.Writing.{event_data, report_data}
+use Rattle.fleet_events.specs.declared.event.Event.{Event}
+use Rattle.fleet_events.specs.declared.event.Event.TheVariants.{Discover, Join, Leave, Install, NextRound, Take, Report}
+
+-- ---- no float
+
+labels_no_float : (labels : LabelList) → members_have_float (label_members labels) ≡ false
+labels_no_float [] = refl
+labels_no_float (l ∷ labels) = labels_no_float labels
+
+target_no_float : (target : FinalTarget) → has_float (target_data target) ≡ false
+target_no_float target = or_from _ _ (labels_no_float target.labels) refl
+
+test_no_float : (allow : _) (test : ReachTest) → has_float (rule_data_of allow test) ≡ false
+test_no_float allow Any = refl
+test_no_float allow (Present label) = refl
+test_no_float allow (Equals label text) = refl
+
+report_no_float : (collector allocation target round : ℕ) (outcome : Outcome) → has_float (report_data collector allocation target round outcome) ≡ false
+report_no_float collector allocation target round (Up samples) = refl
+report_no_float collector allocation target round Down = refl
+
+pub event_no_float : (event : Event) → has_float (event_data event) ≡ false
+event_no_float (Discover job source targets) = or_from _ _ (no_float target_data target_no_float targets) refl
+event_no_float (Join name reach) = or_from _ _ (no_float rule_data (λ rule. test_no_float rule.allow rule.test) reach) refl
+event_no_float (Leave collector) = refl
+event_no_float (Install plan) =
+    or_from _ _ (no_float number_data (λ n. refl) plan.bin_prices) (or_from _ _ (no_float number_data (λ n. refl) plan.item_prices) (or_from _ _ (no_float pair_data (λ q. refl) plan.pairs) refl))
+event_no_float NextRound = refl
+event_no_float (Take collector) = refl
+event_no_float (Report report) = report_no_float report.collector report.allocation report.target report.round report.outcome
+
+-- ---- few levels
+
+labels_levels : (labels : LabelList) → members_depth (label_members labels) ≤ 0
+labels_levels [] = omega arith
+labels_levels (l ∷ labels) = max-le (omega arith) (labels_levels labels)
+
+target_levels : (target : FinalTarget) → depth (target_data target) ≤ 2
+target_levels target = omega (arith, labels_levels target.labels)
+
+test_levels : (allow : _) (test : ReachTest) → depth (rule_data_of allow test) ≤ 1
+test_levels allow Any = omega arith
+test_levels allow (Present label) = omega arith
+test_levels allow (Equals label text) = omega arith
+
+report_levels : (collector allocation target round : ℕ) (outcome : Outcome) → depth (report_data collector allocation target round outcome) ≤ 1
+report_levels collector allocation target round (Up samples) = omega arith
+report_levels collector allocation target round Down = omega arith
+
+pub event_levels : (event : Event) → depth (event_data event) ≤ max_depth
+event_levels (Discover job source targets) = omega (arith, levels target_data 2 target_levels targets)
+event_levels (Join name reach) = omega (arith, levels rule_data 1 (λ rule. test_levels rule.allow rule.test) reach)
+event_levels (Leave collector) = omega arith
+event_levels (Install plan) =
+    omega (arith, levels number_data 0 (λ n. omega arith) plan.bin_prices, levels number_data 0 (λ n. omega arith) plan.item_prices, levels pair_data 1 (λ q. omega arith) plan.pairs)
+event_levels NextRound = omega arith
+event_levels (Take collector) = omega arith
+event_levels (Report report) = omega (arith, report_levels report.collector report.allocation report.target report.round report.outcome)

@@ -1,0 +1,4 @@
+pub mod Lines
+pub mod Targets
+pub mod Reading
+pub mod Writing

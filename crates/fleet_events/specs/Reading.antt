@@ -1,0 +1,102 @@
+-- The event that a JSON object says: its member `event` is the event's name. Members that the event does not have don't
+-- matter.
+use Rattle.std.specs.Prelude.{ℕ, zero, suc, Bool, true, false, List, Option, Some, None, option_map, option_and_then, codes, if◌then◌else◌}
+use Rattle.std.specs.Str.{bytes_eq}
+use Rattle.serde_json.specs.Data.{Data}
+use Rattle.serde_json.specs.Find.{as_bool, as_str, get}
+use Rattle.json_values.specs.Texts.{json_of}
+use Rattle.json_values.specs.Spelling.{number_in, list_in, member_in}
+use Rattle.label_sets.specs.Target.{FinalTarget}
+use Rattle.price_certificate.specs.Plan.{plan_in}
+use Rattle.reach_rules.specs.Name.{name_in}
+use Rattle.reach_rules.specs.Spelling.{reach_in}
+use Rattle.scrape_books.specs.declared.report.Outcome.{Outcome}
+use Rattle.scrape_books.specs.declared.report.Outcome.TheVariants.{Up, Down}
+use Rattle.fleet_events.specs.declared.event.Event.{Event}
+use Rattle.fleet_events.specs.declared.event.Event.TheVariants.{Discover, Join, Leave, Install, NextRound, Take, Report}
+use Rattle.fleet_events.specs.Targets.{target_in}
+
+-- ---- discover
+
+-- a list of targets
+abbrev pub targets_in : Data → Option (List FinalTarget)
+targets_in = list_in target_in
+
+-- a job's name, the number of its source, and the targets that it lists
+unfoldable pub discover_in : Data → Option Event
+discover_in d =
+    option_and_then (λ job. option_and_then (λ source. option_map (Discover job source) (member_in targets_in (codes "targets") d)) (member_in number_in (codes "source") d))
+    (member_in as_str (codes "job") d)
+
+-- ---- join
+
+-- a collector's name, and the rules by which it reaches targets
+unfoldable pub join_in : Data → Option Event
+join_in d = option_and_then (λ name. option_map (Join name) (member_in reach_in (codes "reach") d)) (member_in name_in (codes "name") d)
+
+-- ---- leave and take
+
+-- the number of a collector
+abbrev pub collector_in : Data → Option ℕ
+collector_in d = member_in number_in (codes "collector") d
+
+abbrev pub leave_in : Data → Option Event
+leave_in d = option_map Leave (collector_in d)
+
+abbrev pub take_in : Data → Option Event
+take_in d = option_map Take (collector_in d)
+
+-- ---- install
+
+-- a plan
+abbrev pub install_in : Data → Option Event
+install_in d = option_map Install (plan_in d)
+
+-- ---- report
+
+-- a scrape that failed has no samples: they are left out, or 0
+abbrev pub nothing_scraped : Option ℕ → Option Outcome
+nothing_scraped (Some zero) = Some Down
+nothing_scraped (Some (suc samples)) = None
+nothing_scraped None = None
+
+abbrev pub down_in : Option Data → Option Outcome
+down_in None = Some Down
+down_in (Some d) = nothing_scraped (number_in d)
+
+abbrev pub outcome_by : Bool → Data → Option Outcome
+outcome_by true d = option_map Up (member_in number_in (codes "samples") d)
+outcome_by false d = down_in (get (codes "samples") d)
+
+-- whether the target was up, and how many samples it gave
+unfoldable pub outcome_in : Data → Option Outcome
+outcome_in d = option_and_then (λ up. outcome_by up d) (member_in as_bool (codes "up") d)
+
+-- the report of these
+abbrev pub reported : ℕ → ℕ → ℕ → ℕ → Outcome → Event
+reported collector allocation target round outcome = Report (record { collector = collector; allocation = allocation; target = target; round = round; outcome = outcome })
+
+-- the numbers of the collector, of the allocation, of the target and of the round, and what the scrape came to
+unfoldable pub report_in : Data → Option Event
+report_in d =
+    option_and_then
+    (λ collector. option_and_then (λ allocation. option_and_then (λ target. option_and_then (λ round. option_map (reported collector allocation target round) (outcome_in d)) (member_in number_in (codes "round") d)) (member_in number_in (codes "target") d))
+    (member_in number_in (codes "number") d)) (collector_in d)
+
+-- ---- all of them
+
+-- the event of a name
+abbrev pub event_named : List ℕ → Data → Option Event
+event_named name d =
+    if bytes_eq name (codes "discover") then discover_in d else (if bytes_eq name (codes "join") then join_in d
+    else (if bytes_eq name (codes "leave") then leave_in d else (if bytes_eq name (codes "install") then install_in d
+    else (if bytes_eq name (codes "round") then Some NextRound else (if bytes_eq name (codes "take") then take_in d
+    else (if bytes_eq name (codes "report") then report_in d else None))))))
+
+-- the event that a JSON value says
+unfoldable pub event_in : Data → Option Event
+event_in d = option_and_then (λ name. event_named name d) (member_in as_str (codes "event") d)
+
+-- the event that a text says
+abbrev pub event_of : List ℕ → Option Event
+event_of text = option_and_then event_in (json_of text)

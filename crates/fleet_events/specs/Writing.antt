@@ -1,0 +1,70 @@
+-- The one form in which an event is written: a compact JSON object, its members in byte order of their names.
+use Rattle.std.specs.Prelude.{ℕ, List, true, false, codes}
+use Rattle.serde_json.specs.Data.{Data, boolean, string, object, no_members, member}
+use Rattle.serde_json.specs.Written.{compact_text}
+use Rattle.json_values.specs.Spelling.{number_data, pair_data, list_data}
+use Rattle.label_sets.specs.Target.{FinalTarget, target_data}
+use Rattle.price_certificate.specs.declared.plan.Plan.{Plan}
+use Rattle.reach_rules.specs.Spelling.{reach_data}
+use Rattle.reach_rules.specs.declared.rule.ReachRule.{ReachRule}
+use Rattle.scrape_books.specs.declared.report.Outcome.{Outcome}
+use Rattle.scrape_books.specs.declared.report.Outcome.TheVariants.{Up, Down}
+use Rattle.fleet_events.specs.declared.event.Event.{Event}
+use Rattle.fleet_events.specs.declared.event.Event.TheVariants.{Discover, Join, Leave, Install, NextRound, Take, Report}
+
+abbrev pub discover_data : List ℕ → ℕ → List FinalTarget → Data
+discover_data job source targets =
+    object (member (codes "event") (string (codes "discover"))
+    (member (codes "job") (string job)
+    (member (codes "source") (number_data source)
+    (member (codes "targets") (list_data target_data targets) no_members))))
+
+abbrev pub join_data : List ℕ → List ReachRule → Data
+join_data name reach =
+    object (member (codes "event") (string (codes "join"))
+    (member (codes "name") (string name)
+    (member (codes "reach") (reach_data reach) no_members)))
+
+-- an event of this name that has a collector alone
+abbrev pub collector_data : List ℕ → ℕ → Data
+collector_data name collector = object (member (codes "collector") (number_data collector) (member (codes "event") (string name) no_members))
+
+abbrev pub install_data : Plan → Data
+install_data plan =
+    object (member (codes "bin_prices") (list_data number_data plan.bin_prices)
+    (member (codes "event") (string (codes "install"))
+    (member (codes "item_prices") (list_data number_data plan.item_prices)
+    (member (codes "pairs") (list_data pair_data plan.pairs) no_members))))
+
+abbrev pub round_data : Data
+round_data = object (member (codes "event") (string (codes "round")) no_members)
+
+-- a scrape that failed has no member `samples`
+abbrev pub report_data : ℕ → ℕ → ℕ → ℕ → Outcome → Data
+report_data collector allocation target round (Up samples) =
+    object (member (codes "collector") (number_data collector)
+    (member (codes "event") (string (codes "report"))
+    (member (codes "number") (number_data allocation)
+    (member (codes "round") (number_data round)
+    (member (codes "samples") (number_data samples)
+    (member (codes "target") (number_data target)
+    (member (codes "up") (boolean true) no_members)))))))
+report_data collector allocation target round Down =
+    object (member (codes "collector") (number_data collector)
+    (member (codes "event") (string (codes "report"))
+    (member (codes "number") (number_data allocation)
+    (member (codes "round") (number_data round)
+    (member (codes "target") (number_data target)
+    (member (codes "up") (boolean false) no_members))))))
+
+abbrev pub event_data : Event → Data
+event_data (Discover job source targets) = discover_data job source targets
+event_data (Join name reach) = join_data name reach
+event_data (Leave collector) = collector_data (codes "leave") collector
+event_data (Install plan) = install_data plan
+event_data NextRound = round_data
+event_data (Take collector) = collector_data (codes "take") collector
+event_data (Report report) = report_data report.collector report.allocation report.target report.round report.outcome
+
+abbrev pub event_text : Event → List ℕ
+event_text event = compact_text (event_data event)

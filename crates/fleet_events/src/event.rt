@@ -1,0 +1,98 @@
+//! What the allocator is asked.
+use crate::ids::CollectorId;
+use crate::report::Report;
+use label_sets::Target;
+use lists::{List, Plain, Text};
+use price_certificate::Plan;
+use reach_rules::{CollectorName, Reach};
+use std::alloc::AllocError;
+
+/// What the allocator is asked.
+#[derive(Debug, Drop)]
+pub enum Event {
+    /// A source of a job lists these targets, in place of those that it listed before.
+    Discover {
+        job: Text,
+        source: u32,
+        targets: List<Target>,
+    },
+    /// A collector joins.
+    Join {
+        name: CollectorName,
+        reach: Reach,
+    },
+    /// The collector leaves.
+    Leave(CollectorId),
+    /// A plan is to be published.
+    Install(Plan),
+    /// The next round opens.
+    NextRound,
+    /// The collector takes the current allocation.
+    Take(CollectorId),
+    /// A collector reports what a scrape came to.
+    Report(Report),
+}
+
+impl Plain for Event {
+    fn copy(&self) -> Result<Event, AllocError> {
+        match self {
+            Event::Discover {
+                job,
+                source,
+                targets,
+            } => {
+                let job = job.copy()?;
+                let targets = targets.copy()?;
+                Ok(Event::Discover {
+                    job,
+                    source: *source,
+                    targets,
+                })
+            }
+            Event::Join { name, reach } => {
+                let name = name.copy()?;
+                let reach = reach.copy()?;
+                Ok(Event::Join { name, reach })
+            }
+            Event::Leave(collector) => Ok(Event::Leave(*collector)),
+            Event::Install(plan) => Ok(Event::Install(plan.copy()?)),
+            Event::NextRound => Ok(Event::NextRound),
+            Event::Take(collector) => Ok(Event::Take(*collector)),
+            Event::Report(report) => Ok(Event::Report(*report)),
+        }
+    }
+
+    fn same(&self, other: &Event) -> bool {
+        match (self, other) {
+            (
+                Event::Discover {
+                    job,
+                    source,
+                    targets,
+                },
+                Event::Discover {
+                    job: other_job,
+                    source: other_source,
+                    targets: other_targets,
+                },
+            ) => job.same(other_job) && *source == *other_source && targets.same(other_targets),
+            (
+                Event::Join { name, reach },
+                Event::Join {
+                    name: other_name,
+                    reach: other_reach,
+                },
+            ) => name.same(other_name) && reach.same(other_reach),
+            (Event::Leave(collector), Event::Leave(other_collector)) => {
+                *collector == *other_collector
+            }
+            (Event::Install(plan), Event::Install(other_plan)) => plan.same(other_plan),
+            (Event::NextRound, Event::NextRound) => true,
+            (Event::Take(collector), Event::Take(other_collector)) => {
+                *collector == *other_collector
+            }
+            (Event::Report(report), Event::Report(other_report)) => *report == *other_report,
+            _ => false,
+        }
+    }
+}

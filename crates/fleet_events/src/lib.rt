@@ -1,0 +1,26 @@
+//! What the allocator is asked and what it answers: events, answers and refusals, the texts of answers, and events as
+//! JSON objects.
+//!
+//! Contracts see an event and an answer as they are declared, and a text as its bytes. `read_event` gives exactly the event
+//! that a text says, and `Event::to_json` writes each event in one form that reads back as the event.
+#![tactic(auto)]
+
+mod answer;
+mod event;
+mod ids;
+mod number_lists;
+mod reading;
+mod refusal;
+mod report;
+mod target;
+#[cfg(test)]
+mod tests;
+mod writing;
+
+pub use answer::Answer;
+pub use event::Event;
+pub use ids::{AllocationNumber, CollectorId, Round, TargetId};
+pub use reading::read_event;
+pub use refusal::Refusal;
+pub use report::Report;
+pub use scrape_books::Outcome;

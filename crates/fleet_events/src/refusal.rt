@@ -1,0 +1,108 @@
+//! Why an event changed nothing, and the text of it.
+ghost use Rattle.std.specs.Prelude.{◌≡◌, IfOk, string_bytes};
+ghost use Rattle.fleet_events.specs.Lines.{refusal_line};
+
+use crate::ids::{AllocationNumber, CollectorId, Round};
+use lists::Plain;
+use price_certificate::Fault;
+use std::alloc::{AllocError, Global};
+
+/// Why an event changed nothing.
+#[derive(Clone, Copy, Debug, PartialEq, Eq)]
+pub enum Refusal {
+    /// No job has the name.
+    UnknownJob,
+    /// The job has no such source.
+    UnknownSource,
+    /// More than 16,384 targets would be live.
+    TooManyLive,
+    /// More than 65,535 targets would be known.
+    TooManyKnown,
+    /// A live collector has the name: this one.
+    AlreadyJoined(CollectorId),
+    /// More than 256 collectors would be live, or the jobs times the live collectors more than 16,384.
+    TooManyCollectors,
+    /// The last number of a collector is given.
+    IdsSpent,
+    /// No live collector has the number.
+    UnknownCollector,
+    /// The checker's first fault of the plan.
+    Refused(Fault),
+    /// The plan has the pairs of the current allocation, which has this number.
+    Unchanged(AllocationNumber),
+    /// The last number of an allocation is given.
+    NumbersSpent,
+    /// The last round is open.
+    RoundsSpent,
+    /// The collector took another allocation last: that of this number, 0 if none.
+    NotTaken(AllocationNumber),
+    /// No known target has the number.
+    UnknownTarget,
+    /// In the allocation named another collector, or none, holds the target.
+    NotHolder(Option<CollectorId>),
+    /// The round is below the open one, which is this.
+    RoundClosed(Round),
+    /// The round is above the open one, which is this.
+    RoundNotOpen(Round),
+    /// A report of the target in the round is booked.
+    AlreadyBooked,
+}
+
+impl Refusal {
+    /// The refusal's name, and then its values after one space each.
+    pub(crate) fn line(&self, alloc: Global) -> Result<String, AllocError>
+        ensures { IfOk result (λ s. string_bytes s ≡ refusal_line self.now) }
+    {
+        match self {
+            Refusal::UnknownJob => String::from_str(alloc, "UnknownJob"),
+            Refusal::UnknownSource => String::from_str(alloc, "UnknownSource"),
+            Refusal::TooManyLive => String::from_str(alloc, "TooManyLive"),
+            Refusal::TooManyKnown => String::from_str(alloc, "TooManyKnown"),
+            Refusal::AlreadyJoined(collector) => format!(in alloc; "AlreadyJoined {collector}"),
+            Refusal::TooManyCollectors => String::from_str(alloc, "TooManyCollectors"),
+            Refusal::IdsSpent => String::from_str(alloc, "IdsSpent"),
+            Refusal::UnknownCollector => String::from_str(alloc, "UnknownCollector"),
+            Refusal::Refused(fault) => refused_line(alloc, fault),
+            Refusal::Unchanged(number) => format!(in alloc; "Unchanged {number}"),
+            Refusal::NumbersSpent => String::from_str(alloc, "NumbersSpent"),
+            Refusal::RoundsSpent => String::from_str(alloc, "RoundsSpent"),
+            Refusal::NotTaken(number) => format!(in alloc; "NotTaken {number}"),
+            Refusal::UnknownTarget => String::from_str(alloc, "UnknownTarget"),
+            Refusal::NotHolder(holder) => holder_line(alloc, *holder),
+            Refusal::RoundClosed(open) => format!(in alloc; "RoundClosed {open}"),
+            Refusal::RoundNotOpen(open) => format!(in alloc; "RoundNotOpen {open}"),
+            Refusal::AlreadyBooked => String::from_str(alloc, "AlreadyBooked"),
+        }
+    }
+}
+
+/// `Refused`, and the fault's line after one space.
+fn refused_line(alloc: Global, fault: &Fault) -> Result<String, AllocError>
+    ensures { IfOk result (λ s. string_bytes s ≡ refusal_line (Refusal.Refused fault.now)) }
+{
+    let mut line = String::from_str(alloc, "Refused ")?;
+    let rest = fault.line(alloc)?;
+    line.push_str(rest.as_str())?;
+    Ok(line)
+}
+
+/// The line of a target's other holder, or of none.
+fn holder_line(alloc: Global, holder: Option<CollectorId>) -> Result<String, AllocError>
+    ensures { IfOk result (λ s. string_bytes s ≡ refusal_line (Refusal.NotHolder holder)) }
+{
+    match holder {
+        Some(holder) => format!(in alloc; "NotHolder {holder}"),
+        None => String::from_str(alloc, "NotHolder none"),
+    }
+}
+
+impl Plain for Refusal {
+    fn copy(&self) -> Result<Refusal, AllocError> {
+        Ok(*self)
+    }
+
+    fn same(&self, other: &Refusal) -> bool {
+        *self == *other
+    }
+}
+

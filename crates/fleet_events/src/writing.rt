@@ -1,0 +1,177 @@
+//! Events as JSON texts.
+ghost use Rattle.std.specs.Prelude.{◌≡◌, Some, false, IfOk, codes};
+ghost use Rattle.std.specs.List.{list_any};
+ghost use Rattle.serde_json.specs.View.{view, items_view};
+ghost use Rattle.json_values.specs.Spelling.{all_in, items_data};
+ghost use Rattle.json_values.specs.Texts.{is_line_feed};
+ghost use Rattle.label_sets.specs.Target.{target_data};
+ghost use Rattle.fleet_events.specs.Targets.{target_in};
+ghost use Rattle.fleet_events.specs.Reading.{event_in, event_of, reported};
+ghost use Rattle.fleet_events.specs.Writing.{discover_data, join_data, collector_data, install_data, round_data, report_data, event_data, event_text};
+
+use crate::event::Event;
+use crate::ids::CollectorId;
+use crate::report::Report;
+use json_values::{Spelled, text_of};
+use label_sets::{Target, finishes_again, map_laws};
+use lists::Text;
+use price_certificate::Plan;
+use reach_rules::{CollectorName, Reach};
+use scrape_books::Outcome;
+use serde_json::{Value, json};
+use std::alloc::{AllocError, Global};
+
+impl Event {
+    /// The event as one compact JSON object. It has no line feed, and reads back as the event.
+    pub fn to_json(&self, alloc: Global) -> Result<Text, AllocError>
+        ensures form { IfOk result (λ t. t ≡ event_text self.now) }
+        ensures one_line { IfOk result (λ t. list_any is_line_feed t ≡ false) }
+        ensures reads_back { IfOk result (λ t. event_of t ≡ Some self.now) }
+    {
+        let value = self.to_value(alloc)?;
+        text_of(alloc, &value)
+    }
+
+    fn to_value(&self, alloc: Global) -> Result<Value, AllocError>
+        ensures form { IfOk result (λ v. view v ≡ event_data self.now) }
+        ensures reads_back { IfOk result (λ v. event_in (view v) ≡ Some self.now) }
+    {
+        match self {
+            Event::Discover {
+                job,
+                source,
+                targets,
+            } => discover_value(alloc, job, *source, targets.as_slice()),
+            Event::Join { name, reach } => join_value(alloc, name, reach),
+            Event::Leave(collector) => leave_value(alloc, *collector),
+            Event::Install(plan) => install_value(alloc, plan),
+            Event::NextRound => round_value(alloc),
+            Event::Take(collector) => take_value(alloc, *collector),
+            Event::Report(report) => report_value(alloc, *report),
+        }
+    }
+}
+
+#[tactic(auto, unfolding(crate::specs::Reading::event_in, crate::specs::Reading::discover_in))]
+fn discover_value(
+    alloc: Global,
+    job: &Text,
+    source: u32,
+    targets: &[Target],
+) -> Result<Value, AllocError>
+    ensures form { IfOk result (λ v. view v ≡ discover_data job.now source targets.now) }
+    ensures reads_back { IfOk result (λ v. event_in (view v) ≡ Some (Event.Discover job.now source targets.now)) }
+{
+    let job = job.as_str();
+    let targets = Value::Array(target_values(alloc, targets)?);
+    json!(in alloc; {"event": "discover", "job": job, "source": source, "targets": targets})
+}
+
+fn target_values(alloc: Global, targets: &[Target]) -> Result<Vec<Value>, AllocError>
+    ensures form { IfOk result (λ vs. items_view vs.items ≡ items_data target_data targets.now) }
+    ensures reads_back { IfOk result (λ vs. all_in target_in (items_view vs.items) ≡ Some targets.now) }
+{
+    let mut values = Vec::with_capacity(alloc, targets.len())?;
+    for target in targets {
+        values.push(target_value(alloc, target)?)?;
+    }
+    Ok(values)
+}
+
+/// The target's group, which is finished to the target again.
+fn target_value(alloc: Global, target: &Target) -> Result<Value, AllocError>
+    ensures form { IfOk result (λ v. view v ≡ target_data target.now) }
+    ensures reads_back { IfOk result (λ v. target_in (view v) ≡ Some target.now) }
+{
+    map_laws();
+    finishes_again();
+    target.to_value(alloc)
+}
+
+#[tactic(auto, unfolding(crate::specs::Reading::event_in, crate::specs::Reading::join_in))]
+fn join_value(alloc: Global, name: &CollectorName, reach: &Reach) -> Result<Value, AllocError>
+    ensures form { IfOk result (λ v. view v ≡ join_data name.now reach.now) }
+    ensures reads_back { IfOk result (λ v. event_in (view v) ≡ Some (Event.Join name.now reach.now)) }
+{
+    let name = name.write(alloc)?;
+    let reach = reach.write(alloc)?;
+    json!(in alloc; {"event": "join", "name": name, "reach": reach})
+}
+
+#[tactic(auto, unfolding(crate::specs::Reading::event_in))]
+fn leave_value(alloc: Global, collector: CollectorId) -> Result<Value, AllocError>
+    ensures form { IfOk result (λ v. view v ≡ collector_data (codes "leave") collector) }
+    ensures reads_back { IfOk result (λ v. event_in (view v) ≡ Some (Event.Leave collector)) }
+{
+    json!(in alloc; {"collector": collector, "event": "leave"})
+}
+
+#[tactic(auto, unfolding(crate::specs::Reading::event_in, price_certificate::specs::Plan::plan_in))]
+fn install_value(alloc: Global, plan: &Plan) -> Result<Value, AllocError>
+    ensures form { IfOk result (λ v. view v ≡ install_data plan.now) }
+    ensures reads_back { IfOk result (λ v. event_in (view v) ≡ Some (Event.Install plan.now)) }
+{
+    let bin_prices = plan.bin_prices.write(alloc)?;
+    let item_prices = plan.item_prices.write(alloc)?;
+    let pairs = plan.pairs.write(alloc)?;
+    json!(in alloc; {"bin_prices": bin_prices, "event": "install", "item_prices": item_prices, "pairs": pairs})
+}
+
+#[tactic(auto, unfolding(crate::specs::Reading::event_in))]
+fn round_value(alloc: Global) -> Result<Value, AllocError>
+    ensures form { IfOk result (λ v. view v ≡ round_data) }
+    ensures reads_back { IfOk result (λ v. event_in (view v) ≡ Some Event.NextRound) }
+{
+    json!(in alloc; {"event": "round"})
+}
+
+#[tactic(auto, unfolding(crate::specs::Reading::event_in))]
+fn take_value(alloc: Global, collector: CollectorId) -> Result<Value, AllocError>
+    ensures form { IfOk result (λ v. view v ≡ collector_data (codes "take") collector) }
+    ensures reads_back { IfOk result (λ v. event_in (view v) ≡ Some (Event.Take collector)) }
+{
+    json!(in alloc; {"collector": collector, "event": "take"})
+}
+
+fn report_value(alloc: Global, report: Report) -> Result<Value, AllocError>
+    ensures form { IfOk result (λ v. view v ≡ report_data report.collector report.allocation report.target report.round report.outcome) }
+    ensures reads_back { IfOk result (λ v. event_in (view v) ≡ Some (Event.Report report)) }
+{
+    match report.outcome {
+        Outcome::Up(samples) => up_value(alloc, report, samples),
+        Outcome::Down => down_value(alloc, report),
+    }
+}
+
+#[tactic(auto, unfolding(crate::specs::Reading::event_in, crate::specs::Reading::report_in, crate::specs::Reading::outcome_in))]
+fn up_value(alloc: Global, report: Report, samples: u32) -> Result<Value, AllocError>
+    ensures form { IfOk result (λ v. view v ≡ report_data report.collector report.allocation report.target report.round (Outcome.Up samples)) }
+    ensures reads_back { IfOk result
+        (λ v. event_in (view v) ≡ Some (reported report.collector report.allocation report.target report.round (Outcome.Up samples))) }
+{
+    json!(in alloc; {
+        "collector": report.collector,
+        "event": "report",
+        "number": report.allocation,
+        "round": report.round,
+        "samples": samples,
+        "target": report.target,
+        "up": true
+    })
+}
+
+#[tactic(auto, unfolding(crate::specs::Reading::event_in, crate::specs::Reading::report_in, crate::specs::Reading::outcome_in))]
+fn down_value(alloc: Global, report: Report) -> Result<Value, AllocError>
+    ensures form { IfOk result (λ v. view v ≡ report_data report.collector report.allocation report.target report.round Outcome.Down) }
+    ensures reads_back { IfOk result
+        (λ v. event_in (view v) ≡ Some (reported report.collector report.allocation report.target report.round Outcome.Down)) }
+{
+    json!(in alloc; {
+        "collector": report.collector,
+        "event": "report",
+        "number": report.allocation,
+        "round": report.round,
+        "target": report.target,
+        "up": false
+    })
+}

@@ -1,8 +1,0 @@
-use Rattle.std.proofs.Common.{◌≡◌, drop}
-use Rattle.serde_json.specs.Data.{no_members}
-use Rattle.serde_json.specs.View.{items_view, members_view}
-use Rattle.sd_documents.specs.Config.{kept_from}
-use Rattle.sd_documents.proofs.config.kept.members_of.Given as goal
-
-abbrev pub invariant-loop-entry : goal.invariant-loop-entry
-invariant-loop-entry l = kept_from (members_view l.members.entries) (items_view (drop l.entry-index l.entries)) ≡ kept_from no_members (items_view l.entries)

@@ -1,0 +1,3 @@
+-- What only functions inside the crate are said to do: no public contract cites it.
+pub mod Commas
+pub mod Seen
