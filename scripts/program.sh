@@ -1,4 +1,8 @@
+# shellcheck shell=bash
 # Read by ./allocd, scripts/release.sh and the scripts of bench/: which program to run, what it was made from, and how it is built.
+
+# The toolchain that all of this was proved with, as `rt version` says it.
+toolchain='rattle-kit-13b logic dac8208d650f15bf'
 
 # One hash over all that a build reads, whatever the dates of the files and their order in their folders.
 # usage: sources_hash ROOT
@@ -56,14 +60,15 @@ lanes() {
     echo $((processors < memory ? processors : memory))
 }
 
-# Whether the toolchain is there; says how to get it where it is not.
+# Whether the toolchain is there; says how to get it where it is not, and that it is another one where it is.
 has_toolchain() {
-    command -v rt > /dev/null && return
-    cat >&2 << 'END'
-allocd: to prove and build it takes `rt`, which is not on PATH. It is the command of the Rattle kit (rattle-kit-13b): unpack the kit
-allocd: and put the folder bin/ of it on PATH, so that `rt version` says 'rattle-kit-13b logic dac8208d650f15bf'. It needs Python 3.8.
-END
-    return 1
+    if ! command -v rt > /dev/null; then
+        echo "allocd: to prove and build it takes \`rt\`, which is not on PATH. It is the command of the Rattle kit ${toolchain%% *}:" >&2
+        echo "allocd: unpack the kit and put its folder bin/ on PATH, so that \`rt version\` says '$toolchain'. It needs Python 3.8." >&2
+        return 1
+    fi
+    [ "$(rt version)" = "$toolchain" ] ||
+        echo "allocd: \`rt version\` says '$(rt version)', and all of this was proved with '$toolchain'" >&2
 }
 
 # Proves and builds a program over what earlier runs kept, and writes its record. Libraries that do not stand on one another are
@@ -79,7 +84,7 @@ build_program() {
     total=$(crates_of "$root" "$name" | wc -l)
     at_once=$(lanes)
     echo "$name: proving and building $total crates, $at_once at a time. From nothing that takes a quarter of an hour on four free" \
-        "processors, and up to an hour on one or two; what was proved before is kept." >&2
+        "processors, and up to an hour on one. What was proved before is kept." >&2
     (cd "$folder" && rt all check --jobs "$at_once") < /dev/null 2>&1 | tee "$log" | tell_progress "$name" "$total" "$began"
     if [ "${PIPESTATUS[0]}" != 0 ]; then
         sed -n '/^== summary/,$p' "$log" | grep -v ': ok$' >&2

@@ -12,8 +12,16 @@ record=$root/dist/RELEASE
 own=$root/crates/allocd/out/allocd
 sample=examples/one-of-two.json
 
+# A file that git does not know counts among the sources here, and is in no clone.
+tell_untracked() {
+    local found
+    found=$(cd "$root" && git ls-files --others -- ':(glob)crates/*/src/**' ':(glob)crates/*/specs/**' ':(glob)crates/*/proofs/**' 2> /dev/null)
+    [ -z "$found" ] || printf 'release: among the sources, and not known to git:\n%s\n' "$found" >&2
+}
+
 write_release() {
-    build_program "$root" allocd "$root/$sample" check || return 1
+    tell_untracked
+    is_made "$root" "$own" "$own.made" || build_program "$root" allocd "$root/$sample" check || return 1
     mkdir -p "$root/dist"
     cp "$own" "$released.part" && chmod 755 "$released.part" && mv "$released.part" "$released" && cp "$own.made" "$record"
 }
