@@ -1,8 +1,7 @@
 -- What holds where nothing is against a report.
-use Rattle.std.proofs.Common.{◌≡◌, ℕ, ◌+◌, ◌<◌, ◌≤◌, List, [], ◌∷◌, Bool, true, false, Option, Some, None, All, length, cond, eqb, refl, sym, ap, subst, ◌∙◌, inl, inr, arith}
+use Rattle.std.proofs.Common.{◌≡◌, ℕ, ◌<◌, ◌≤◌, List, [], ◌∷◌, Bool, true, false, Option, Some, None, All, length, cond, eqb, refl, sym, ap, subst, ◌∙◌, inl, inr, arith}
 use Rattle.std.specs.Prelude.{nat_lt, nat_le, max, ◌||◌, ◌&&◌, map, filter}
-use Rattle.std.specs.List.{list_any}
-use Rattle.std.proofs.lemmas.Bool.{ltb-false, ltb-true, leb-true, leb-false, le-leb, le-ltb, lt-leb, eqb-true, eq-eqb, ne_eqb, cases_eq, cases_lt, cond-false}
+use Rattle.std.proofs.lemmas.Bool.{ltb-false, leb-true, leb-false, le-leb, le-ltb, lt-leb, eqb-true, eq-eqb, ne_eqb, cases_eq, cases_lt, cond-false}
 use Rattle.std.proofs.lemmas.List.Elements.{All-head, All-tail}
 use Rattle.handover.specs.Handover.{holder_in, taken_by}
 use Rattle.scrape_books.specs.Books.{greatest_round, last_round_of}

@@ -1,16 +1,14 @@
 -- An Install of a certified plan is refused by no fault.
-use Rattle.std.proofs.Common.{◌≡◌, ◌+◌, List, [], ◌∷◌, Option, Some, None, Bool, true, false, refl, inl, inr}
+use Rattle.std.proofs.Common.{◌≡◌, ◌+◌, Option, Some, None, Bool, true, false, refl, inl, inr}
 use Rattle.std.specs.Prelude.{if◌then◌else◌, nat_lt}
 use Rattle.price_certificate.specs.Faults.{NoFaultIsCertified, fault_of}
 use Rattle.price_certificate.specs.declared.plan.Plan.{Plan}
 use Rattle.price_certificate.specs.declared.verdict.Fault.{Fault}
 use Rattle.allocation_core.specs.State.{State, allocation_at, current_of, current_pairs, first_state, instance_at}
-use Rattle.allocation_core.specs.Steps.{answer_of, answer_by, state_after, plan_refusal, same_pairs}
+use Rattle.allocation_core.specs.Steps.{answer_of, answer_by, plan_refusal, same_pairs}
 use Rattle.allocation_core.specs.Runs.{state_of}
 use Rattle.allocation_core.specs.Kept.{IsKept}
 use Rattle.allocation_core.specs.Installed.{IsInstalled, IsCertifiedNow, CertifiedAreInstalled}
-use Rattle.fleet.specs.declared.job.JobSpec.{JobSpec}
-use Rattle.fleet_events.specs.declared.event.Event.{Event}
 use Rattle.fleet_events.specs.declared.event.Event.TheVariants.{Install}
 use Rattle.fleet_events.specs.declared.answer.Answer.TheVariants.{Published}
 use Rattle.fleet_events.specs.declared.refusal.Refusal.TheVariants.{Unchanged, NumbersSpent}

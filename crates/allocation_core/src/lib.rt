@@ -12,8 +12,8 @@ mod runs;
 #[cfg(test)]
 mod tests;
 
-pub use fleet_events::{Answer, CollectorId, Event, Outcome, Refusal, Report, TargetId};
 pub use fleet::{JobSpec, OpenError};
+pub use fleet_events::{Answer, CollectorId, Event, Outcome, Refusal, Report, TargetId};
 pub use laws::{
     answers_fit, booked_by_holders, certified_are_installed, published_are_best, states_are_kept,
 };

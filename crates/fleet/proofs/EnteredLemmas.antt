@@ -1,13 +1,12 @@
 -- What entering a job's list comes to.
-use Rattle.std.proofs.Common.{◌≡◌, ℕ, zero, suc, ◌+◌, ◌&&◌, ◌||◌, List, [], ◌∷◌, ◌++◌, Bool, true, false, Option, Some, None, cond, eqb, refl, sym, ap, ◌∙◌, arith, append_assoc}
-use Rattle.std.specs.Prelude.{not, slice_get}
+use Rattle.std.proofs.Common.{◌≡◌, ℕ, zero, suc, ◌+◌, ◌||◌, List, [], ◌∷◌, ◌++◌, Bool, true, false, cond, eqb, refl, sym, ap, ◌∙◌, arith, append_assoc}
+use Rattle.std.specs.Prelude.{not}
 use Rattle.std.specs.List.{AllZip, list_any, position_or_len}
-use Rattle.std.specs.Option.{option_map_or}
 use Rattle.std.specs.Str.{bytes_eq}
 use Rattle.std.proofs.lemmas.Bool.{and_from, eq-eqb}
 use Rattle.std.proofs.lemmas.List.{append-nil}
 use Rattle.label_sets.specs.Target.{FinalTarget, target_text}
-use Rattle.fleet.specs.KnownTarget.{IsEntered, TargetsAreEntered, is_same_at, known_with, number_of, numbers_of, same_known, with_known}
+use Rattle.fleet.specs.KnownTarget.{TargetsAreEntered, is_same_at, known_with, number_of, numbers_of, same_known, with_known}
 use Rattle.fleet.specs.declared.known_target.KnownTarget.{KnownTarget}
 use Rattle.fleet.proofs.OrderLemmas.{known_once}
 

@@ -1,5 +1,5 @@
 //! The fleet, and how it changes.
-ghost use Rattle.std.specs.Prelude.{◌≡◌, ◌<◌, ◌↔◌, ◌==◌, Some, None, Ok, Err, false, length, slice_get, MatchOption, IfOk, OnOk, OnErr};
+ghost use Rattle.std.specs.Prelude.{◌≡◌, ◌<◌, ◌↔◌, Some, None, Ok, Err, false, length, slice_get, MatchOption, IfOk, OnOk, OnErr};
 ghost use Rattle.fleet.specs.Fleet.{first_fleet, id_named, is_joined, live_of};
 ghost use Rattle.fleet.specs.IsFleet.{IsFleet};
 ghost use Rattle.fleet.specs.Jobs.{are_jobs, sources_at};

@@ -1,13 +1,13 @@
 //! What a source lists, and what a change of it comes to.
-ghost use Rattle.std.specs.Prelude.{◌≡◌, ◌<◌, ◌&&◌, not, [], Ok, Err, None, Some, take, length, slice_index_or, IfOk, OnOk, OnErr};
+ghost use Rattle.std.specs.Prelude.{◌≡◌, ◌<◌, [], Ok, Err, take, length, slice_index_or, IfOk, OnOk, OnErr};
 ghost use Rattle.fleet.specs.KnownTarget.{known_with, numbers_of};
-ghost use Rattle.fleet.specs.Live.{chosen_below, count_below, is_in, is_listed, mark_at, with_list, AreMarks};
+ghost use Rattle.fleet.specs.Live.{chosen_below, is_in, mark_at, with_list};
 ghost use Rattle.fleet.specs.Changes.{IsChange, IsChangeFrom, kept_unless};
 
 use crate::known_target::KnownTarget;
 use crate::limits::{MOST_KNOWN_TARGETS, MOST_LIVE_TARGETS};
-use crate::outcome::ListRefusal;
 use crate::live::{chosen, count_marks, count_only, listed_marks, number_marks};
+use crate::outcome::ListRefusal;
 use indexmap::IndexSet;
 use label_sets::Target;
 use lists::List;

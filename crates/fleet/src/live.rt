@@ -1,5 +1,5 @@
 //! Which targets are live, by marks.
-ghost use Rattle.std.specs.Prelude.{◌≡◌, ◌==◌, ◌&&◌, ◌≤◌, not, length, slice_set, IfOk, true};
+ghost use Rattle.std.specs.Prelude.{◌≡◌, ◌&&◌, ◌≤◌, not, length, slice_set, IfOk, true};
 ghost use Rattle.fleet.specs.Live.{chosen_below, count_below, is_in, is_listed, is_listed_in, mark_at, AreMarks, AddsMarks};
 
 use lists::List;

@@ -1,16 +1,14 @@
 -- Items and bins of the instance of a moment, and the targets and collectors that they stand for.
-use Rattle.std.proofs.Common.{◌≡◌, ℕ, zero, suc, ◌+◌, ◌*◌, ◌/◌, ◌%◌, ◌<◌, List, [], ◌∷◌, Bool, true, false, Option, Some, None, length, get_or, cond, eqb, refl, sym, ap, subst, ◌∙◌, inl, inr, arith}
+use Rattle.std.proofs.Common.{◌≡◌, ℕ, zero, suc, ◌+◌, ◌*◌, ◌/◌, ◌%◌, ◌<◌, List, [], ◌∷◌, Bool, true, false, Option, Some, None, length, get_or, cond, eqb, refl, sym, ap, subst, ◌∙◌, arith}
 use Rattle.std.specs.Prelude.{Contains, option_and_then, slice_get}
 use Rattle.std.specs.List.{position_from}
 use Rattle.std.specs.Option.{option_map, option_map_or}
 use Rattle.std.proofs.lemmas.Nat.{div-mul-add, mod-mul-add}
 use Rattle.std.proofs.lemmas.List.{length-map}
-use Rattle.std.proofs.lemmas.List.Elements.{Contains-append_left, Contains-append_right}
-use Rattle.std.proofs.lemmas.Bool.{cases_eq, eq-eqb, ne_eqb, eqb-true, eqb-false, cond-true, cond-false}
+use Rattle.std.proofs.lemmas.Bool.{eq-eqb, ne_eqb, eqb-true, eqb-false, cond-true, cond-false}
 use Rattle.price_certificate.specs.Problem.{IsAllowed, items_of}
 use Rattle.price_certificate.proofs.Duality.{allowed_item}
 use Rattle.reach_rules.specs.Rules.{reaches}
-use Rattle.fleet.specs.Live.{chosen_below}
 use Rattle.fleet.specs.Fleet.{live_of, is_live}
 use Rattle.fleet_assignment.proofs.Moment.{Moment}
 use Rattle.fleet_assignment.specs.Instance.{instance_of, bin_in, place_of, row_from, row_for}

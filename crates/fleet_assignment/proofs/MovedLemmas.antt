@@ -1,15 +1,15 @@
 -- What an allocation moves: the pairs that it loses are those that could be kept, less those that it keeps.
-use Rattle.std.proofs.Common.{◌≡◌, ℕ, zero, suc, ◌+◌, ◌*◌, ◌<◌, ◌≤◌, ◌&&◌, ◌||◌, List, [], ◌∷◌, Bool, true, false, Option, Some, None, All, length, get_or, cond, eqb, count_by, sum_by, refl, sym, ap, subst, ◌∙◌, inl, inr, arith}
-use Rattle.std.specs.Prelude.{Contains, is_some, map, not, option_and_then, slice_get}
+use Rattle.std.proofs.Common.{◌≡◌, ℕ, zero, suc, ◌+◌, ◌*◌, ◌≤◌, ◌&&◌, ◌||◌, List, [], ◌∷◌, Bool, true, false, Option, Some, None, All, length, get_or, cond, eqb, count_by, refl, sym, ap, subst, ◌∙◌, inl, inr, arith}
+use Rattle.std.specs.Prelude.{Contains, is_some, not, option_and_then, slice_get}
 use Rattle.std.specs.List.{list_any, position_from}
 use Rattle.std.specs.Option.{option_map, option_map_or}
-use Rattle.std.proofs.lemmas.Bool.{and_from, cases_Bool, cases_eq, eq-eqb, ne_eqb, eqb-true}
+use Rattle.std.proofs.lemmas.Bool.{and_from, cases_eq, eq-eqb, ne_eqb, eqb-true}
 use Rattle.std.proofs.lemmas.List.Folds.{Any-from_list_any, list_any_at}
 use Rattle.std.proofs.lemmas.List.Sums.{sum_by-cons}
 use Rattle.std.proofs.lemmas.List.{get_or_default}
 use Rattle.std.proofs.lemmas.Option.{slice_get_within, get_or_from_slice_get}
 use Rattle.price_certificate.proofs.Sums.{sum_by-add, sum_by-same}
-use Rattle.price_certificate.specs.Assignment.{kept, moved}
+use Rattle.price_certificate.specs.Assignment.{kept}
 use Rattle.price_certificate.specs.Problem.{before_count}
 use Rattle.fleet_assignment.specs.Beside.{beside}
 use Rattle.fleet.specs.Fleet.{is_joined, is_live, live_of}
@@ -17,8 +17,8 @@ use Rattle.fleet_assignment.proofs.Moment.{Moment}
 use Rattle.fleet_assignment.specs.Best.{IsReached, IsSound, moved_by, stands_in}
 use Rattle.fleet_assignment.specs.Instance.{bin_before, bin_in, instance_of, place_of}
 use Rattle.fleet.specs.IsFleet.{IsFleet}
-use Rattle.fleet.specs.Live.{chosen_below, is_in, is_listed_in}
-use Rattle.fleet.specs.Orderly.{is_of, listed_at}
+use Rattle.fleet.specs.Live.{is_in, is_listed_in}
+use Rattle.fleet.specs.Orderly.{is_of}
 use Rattle.fleet.specs.declared.known_target.KnownTarget.{KnownTarget}
 use Rattle.fleet.specs.declared.collector.Collector.{Collector}
 use Rattle.fleet.proofs.Chosen.{chosen_has, chosen_once, chosen_pass}
@@ -151,6 +151,7 @@ bin_some m target k known = at (beside m.before target)
     map_some : (o : Option ℕ) (jobs home : ℕ) → is_some (option_map (λ (place : ℕ). place * jobs + home) o) ≡ is_some o
     map_some None jobs home = refl
     map_some (Some x) jobs home = refl
+
     at : (o : Option ℕ) → is_some (option_and_then (bin_in (length m.fleet.jobs) m.fleet.collectors m.fleet.known target) o) ≡ option_map_or (is_joined m.fleet) o false
     at None = refl
     at (Some id) =

@@ -7,7 +7,7 @@ use Rattle.std.proofs.lemmas.List.{length-map, get_or-map}
 use Rattle.std.proofs.lemmas.List.Elements.{All-map}
 use Rattle.std.proofs.lemmas.List.Sums.{count_by-le-length}
 use Rattle.std.proofs.lemmas.Bool.{cases_eq, eq-eqb, ne_eqb, eqb-true, eqb-false, and_from}
-use Rattle.price_certificate.specs.Problem.{IsProblem, IsAllowed, before_of, before_count, capacity_by, is_bin, items_of, was_in}
+use Rattle.price_certificate.specs.Problem.{IsAllowed, before_of, before_count, capacity_by, is_bin, items_of, was_in}
 use Rattle.price_certificate.specs.Assignment.{IsFeasible, IsOptimal, kept, moved, uses_of_bin, uses_of_item}
 use Rattle.price_certificate.proofs.Duality.{allowed_item}
 use Rattle.price_certificate.proofs.Sums.{sum_by-same}

@@ -1,5 +1,5 @@
 -- Which allocations of a fleet are sound, and which are the best.
-use Rattle.std.specs.Prelude.{◌≡◌, ◌≢◌, ◌≤◌, ◌<◌, ◌==◌, ◌&&◌, ◌↔◌, not, Bool, false, ℕ, List, All, AllPairs, Some, true, count_by, length, slice_get}
+use Rattle.std.specs.Prelude.{◌≡◌, ◌≢◌, ◌≤◌, ◌<◌, ◌==◌, ◌&&◌, ◌↔◌, not, Bool, ℕ, List, All, AllPairs, Some, true, count_by, length, slice_get}
 use Rattle.std.specs.List.{list_any}
 use Rattle.std.specs.Option.{option_map_or}
 use Rattle.reach_rules.specs.Rules.{reaches}

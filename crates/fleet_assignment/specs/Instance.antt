@@ -1,6 +1,6 @@
 -- The assignment problem of a fleet and a preceding allocation: its items are the live targets in order of number, its bins for
 -- each collector in order the jobs, so that the bin of a collector's place and a job's place is place * jobs + job.
-use Rattle.std.specs.Prelude.{ℕ, ◌+◌, ◌*◌, ◌==◌, List, [], ◌∷◌, ◌++◌, Option, None, Some, if◌then◌else◌, length, map, option_and_then, slice_get}
+use Rattle.std.specs.Prelude.{ℕ, ◌+◌, ◌*◌, ◌==◌, List, [], ◌∷◌, ◌++◌, Option, if◌then◌else◌, length, map, option_and_then, slice_get}
 use Rattle.std.specs.List.{position_from}
 use Rattle.std.specs.Option.{option_map, option_map_or}
 use Rattle.price_certificate.specs.Problem.{Problem}

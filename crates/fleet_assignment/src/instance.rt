@@ -1,6 +1,6 @@
 //! The assignment problem of a fleet: items are its live targets, bins each collector's share of each job. The way back, from a
 //! plan to an allocation, is in `allocation.rt`.
-ghost use Rattle.std.specs.Prelude.{◌≡◌, ◌<◌, ◌≤◌, ◌*◌, ◌+◌, ◌++◌, ℕ, [], None, All, length, map, option_and_then, slice_index_or, IfOk, IfSome, OnOk};
+ghost use Rattle.std.specs.Prelude.{◌≡◌, ◌<◌, ◌≤◌, ◌*◌, ◌+◌, ◌++◌, ℕ, None, All, length, map, option_and_then, slice_index_or, IfOk, IfSome, OnOk};
 ghost use Rattle.price_certificate.specs.Problem.{IsShaped, IsProblemOf};
 ghost use Rattle.fleet.specs.Fleet.{live_of};
 ghost use Rattle.fleet.specs.declared.job.JobSpec.{JobSpec};
@@ -9,7 +9,9 @@ ghost use Rattle.fleet_assignment.specs.Instance.{instance_of, limits_for, row_f
 ghost use Rattle.fleet_assignment.specs.Tables.{preceding_from};
 
 use crate::table::placed;
-use fleet::{Collector, Fleet, JobSpec, KnownTarget, MOST_BINS, MOST_COLLECTORS, MOST_LIVE_TARGETS};
+use fleet::{
+    Collector, Fleet, JobSpec, KnownTarget, MOST_BINS, MOST_COLLECTORS, MOST_LIVE_TARGETS,
+};
 use lists::List;
 use price_certificate::{Instance, InstanceError};
 use std::alloc::{AllocError, Global};

@@ -1,5 +1,5 @@
 //! Tables by number, filled from lists of pairs.
-ghost use Rattle.std.specs.Prelude.{◌≡◌, ◌==◌, ◌<◌, ℕ, None, Some, length, if◌then◌else◌, slice_index_or, IfOk};
+ghost use Rattle.std.specs.Prelude.{◌≡◌, ◌<◌, None, Some, length, IfOk};
 ghost use Rattle.fleet_assignment.specs.Tables.{ArePlaced, PlacesAll, SetsPlace};
 
 use std::alloc::{AllocError, Global};

@@ -1,15 +1,14 @@
 -- The form in which a document is written: it has no float and few levels, so its text is known and reads back.
-use Rattle.std.proofs.Common.{◌≡◌, ◌≤◌, ℕ, false, List, [], ◌∷◌, Some, Result, Ok, Err, Vec, Global, IfOk, IsUtf8, refl, sym, ap, subst, ◌∙◌, arith}
-use Rattle.std.proofs.Math.Nat.{max-le}
+use Rattle.std.proofs.Common.{◌≡◌, ◌≤◌, ℕ, false, List, Some, Result, Ok, Err, Vec, Global, IfOk, IsUtf8, refl, sym, ap, subst, ◌∙◌, arith}
 use Rattle.std.proofs.lemmas.Bool.{or_from}
 use Rattle.std.specs.declared.alloc.AllocError.{AllocError}
-use Rattle.serde_json.specs.Data.{Data, depth, items_depth}
+use Rattle.serde_json.specs.Data.{Data, depth}
 use Rattle.serde_json.specs.Read.{read, max_depth}
 use Rattle.serde_json.specs.Written.{has_float, compact_text}
 use Rattle.json_values.proofs.Lists.{no_float, levels}
 use Rattle.json_values.proofs.Texts.{json_of-text}
 use Rattle.price_certificate.specs.Problem.{Problem}
-use Rattle.json_values.specs.Spelling.{number_data, pair_data, items_data, list_data}
+use Rattle.json_values.specs.Spelling.{number_data, pair_data, list_data}
 use Rattle.price_certificate.specs.Document.{pairs_from, document_data, SpellsInstance, SpellsPlan, IsDocument}
 
 pub has_float-document_data : (p : Problem) (pairs : List (ℕ × ℕ)) (item_prices bin_prices : List ℕ) → has_float (document_data p pairs item_prices bin_prices) ≡ false

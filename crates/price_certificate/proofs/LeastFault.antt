@@ -1,15 +1,13 @@
 -- The fault of prices names the least item, and of that the least bin.
-use Rattle.std.proofs.Common.{◌≡◌, ◌+◌, ◌<◌, ◌≤◌, ◌⊎◌, ℕ, zero, suc, Bool, true, false, List, Option, Some, None, length, get_or, inl, inr, refl, sym, ap, subst, ◌∙◌, arith}
+use Rattle.std.proofs.Common.{◌≡◌, ◌+◌, ◌<◌, ◌≤◌, ℕ, zero, suc, Bool, true, false, List, Option, Some, None, length, get_or, inl, inr, refl, sym, ap, subst, ◌∙◌, arith}
 use Rattle.std.specs.Prelude.{nat_le}
 use Rattle.std.specs.List.Sorted.{IsStrictlyIncreasing}
 use Rattle.std.proofs.lemmas.Bool.{cases_lt, leb-true}
 use Rattle.std.proofs.lemmas.List.{get_or_default}
 use Rattle.std.proofs.lemmas.List.Kept.{AllPairs-from_increasing}
-use Rattle.price_certificate.specs.Problem.{Problem, IsAllowed, IsProblem, items_of, row_of, weight_of}
+use Rattle.price_certificate.specs.Problem.{items_of, row_of, weight_of}
 use Rattle.price_certificate.specs.Faults.{PriceFaultIsLeast, bin_at, fault_unless, first_below, or_else, price_fault, price_fault_at, row_fault}
-use Rattle.price_certificate.specs.declared.verdict.Fault.{Fault}
 use Rattle.price_certificate.specs.declared.verdict.Fault.TheVariants.{PriceTooLow}
-use Rattle.price_certificate.proofs.Duality.{allowed_item}
 use Rattle.price_certificate.proofs.First.{none_below, unless_none}
 use Rattle.price_certificate.proofs.Rows.{is_row}
 
@@ -62,12 +60,15 @@ price_fault_is_least p us vs item bin valid e other other_bin allowed low =
             let is : row.place ≡ other = omega arith in
             let inside : place < length (row_of p row.place) = subst (λ (i : ℕ). place < length (row_of p i)) (sym is) allowed.1 in
             let here : bin_at p row.place place ≡ other_bin = ap (λ (i : ℕ). bin_at p i place) is ∙ read in
-            inr (sym names.0 ∙ is, elim (cases_lt place at.place) [
-              | inl before ↦
-                  let clean = none_below (price_fault_at p us vs row.place) at.place at.none place before in
-                  let h = fine (subst (λ (i : ℕ). price_fault_at p us vs i place ≡ None) is clean) in
-                  absurd (omega (arith, h, low))
-              | inr behind ↦ omega (arith, rises (row_of p row.place) (is_row p valid row.place row.below).ascending at.place place behind inside, names.1, here)
-            ])
+            inr (
+              sym names.0 ∙ is,
+              elim (cases_lt place at.place) [
+                | inl before ↦
+                    let clean = none_below (price_fault_at p us vs row.place) at.place at.none place before in
+                    let h = fine (subst (λ (i : ℕ). price_fault_at p us vs i place ≡ None) is clean) in
+                    absurd (omega (arith, h, low))
+                | inr behind ↦ omega (arith, rises (row_of p row.place) (is_row p valid row.place row.below).ascending at.place place behind inside, names.1, here)
+              ],
+            )
       ]
     ]

@@ -1,7 +1,6 @@
-ghost use Rattle.std.specs.Prelude.{◌≡◌, ◌↔◌, IfOk, IsTrue, true};
+ghost use Rattle.std.specs.Prelude.{◌≡◌, ◌↔◌, IfOk, true};
 ghost use Rattle.price_certificate.specs.Assignment.{IsOptimal, moved};
 ghost use Rattle.price_certificate.specs.Certificate.{IsCertified};
-ghost use Rattle.price_certificate.specs.Problem.{IsProblem};
 ghost use Rattle.price_certificate.specs.Faults.{fault_of, verdict_of, is_best};
 
 use crate::faults::{

@@ -1,11 +1,11 @@
 //! Each kind of fault, looked for through the whole plan.
 
-ghost use Rattle.std.specs.Prelude.{◌≡◌, ◌==◌, ◌+◌, ◌*◌, ◌<◌, ◌≤◌, ℕ, Option, None, Bool, false, IfOk, length, replicate, slice_index, sum, count_by};
+ghost use Rattle.std.specs.Prelude.{◌≡◌, ◌==◌, ◌+◌, ◌*◌, ◌<◌, ◌≤◌, ℕ, Option, None, false, IfOk, length, replicate, slice_index, sum};
 ghost use Rattle.std.specs.List.{list_any};
 ghost use Rattle.price_certificate.specs.Problem.{items_of, bins_of, capacity_of};
-ghost use Rattle.price_certificate.specs.Assignment.{uses_of_bin, kept};
-ghost use Rattle.price_certificate.specs.Certificate.{sum_below, value_of};
-ghost use Rattle.price_certificate.specs.Faults.{pair_at, stands_in, length_fault, number_fault, repeat_fault, reach_fault, limit_fault, row_fault, price_fault, sum_fault, weight_sum, IsCounted};
+ghost use Rattle.price_certificate.specs.Assignment.{kept};
+ghost use Rattle.price_certificate.specs.Certificate.{sum_below};
+ghost use Rattle.price_certificate.specs.Faults.{pair_at, length_fault, number_fault, repeat_fault, reach_fault, limit_fault, row_fault, price_fault, sum_fault, weight_sum, IsCounted};
 
 use crate::instance::Instance;
 use crate::verdict::Fault;

@@ -1,4 +1,4 @@
-ghost use Rattle.std.specs.Prelude.{◌≡◌, ◌<◌, ◌≤◌, List, ℕ, Some, IsTrue, IfOk, IfErr, slice_index, count_by, is_some};
+ghost use Rattle.std.specs.Prelude.{◌≡◌, ◌<◌, ◌≤◌, List, Some, IfOk, slice_index, count_by, is_some};
 ghost use Rattle.price_certificate.specs.Problem.{Problem, IsProblem, IsShaped, IsProblemOf, items_of, bins_of, row_of, before_of, before_count, capacity_by, capacity_of, weight_of, top_weight};
 
 use crate::shape::{InstanceError, has_reach, places};

@@ -1,4 +1,4 @@
-ghost use Rattle.std.specs.Prelude.{◌≡◌, ◌↔◌, ◌≤◌, ◌<◌, ◌==◌, ℕ, List, Option, None, replicate, All, IsTrue, IfOk, length, sum_by, slice_index_or, count_by, is_some, if◌then◌else◌};
+ghost use Rattle.std.specs.Prelude.{◌≡◌, ◌↔◌, ◌≤◌, ◌<◌, List, Option, None, replicate, All, IsTrue, IfOk, length, sum_by, is_some};
 ghost use Rattle.price_certificate.specs.Problem.{IsRow, IsReach, IsPreceding, IsPlaced};
 ghost use Rattle.price_certificate.specs.declared.shape.InstanceError.TheVariants.{Memory};
 

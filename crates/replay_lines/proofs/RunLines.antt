@@ -5,16 +5,15 @@ use Rattle.std.specs.Str.{bytes_eq}
 use Rattle.std.specs.Prelude.{if◌then◌else◌}
 use Rattle.allocation_core.specs.State.{State, first_state}
 use Rattle.allocation_core.specs.Steps.{answer_of, state_after}
-use Rattle.allocation_core.specs.Runs.{answers_of, state_of}
+use Rattle.allocation_core.specs.Runs.{answers_of}
 use Rattle.allocation_core.specs.Best.{AlwaysBest}
 use Rattle.allocation_core.specs.Booked.{AlwaysBooked}
 use Rattle.fleet_events.specs.declared.event.Event.{Event}
 use Rattle.allocation_core.specs.declared.job.JobSpec.{JobSpec}
 use Rattle.replay_lines.specs.Configurations.{opened}
 use Rattle.fleet_events.specs.Reading.{event_of}
-use Rattle.replay_lines.specs.Replays.{Written, answered, answered_line, total_line, totalled, unreadable_at, unreadable_line, written_from, written_by, lines_in, replay_of}
+use Rattle.replay_lines.specs.Replays.{Written, answered, answered_line, total_line, unreadable_at, unreadable_line, written_from, written_by, replay_of}
 use Rattle.replay_lines.specs.AsRuns.{answered_lines, events_of, IsRunFrom, IsRun, IsRunOf, ReplaysAreRuns}
-use Rattle.replay_lines.specs.declared.run.Ended.TheVariants.{Done, Unreadable}
 
 one_more : (m : State) (event : Event) (events : List Event) (rest : Written) → IsRunFrom (state_after m event) events rest → IsRunFrom m (event ∷ events) (answered (answer_of m event) rest)
 one_more m event events rest run =

@@ -7,8 +7,8 @@ ghost use Rattle.allocation_core.specs.Installed.{IsCertifiedNow, IsInstalled};
 ghost use Rattle.fleet_events.specs.declared.event.Event.TheVariants.{Install};
 
 use super::Core;
-use fleet_events::{Answer, Refusal};
 use fleet_assignment::{build_allocation, build_instance, instances_are_problems};
+use fleet_events::{Answer, Refusal};
 use handover::HoldersError;
 use price_certificate::{Fault, Instance, Plan, Verdict, check, no_fault_is_certified};
 use std::alloc::{AllocError, Global};

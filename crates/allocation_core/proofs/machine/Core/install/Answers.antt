@@ -1,4 +1,4 @@
-use Rattle.std.proofs.Common.{◌≡◌, Some, None, ap, subst, ◌∙◌}
+use Rattle.std.proofs.Common.{◌≡◌, None, ap, subst, ◌∙◌}
 use Rattle.price_certificate.specs.Faults.{fault_of}
 use Rattle.fleet_assignment.specs.Instance.{instance_of}
 use Rattle.allocation_core.specs.State.{current_pairs, instance_at}

@@ -1,4 +1,4 @@
-use Rattle.std.proofs.Common.{refl, subst, sym, true, false, ◌∙◌}
+use Rattle.std.proofs.Common.{refl, subst, sym, true, false}
 use Rattle.fleet_events.specs.declared.event.Event.TheVariants.{Leave}
 use Rattle.allocation_core.specs.State.{State}
 use Rattle.allocation_core.specs.Kept.{IsKept}

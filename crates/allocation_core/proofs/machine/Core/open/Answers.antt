@@ -1,7 +1,7 @@
 use Rattle.std.proofs.Common.{refl, ap}
 use Rattle.std.proofs.Common.{subst, sym}
 use Rattle.handover.specs.Handover.{Handover}
-use Rattle.fleet.specs.Fleet.{FleetState, first_fleet}
+use Rattle.fleet.specs.Fleet.{first_fleet}
 use Rattle.fleet.specs.IsFleet.{IsFleet}
 use Rattle.fleet.proofs.KeptLemmas.{first_kept as fleet_first_kept}
 use Rattle.allocation_core.proofs.StepLemmas.{first_kept}
