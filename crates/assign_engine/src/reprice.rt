@@ -1,5 +1,5 @@
 //! The price step after a search.
-ghost use Rattle.std.specs.Prelude.{◌≡◌, ◌+◌, ◌*◌, ◌^◌, ◌<◌, ◌≤◌, ◌≢◌, ℕ, Some, None, length, slice_index, slice_set, OnOk};
+ghost use Rattle.std.specs.Prelude.{◌≡◌, ◌+◌, ◌*◌, ◌^◌, ◌<◌, ◌≤◌, ℕ, Some, None, length, slice_index, slice_set};
 ghost use Rattle.price_certificate.specs.Problem.{items_of, bins_of};
 ghost use Rattle.assign_engine.specs.Usable.{one_if};
 ghost use Rattle.assign_engine.specs.Seats.{sits, seat, IsSound};

@@ -52,7 +52,7 @@ fn relax(
     ensures { OnOk result (IsRelaxed instance.now matching.now.seating.seats matching.now.bin_prices.items item base (length (row_of instance.now item)) tables.old tables.new) }
 {
     instance.is_problem();
-    tables.look(instance.row(item));
+    tables.look(instance.row(item).len());
     for bin in instance.row(item) {
         let bin = *bin as usize;
         let distance = base + u64::from(matching.bin_prices[bin])
@@ -156,6 +156,7 @@ pub fn search(
     relax(instance, matching, item, price, tables)?;
     while let Some(bin) = tables.nearest() {
         tables.settle(bin)?;
+        tables.look(matching.seating.count(bin));
         uncover(matching, bin, tables);
         expand(instance, matching, bin, tables)?;
     }

@@ -1,5 +1,5 @@
 //! The tables that a search fills.
-ghost use Rattle.std.specs.Prelude.{◌≡◌, ◌+◌, ◌^◌, ◌<◌, ◌≤◌, ◌∷◌, ◌++◌, List, [], ℕ, Contains, length, replicate, slice_index, slice_set, IfOk, OnOk, OnErr, IfSome, IfNone};
+ghost use Rattle.std.specs.Prelude.{◌≡◌, ◌+◌, ◌<◌, ◌≤◌, ◌∷◌, ◌++◌, List, [], ℕ, Contains, length, replicate, slice_index, slice_set, IfOk, OnOk, OnErr, IfSome, IfNone};
 ghost use Rattle.std.specs.List.Sorted.{IsPermutation};
 ghost use Rattle.assign_engine.specs.SearchTables.{SearchState, HasBins};
 ghost use Rattle.assign_engine.specs.Pending.{HasPending, HasPendingBut, IsNearest, AllFar};
@@ -146,16 +146,16 @@ impl SearchTables {
         self.settled_bins.as_slice()
     }
 
-    /// How many pairs were looked at.
+    /// How many pairs and items of settled bins were looked at.
     pub fn looked(&self) -> u64 {
         self.looked
     }
 
-    /// Counts the pairs of a row that is looked at.
-    pub fn look(&mut self, row: &[u32])
+    /// Counts so many pairs or items that are looked at.
+    pub fn look(&mut self, count: usize)
         ensures { self.new ≡ self.old }
     {
-        self.looked = self.looked.saturating_add(row.len() as u64);
+        self.looked = self.looked.saturating_add(count as u64);
     }
 
     /// Notes a way to a bin.

@@ -1,5 +1,5 @@
 //! Who is in which bin, by item and by bin.
-ghost use Rattle.std.specs.Prelude.{◌≡◌, ◌==◌, ◌+◌, ◌++◌, ◌∷◌, ◌<◌, List, [], Option, Some, None, ℕ, length, replicate, slice_index, slice_set, IfOk, OnOk, OnErr};
+ghost use Rattle.std.specs.Prelude.{◌≡◌, ◌==◌, ◌+◌, ◌++◌, ◌∷◌, ◌<◌, List, [], Option, Some, None, ℕ, length, replicate, slice_index, slice_set, IfSome, IfOk, OnOk, OnErr};
 ghost use Rattle.assign_engine.specs.Usable.{one_if};
 ghost use Rattle.assign_engine.specs.Seats.{sits, seat, used};
 ghost use Rattle.assign_engine.specs.Roll.{Seated, times_in, roll_of, share_of};
@@ -7,12 +7,28 @@ ghost use Rattle.assign_engine.specs.Roll.{Seated, times_in, roll_of, share_of};
 use std::alloc::{AllocError, Global};
 use std::marker::Model;
 
-/// The place of an item in a list that has it.
-fn place_of(items: &[usize], item: usize) -> usize
+/// The place of an item in a list, if it stands at this place or past it.
+fn place_from(items: &[usize], item: usize, first: usize) -> Option<usize>
+    ensures in_range { IfSome result (λ place. place < length items.now) }
+    ensures found { IfSome result (λ place. slice_index items.now place ≡ item) }
+{
+    for place in first..items.len() {
+        if items[place] == item {
+            return Some(place);
+        }
+    }
+    None
+}
+
+/// The place of an item in a list that has it, looked for from a likely place on.
+fn place_of(items: &[usize], item: usize, likely: usize) -> usize
     requires { 0 < times_in items.now item }
     ensures in_range { result < length items.now }
     ensures found { slice_index items.now result ≡ item }
 {
+    if let Some(place) = place_from(items, item, likely) {
+        return place;
+    }
     for place in 0..items.len() {
         if items[place] == item {
             return place;
@@ -21,10 +37,12 @@ fn place_of(items: &[usize], item: usize) -> usize
     0
 }
 
-/// The items of one bin. Contracts see the list of the items.
+/// The items of one bin, and where one was taken out last: the next is often there or after. Contracts see the list of the
+/// items.
 #[derive(Drop)]
 struct Members {
     items: Vec<usize>,
+    last: usize,
 }
 
 impl Model for Members {
@@ -41,6 +59,7 @@ impl Members {
     {
         Members {
             items: Vec::new(alloc),
+            last: 0,
         }
     }
 
@@ -70,8 +89,9 @@ impl Members {
         ensures times { (other : ℕ) → times_in self.new other + one_if (item == other) ≡ times_in self.old other }
         ensures length { length self.new + 1 ≡ length self.old }
     {
-        let place = place_of(&self.items, item);
+        let place = place_of(&self.items, item, self.last);
         self.items.swap_remove(place);
+        self.last = place;
     }
 }
 

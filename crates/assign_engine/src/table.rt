@@ -1,5 +1,5 @@
 //! Numbers by index that are all set to one number in a single step, however many there are.
-ghost use Rattle.std.specs.Prelude.{◌≡◌, ◌<◌, ◌≤◌, ◌^◌, ℕ, length, replicate, slice_index, slice_set, IfOk};
+ghost use Rattle.std.specs.Prelude.{◌≡◌, ◌<◌, ◌≤◌, ℕ, length, replicate, slice_index, slice_set, IfOk};
 
 use std::alloc::{AllocError, Global};
 use std::marker::Model;

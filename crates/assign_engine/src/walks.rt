@@ -1,10 +1,10 @@
 //! Walks over exactly priced pairs, in rounds, which seat many items with no search.
-ghost use Rattle.std.specs.Prelude.{◌≡◌, ◌+◌, ◌<◌, ◌≤◌, ◌⊎◌, ◌≢◌, ℕ, None, Some, IsTrue, IfSome, IfNone, IfOk, OnOk, Contains, length, slice_index};
-ghost use Rattle.price_certificate.specs.Problem.{IsAllowed, items_of, bins_of, weight_of, row_of};
+ghost use Rattle.std.specs.Prelude.{◌≡◌, ◌+◌, ◌<◌, ◌≤◌, ◌⊎◌, ℕ, None, Some, IsTrue, IfSome, IfNone, IfOk, OnOk, Contains, length, slice_index};
+ghost use Rattle.price_certificate.specs.Problem.{IsAllowed, items_of, bins_of, weight_of};
 ghost use Rattle.assign_engine.specs.Seats.{seat, IsSound, IsWaiting};
 ghost use Rattle.assign_engine.specs.SearchTables.{HasBins};
 ghost use Rattle.assign_engine.specs.Searching.{HasWay};
-ghost use Rattle.assign_engine.specs.Exact.{IsExact, IsForward, IsLink, HasMarks, HasTables, IsEntered, IsWalkEnd, IsBetter};
+ghost use Rattle.assign_engine.specs.Exact.{IsExact, IsForward, IsLink, HasTables, IsEntered, IsWalkEnd, IsBetter};
 
 use crate::ends::End;
 use crate::insert::follow;
@@ -281,7 +281,7 @@ fn reach(
     ensures bins { OnOk result (HasBins (bins_of instance.now) tables.new) }
 {
     instance.is_problem();
-    tables.look(instance.row(item));
+    tables.look(instance.row(item).len());
     for bin in instance.row(item) {
         let bin = *bin as usize;
         if tables.rank(bin) > rank && is_exact(instance, matching, item, bin) {

@@ -24,8 +24,8 @@ loop-bin-init c =
 
 pub loop-bin-preserved : goal.loop-bin-preserved
 loop-bin-preserved c =
-    turn c.args.instance.now c.args.matching.now.seating.seats c.args.matching.now.item_prices.items c.args.matching.now.bin_prices.items c.args.item c.loop-bin.tables c.nearest.new.self c.settle.new.self c.uncover.new.tables c.expand.new.tables c.in-Some.bin
-    c.is_problem.ensures c.requires.sound c.loop-bin.invariant c.in-Some.ensures.some c.in-Some.ensures.pending c.nearest.ensures.same c.in_ok-settle.ensures c.uncover.ensures c.in_ok-expand.ensures
+    turn c.args.instance.now c.args.matching.now.seating.seats c.args.matching.now.item_prices.items c.args.matching.now.bin_prices.items c.args.item c.loop-bin.tables c.nearest.new.self c.look.new.self c.uncover.new.tables c.expand.new.tables c.in-Some.bin
+    c.is_problem.ensures c.requires.sound c.loop-bin.invariant c.in-Some.ensures.some c.in-Some.ensures.pending c.nearest.ensures.same (c.look.ensures ∙ c.in_ok-settle.ensures) c.uncover.ensures c.in_ok-expand.ensures
 
 pub returns-clause-searched : goal.returns-clause-searched
 returns-clause-searched c =
