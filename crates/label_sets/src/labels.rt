@@ -5,10 +5,10 @@ ghost use Rattle.label_sets.specs.Target.{with_instance, is_group_name};
 ghost use Rattle.label_sets.specs.Written.{labels_text};
 ghost use Rattle.label_sets.specs.Labels.{label_text, without, with_label, names_of, IsAscending, IsLabelSet};
 
+use crate::entries::{put, take_out, text_of};
 use crate::error::LabelError;
 use crate::group::keep_group_names;
 use crate::name::{LabelName, is_label_name};
-use crate::entries::{put, take_out, text_of};
 use crate::texts::text_of_labels;
 use lists::{List, Plain, Text};
 use std::alloc::{AllocError, Global};

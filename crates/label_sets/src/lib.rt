@@ -4,12 +4,12 @@
 //! order of the names.
 #![tactic(auto)]
 
+mod entries;
 mod error;
 mod group;
 mod labels;
 mod laws;
 mod name;
-mod entries;
 mod target;
 #[cfg(test)]
 mod tests;

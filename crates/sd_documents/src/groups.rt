@@ -6,7 +6,7 @@ ghost use Rattle.sd_documents.specs.declared.limits.TheConstants.{MOST_TARGETS};
 ghost use Rattle.sd_documents.specs.Reading.{Gives, each_said};
 ghost use Rattle.sd_documents.specs.Groups.{filled as filled_data, targets_said, label_said, labels_from, labels_said, parts_said, group_said, groups_said, groups_read, few_targets};
 
-use crate::error::{SdError, Limit, Member};
+use crate::error::{Limit, Member, SdError};
 use crate::group::Group;
 use crate::json::{json_in, texts_in};
 use crate::limits::MOST_TARGETS;
@@ -85,12 +85,7 @@ fn each_group(
     Ok(groups)
 }
 
-fn group_in(
-    alloc: Global,
-    index: usize,
-    part: Member,
-    value: &Value,
-) -> Result<Group, SdError>
+fn group_in(alloc: Global, index: usize, part: Member, value: &Value) -> Result<Group, SdError>
     ensures { Gives (λ g. g) result (group_said index part (view value.now)) }
 {
     if !value.is_object() {

@@ -4,7 +4,7 @@ ghost use Rattle.serde_json.specs.Events.{items_len};
 ghost use Rattle.serde_json.specs.View.{view, items_view};
 ghost use Rattle.sd_documents.specs.Reading.{Gives, json_said, each_said, text_said, texts_said};
 
-use crate::error::{SdError, Member};
+use crate::error::{Member, SdError};
 use json_values::parse;
 use lists::{List, Text};
 use serde_json::Value;

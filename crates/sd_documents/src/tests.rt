@@ -1,7 +1,7 @@
 mod configs;
 mod discovery;
 
-use crate::{Config, SdError, Group, read_config, read_groups};
+use crate::{Config, Group, SdError, read_config, read_groups};
 use lists::List;
 use std::alloc::{AllocError, Global};
 

@@ -10,7 +10,7 @@ use crate::config::discovery::unsupported_of;
 use crate::config::floats::holds_float;
 use crate::config::parts::{Parts, parts_in};
 use crate::config::settings::{Settings, settings_in};
-use crate::error::{SdError, Member};
+use crate::error::{Member, SdError};
 use lists::Text;
 use serde_json::Value;
 use std::alloc::Global;

@@ -23,12 +23,7 @@ pub(crate) fn jobs_in(alloc: Global, entries: &[Value]) -> Result<List<Job>, SdE
 }
 
 /// Adds the job of one more entry.
-fn add_job(
-    alloc: Global,
-    jobs: &mut List<Job>,
-    index: usize,
-    entry: &Value,
-) -> Result<(), SdError>
+fn add_job(alloc: Global, jobs: &mut List<Job>, index: usize, entry: &Value) -> Result<(), SdError>
     ensures { Gives (λ _. map job_data jobs.new) result (with_job index (map job_data jobs.old) (view entry.now)) }
 {
     let job = job_in(alloc, index, entry)?;

@@ -7,7 +7,7 @@ ghost use Rattle.sd_documents.specs.inner.Seen.{parts_data};
 
 use crate::config::Param;
 use crate::config::rules::rules_in;
-use crate::error::{SdError, Limit, Member};
+use crate::error::{Limit, Member, SdError};
 use crate::group::Group;
 use crate::groups::groups_in;
 use crate::json::texts_in;
@@ -40,11 +40,7 @@ pub(crate) fn parts_in(alloc: Global, index: usize, entry: &Value) -> Result<Par
     })
 }
 
-fn params_in(
-    alloc: Global,
-    index: usize,
-    found: Option<&Value>,
-) -> Result<List<Param>, SdError>
+fn params_in(alloc: Global, index: usize, found: Option<&Value>) -> Result<List<Param>, SdError>
     ensures { Gives (λ p. p) result (params_said index (option_map (λ v. view v.now) found.entry)) }
 {
     let Some(value) = found else {
@@ -72,11 +68,7 @@ fn each_param(
     Ok(params)
 }
 
-fn static_in(
-    alloc: Global,
-    index: usize,
-    found: Option<&Value>,
-) -> Result<List<Group>, SdError>
+fn static_in(alloc: Global, index: usize, found: Option<&Value>) -> Result<List<Group>, SdError>
     ensures { Gives (λ g. g) result (static_said index (option_map (λ v. view v.now) found.entry)) }
 {
     match found {

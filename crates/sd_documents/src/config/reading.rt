@@ -8,9 +8,9 @@ ghost use Rattle.sd_documents.specs.Limits.{AreJobs};
 ghost use Rattle.sd_documents.specs.Config.{config_data, config_said, config_read, entries_in as entries_in_data, entries_said, listed_entries};
 
 use crate::config::Config;
-use crate::config::jobs::jobs_in;
 use crate::config::as_read::as_read_of;
-use crate::error::{SdError, Limit, Member};
+use crate::config::jobs::jobs_in;
+use crate::error::{Limit, Member, SdError};
 use crate::json::{count_of, json_in};
 use crate::limits::MOST_JOBS;
 use serde_json::Value;

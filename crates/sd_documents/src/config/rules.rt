@@ -4,7 +4,7 @@ ghost use Rattle.serde_json.specs.View.{view, items_view};
 ghost use Rattle.sd_documents.specs.Reading.{Gives};
 ghost use Rattle.sd_documents.specs.Config.{all_objects, few_rules, rules_said};
 
-use crate::error::{SdError, Limit, Member};
+use crate::error::{Limit, Member, SdError};
 use crate::json::count_of;
 use crate::limits::MOST_RULES;
 use lists::List;

@@ -5,7 +5,7 @@ ghost use Rattle.sd_documents.specs.Reading.{Gives};
 ghost use Rattle.sd_documents.specs.Config.{name_said, text_or as text_or_data, limit_said, settings_said};
 ghost use Rattle.sd_documents.specs.inner.Seen.{settings_data};
 
-use crate::error::{SdError, Member};
+use crate::error::{Member, SdError};
 use crate::json::text_in;
 use json_values::number;
 use lists::Text;
@@ -21,11 +21,7 @@ pub(crate) struct Settings {
 }
 
 #[tactic(auto, unfolding(crate::specs::Config::settings_said))]
-pub(crate) fn settings_in(
-    alloc: Global,
-    index: usize,
-    entry: &Value,
-) -> Result<Settings, SdError>
+pub(crate) fn settings_in(alloc: Global, index: usize, entry: &Value) -> Result<Settings, SdError>
     ensures { Gives settings_data result (settings_said index (view entry.now)) }
 {
     let name = name_in(alloc, index, entry.get("job_name"))?;
