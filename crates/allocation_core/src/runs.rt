@@ -7,9 +7,9 @@ ghost use Rattle.allocation_core.specs.Booked.{AllBooked};
 ghost use Rattle.allocation_core.specs.Runs.{answers_of, state_of, StopsAt};
 ghost use Rattle.fleet_events.specs.declared.event.Event.{Event};
 
-use fleet_events::{Answer, Event};
 use crate::laws::{booked_by_holders, published_are_best};
 use crate::machine::Core;
+use fleet_events::{Answer, Event};
 
 /// A run that stopped for want of memory. The core is as after the events that were answered.
 #[derive(Debug, Drop)]

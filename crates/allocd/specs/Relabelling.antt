@@ -10,8 +10,8 @@ use Rattle.label_sets.specs.Labels.{LabelList, with_label}
 use Rattle.label_sets.specs.Written.{labels_text}
 use Rattle.label_sets.specs.Target.{target_text}
 use Rattle.label_sets.specs.Finish.{finished}
-use Rattle.label_sets.specs.declared.finishing.Finished.{Finished}
-use Rattle.label_sets.specs.declared.finishing.Finished.TheVariants.{Target, NoAddress}
+use Rattle.label_sets.specs.declared.target.Finished.{Finished}
+use Rattle.label_sets.specs.declared.target.Finished.TheVariants.{Target, NoAddress}
 use Rattle.relabel.specs.Applying.{rules_said, IsRefusedFrom, relabelled}
 use Rattle.relabel.specs.declared.error.RuleError.{RuleError}
 use Rattle.relabel.specs.declared.error.RuleError.TheVariants as rule

@@ -1,5 +1,6 @@
 pub mod ChangeLemmas
 pub mod Chosen
+pub mod EnteredLemmas
 pub mod KeptLemmas
 pub mod LiveLemmas
 pub mod Marks

@@ -87,7 +87,7 @@ once_with : (known : List KnownTarget) (k : KnownTarget) (some : Bool) → list_
 once_with known k true e once = once
 once_with known k false e once = all_pairs_push (λ (a b : KnownTarget). same_known b a ≡ false) known k once (none_passes (same_known k) known e)
 
-known_once : (known : List KnownTarget) (job : ℕ) (targets : List FinalTarget) → AllPairs (λ (a b : KnownTarget). same_known b a ≡ false) known → AllPairs (λ (a b : KnownTarget). same_known b a ≡ false) (known_with known job targets)
+pub known_once : (known : List KnownTarget) (job : ℕ) (targets : List FinalTarget) → AllPairs (λ (a b : KnownTarget). same_known b a ≡ false) known → AllPairs (λ (a b : KnownTarget). same_known b a ≡ false) (known_with known job targets)
 known_once known job [] once = once
 known_once known job (t ∷ targets) once =
     let k : KnownTarget = record { job = job; target = t } in

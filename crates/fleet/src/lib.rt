@@ -10,6 +10,7 @@ mod fleet;
 mod job;
 mod jobs;
 mod known_target;
+mod laws;
 mod limits;
 mod listing;
 mod live;
@@ -22,6 +23,7 @@ pub use error::OpenError;
 pub use fleet::Fleet;
 pub use job::JobSpec;
 pub use known_target::KnownTarget;
+pub use laws::targets_are_entered;
 pub use limits::{
     LAST_COLLECTOR, MOST_BINS, MOST_COLLECTORS, MOST_JOBS, MOST_KNOWN_TARGETS, MOST_LIVE_TARGETS,
 };

@@ -6,8 +6,8 @@ use Rattle.serde_json.specs.Data.{Data}
 use Rattle.label_sets.specs.Finish.{finished}
 use Rattle.label_sets.specs.Labels.{LabelList, with_label}
 use Rattle.label_sets.specs.Target.{FinalTarget}
-use Rattle.label_sets.specs.declared.finishing.Finished.{Finished}
-use Rattle.label_sets.specs.declared.finishing.Finished.TheVariants.{Target, NoAddress}
+use Rattle.label_sets.specs.declared.target.Finished.{Finished}
+use Rattle.label_sets.specs.declared.target.Finished.TheVariants.{Target, NoAddress}
 use Rattle.sd_documents.specs.Groups.{group_said}
 use Rattle.sd_documents.specs.declared.error.Member.TheVariants.{Groups}
 use Rattle.sd_documents.specs.declared.group.Group.{Group}

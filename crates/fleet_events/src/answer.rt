@@ -131,9 +131,7 @@ impl Plain for Answer {
                     held: other_held,
                 },
             ) => {
-                *allocation == *other_allocation
-                    && *round == *other_round
-                    && held.same(other_held)
+                *allocation == *other_allocation && *round == *other_round && held.same(other_held)
             }
             (Answer::Booked, Answer::Booked) => true,
             (Answer::Not(refusal), Answer::Not(other_refusal)) => *refusal == *other_refusal,

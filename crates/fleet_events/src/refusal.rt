@@ -105,4 +105,3 @@ impl Plain for Refusal {
         *self == *other
     }
 }
-

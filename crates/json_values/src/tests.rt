@@ -1,4 +1,4 @@
-use crate::{Spelled, member, parse};
+use crate::{Spelled, member, parse, text_of};
 use lists::{List, Plain, Text};
 use std::alloc::{AllocError, Global};
 use std::process::Abort;
@@ -74,5 +74,23 @@ fn reads_texts(rt: HostRuntime) -> Result<(), &'static str> {
         return Err("no memory");
     };
     assert!(rt; read.same(&wanted));
+    Ok(())
+}
+
+/// A text without its blanks.
+fn rewritten(alloc: Global, text: &str) -> Result<Option<Text>, AllocError> {
+    match parse(alloc, text.as_bytes())? {
+        Some(value) => Ok(Some(text_of(alloc, &value)?)),
+        None => Ok(None),
+    }
+}
+
+#[test]
+fn writes_compact_texts(rt: HostRuntime) -> Result<(), &'static str> {
+    let text = " { \"b\" : [ 1 , \"\\n\" ] ,\n \"a\" : { } } ";
+    let Ok(Some(compact)) = rewritten(rt.alloc(), text) else {
+        return Err("no memory");
+    };
+    assert_eq!(rt; compact.as_str(), "{\"a\":{},\"b\":[1,\"\\n\"]}");
     Ok(())
 }

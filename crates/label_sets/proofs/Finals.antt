@@ -10,8 +10,8 @@ use Rattle.label_sets.specs.Labels.{LabelList, byte_cmp, label_text, with_label,
 use Rattle.label_sets.specs.Finish.{finished}
 use Rattle.label_sets.specs.Target.{FinalTarget, IsFinal, is_group_name, with_instance, group_labels}
 use Rattle.label_sets.specs.Laws.{LastIsPutLast, FinishesAgain}
-use Rattle.label_sets.specs.declared.finishing.Finished.{Finished}
-use Rattle.label_sets.specs.declared.finishing.Finished.TheVariants.{Target, NoAddress}
+use Rattle.label_sets.specs.declared.target.Finished.{Finished}
+use Rattle.label_sets.specs.declared.target.Finished.TheVariants.{Target, NoAddress}
 use Rattle.label_sets.proofs.Kept.{IsLabelSet-where_name, IsLabelSet-with_label}
 use Rattle.label_sets.proofs.LawProofs.{same_name, set_gives_text}
 use Rattle.label_sets.proofs.Places.{turned, is_less}

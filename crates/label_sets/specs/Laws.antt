@@ -4,7 +4,7 @@ use Rattle.label_sets.specs.Name.{is_label_name}
 use Rattle.label_sets.specs.Labels.{LabelList, label_text, without, with_label, IsLabelSet}
 use Rattle.label_sets.specs.Finish.{finished}
 use Rattle.label_sets.specs.Target.{FinalTarget, IsFinal, target_label, target_text}
-use Rattle.label_sets.specs.declared.finishing.Finished.TheVariants.{Target}
+use Rattle.label_sets.specs.declared.target.Finished.TheVariants.{Target}
 
 -- the name has the text, and every other name what it had
 pub record GivesText (old new : LabelList) (name text : List ℕ) : Type 0 where

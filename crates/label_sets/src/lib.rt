@@ -5,7 +5,6 @@
 #![tactic(auto)]
 
 mod error;
-mod finishing;
 mod group;
 mod labels;
 mod laws;
@@ -17,8 +16,7 @@ mod tests;
 mod texts;
 
 pub use error::LabelError;
-pub use finishing::{Finished, finish};
 pub use labels::Labels;
 pub use laws::{finishes_again, map_laws, text_decides};
 pub use name::{LabelName, is_label_name};
-pub use target::Target;
+pub use target::{Finished, Target, finish};

@@ -1,6 +1,7 @@
-//! Final targets.
+//! Final targets, and how a label set is finished to one.
 ghost use Rattle.std.specs.Prelude.{◌≡◌, IfOk, IsTrue};
 ghost use Rattle.serde_json.specs.View.{view};
+ghost use Rattle.label_sets.specs.Finish.{finished};
 ghost use Rattle.label_sets.specs.Target.{IsFinal, target_data, target_label, target_text};
 
 use crate::labels::Labels;
@@ -97,4 +98,26 @@ impl Plain for Target {
     fn same(&self, other: &Target) -> bool {
         self.text.same(&other.text)
     }
+}
+
+/// What a label set is finished to.
+#[derive(Debug, Drop)]
+pub enum Finished {
+    Target(Target),
+    /// There is no `__address__`.
+    NoAddress,
+}
+
+/// Finishes a label set: `instance` is set where it is missing, and a target keeps the labels of its group.
+pub fn finish(alloc: Global, labels: &Labels) -> Result<Finished, AllocError>
+    ensures { IfOk result (λ f. f ≡ finished labels.now) }
+{
+    if labels.get("__address__").is_empty() {
+        return Ok(Finished::NoAddress);
+    }
+    let address = Text::from_str(alloc, labels.get("__address__"))?;
+    let mut kept = labels.copy()?;
+    kept.add_instance()?;
+    kept.keep_group();
+    Ok(Finished::Target(Target::of_parts(alloc, kept, address)?))
 }

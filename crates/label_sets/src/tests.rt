@@ -1,5 +1,7 @@
 //! What no clause says: texts that are written, and want of memory.
-use crate::{Finished, LabelError, LabelName, Labels, finish, map_laws, text_decides};
+use crate::{
+    Finished, LabelError, LabelName, Labels, finish, finishes_again, map_laws, text_decides,
+};
 use lists::{Plain, Text};
 use std::alloc::{AllocError, Global};
 use std::process::Abort;
@@ -42,6 +44,7 @@ fn sets_and_removes(rt: HostRuntime) -> Result<(), Fail> {
 fn copies_are_the_same(rt: HostRuntime) -> Result<(), Fail> {
     map_laws();
     text_decides();
+    finishes_again();
     let name = LabelName::read(rt.alloc(), "k")?;
     assert!(rt; name.same(&name.copy()?));
     let labels = set_of(rt.alloc(), &[("__address__", "h:1"), ("k", "v")])?;
@@ -49,6 +52,8 @@ fn copies_are_the_same(rt: HostRuntime) -> Result<(), Fail> {
     assert!(rt; !labels.same(&Labels::new(rt.alloc())));
     if let Finished::Target(target) = finish(rt.alloc(), &labels)? {
         assert!(rt; target.same(&target.copy()?));
+        let group = target.to_value(rt.alloc())?.to_string(rt.alloc())?;
+        assert_eq!(rt; group.as_str(), target.text());
     }
     Ok(())
 }

@@ -1,5 +1,6 @@
 use crate::{CollectorName, NameError, Reach, ReachError};
 use label_sets::{Finished, Labels, Target, finish};
+use json_values::{Spelled, text_of};
 use lists::Plain;
 use serde_json::Value;
 use std::alloc::Global;
@@ -119,5 +120,20 @@ fn reads_names_of_1_to_128_bytes(rt: HostRuntime) -> Result<(), Fail> {
         let refusal = CollectorName::read(rt.alloc(), text).err();
         assert_eq!(rt; refusal, Some(NameError::BadName));
     }
+    Ok(())
+}
+
+#[test]
+fn writes_what_it_reads(rt: HostRuntime) -> Result<(), Fail> {
+    let alloc = rt.alloc();
+    for text in [
+        "[]",
+        "[{\"allow\":false,\"label\":\"zone\",\"test\":\"present\"},{\"allow\":true,\"label\":\"zone\",\"test\":\"equals\",\"value\":\"\"},{\"allow\":true,\"test\":\"any\"}]",
+    ] {
+        let value = reach_of(alloc, text)?.write(alloc)?;
+        assert_eq!(rt; text_of(alloc, &value)?.as_str(), text);
+    }
+    let name = CollectorName::read(alloc, "a")?.write(alloc)?;
+    assert_eq!(rt; text_of(alloc, &name)?.as_str(), "\"a\"");
     Ok(())
 }

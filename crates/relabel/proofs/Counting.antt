@@ -3,8 +3,8 @@ use Rattle.std.proofs.Common.{◌≡◌, ℕ, ◌+◌, List, [], ◌∷◌, leng
 use Rattle.std.proofs.lemmas.List.Sums.{sum_by-cons}
 use Rattle.std.specs.Prelude.{sum_by}
 use Rattle.label_sets.specs.Finish.{finished}
-use Rattle.label_sets.specs.declared.finishing.Finished.{Finished}
-use Rattle.label_sets.specs.declared.finishing.Finished.TheVariants.{Target, NoAddress}
+use Rattle.label_sets.specs.declared.target.Finished.{Finished}
+use Rattle.label_sets.specs.declared.target.Finished.TheVariants.{Target, NoAddress}
 use Rattle.sd_documents.specs.FirstLabels.{first_labels}
 use Rattle.sd_documents.specs.declared.config.Job.{Job}
 use Rattle.sd_documents.specs.declared.group.Group.{Group}

@@ -1,8 +1,8 @@
 -- What is made of the targets of a job's groups: the first labels of each, the rules, and what is finished of them.
 use Rattle.std.specs.Prelude.{ℕ, ◌+◌, List, [], ◌∷◌, ◌++◌, length}
 use Rattle.label_sets.specs.Finish.{finished}
-use Rattle.label_sets.specs.declared.finishing.Finished.{Finished}
-use Rattle.label_sets.specs.declared.finishing.Finished.TheVariants.{Target, NoAddress}
+use Rattle.label_sets.specs.declared.target.Finished.{Finished}
+use Rattle.label_sets.specs.declared.target.Finished.TheVariants.{Target, NoAddress}
 use Rattle.sd_documents.specs.FirstLabels.{first_labels}
 use Rattle.sd_documents.specs.declared.config.Job.{Job}
 use Rattle.sd_documents.specs.declared.group.Group.{Group}

@@ -1,3 +1,4 @@
+//! The actions of rules, and their names.
 ghost use Rattle.std.specs.Prelude.{◌≡◌};
 ghost use Rattle.relabel.specs.Spelling.{action_named as action_of, names_its_target as names_target, needs_target as needs, is_hash_mod};
 

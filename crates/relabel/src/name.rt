@@ -1,3 +1,4 @@
+//! Whether a text is a label name.
 ghost use Rattle.std.specs.Prelude.{◌≡◌, IfOk};
 ghost use Rattle.label_sets.specs.Name.{is_label_name as is_name};
 

@@ -1,3 +1,4 @@
+//! Rules as JSON, and what they make of labels.
 mod acting;
 mod finding;
 mod reading;

@@ -1,3 +1,4 @@
+//! A replay is a run of the machine.
 ghost use Rattle.replay_lines.specs.AsRuns.{ReplaysAreRuns};
 
 use allocation_core::{booked_by_holders, published_are_best};

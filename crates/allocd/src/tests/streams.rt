@@ -74,50 +74,43 @@ fn reads_ten_thousand_bytes_one_by_one(rt: HostRuntime) -> Result<(), Fail> {
     ends(&rt, rt.alloc(), "check", &mut reader, BEST, Status::Done)
 }
 
-/// Gives a text, and then so many blanks.
+/// Gives so many bytes, whatever they are.
 #[derive(Drop)]
-struct Padded<'a> {
-    rest: &'a [u8],
-    blanks: usize,
-}
+struct Gives(usize);
 
-impl Read for Padded<'_> {
+impl Read for Gives {
     fn read(&mut self, buf: &mut [u8]) -> io::Result<usize> {
-        if !self.rest.is_empty() {
-            return self.rest.read(buf);
-        }
-        let count = self.blanks.min(buf.len());
-        buf[..count].fill(b' ');
-        self.blanks -= count;
+        let count = self.0.min(buf.len());
+        self.0 -= count;
         Ok(count)
     }
 }
 
-/// One byte past the limit of 64 MiB.
-#[test]
-fn an_input_past_the_limit_is_too_long(rt: HostRuntime) -> Result<(), Fail> {
-    let rest = CERTIFICATE.as_bytes();
-    let blanks = 67108865 - rest.len();
-    for word in COMMANDS {
-        let mut reader = Padded { rest, blanks };
-        ends(
-            &rt,
-            rt.alloc(),
-            word,
-            &mut reader,
-            "unreadable TooLong\n",
-            Status::Unreadable,
-        )?;
-    }
-    Ok(())
-}
+/// The most bytes that a program takes.
+const LIMIT: usize = 67108864;
 
 #[test]
 fn reads_as_many_bytes_as_the_limit(rt: HostRuntime) -> Result<(), Fail> {
-    let rest = CERTIFICATE.as_bytes();
-    let blanks = 67108864 - rest.len();
-    let mut reader = Padded { rest, blanks };
-    ends(&rt, rt.alloc(), "check", &mut reader, BEST, Status::Done)
+    let text = "unreadable NotJson\n";
+    let mut reader = Gives(LIMIT);
+    ends(
+        &rt,
+        rt.alloc(),
+        "check",
+        &mut reader,
+        text,
+        Status::Unreadable,
+    )
+}
+
+#[test]
+fn an_input_past_the_limit_is_too_long(rt: HostRuntime) -> Result<(), Fail> {
+    let text = "unreadable TooLong\n";
+    for word in COMMANDS {
+        let mut reader = Gives(LIMIT + 1);
+        ends(&rt, rt.alloc(), word, &mut reader, text, Status::Unreadable)?;
+    }
+    Ok(())
 }
 
 /// Takes one byte a write, fails at one of them, and counts the writes behind it.

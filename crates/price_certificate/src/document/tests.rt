@@ -1,4 +1,5 @@
 use crate::{DocumentError, Instance, Plan, read_document, read_instance, write_document};
+use json_values::{Spelled, text_of};
 use lists::{List, Plain};
 use std::alloc::{AllocError, Global};
 use std::process::Abort;
@@ -117,5 +118,17 @@ fn names_what_is_no_document(rt: HostRuntime) -> Result<(), Fail> {
     let triple =
         "{\"before\":[],\"bin_prices\":[],\"bins\":[],\"item_prices\":[],\"pairs\":[[0,0,0]],\"reach\":[],\"version\":1}";
     assert!(rt; is_shape(&rt, rt.alloc(), triple)?);
+    Ok(())
+}
+
+#[test]
+fn writes_a_plan_alone(rt: HostRuntime) -> Result<(), Fail> {
+    let value = plan_of_one(rt.alloc())?.write(rt.alloc())?;
+    assert_eq!(rt;
+        text_of(rt.alloc(), &value)?.as_str(),
+        "{\"bin_prices\":[3],\"item_prices\":[1,0],\"pairs\":[[0,0]]}"
+    );
+    let plan = Plan::read(rt.alloc(), &value)?.ok_or("no plan")?;
+    assert!(rt; is_plan_of_one(rt.alloc(), &plan)?);
     Ok(())
 }

@@ -1,3 +1,4 @@
+//! What each action does, and what patterns match.
 use crate::tests::told;
 use std::alloc::Global;
 use std::process::Abort;

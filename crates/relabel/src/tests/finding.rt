@@ -1,3 +1,4 @@
+//! The targets that a job's groups make.
 use crate::tests::rules_in;
 use crate::{Found, Rules};
 use lists::List;

@@ -1,3 +1,4 @@
+//! Rules that are refused.
 use crate::tests::told;
 use std::alloc::Global;
 use std::process::Abort;

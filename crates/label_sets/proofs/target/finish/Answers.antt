@@ -3,7 +3,7 @@ use Rattle.std.specs.Prelude.{codes}
 use Rattle.std.specs.Str.{bytes_eq}
 use Rattle.label_sets.specs.Labels.{label_text}
 use Rattle.label_sets.proofs.Finals.{is_final}
-use Rattle.label_sets.proofs.finishing.finish.Goals as goal
+use Rattle.label_sets.proofs.target.finish.Goals as goal
 
 pub of_parts-requires : goal.of_parts-requires
 of_parts-requires c =

@@ -1,0 +1,8 @@
+//! What calls both the engine and the machine. So far the step of one thread: a plan for the moment is searched and installed.
+#![tactic(auto)]
+
+mod reallocation;
+#[cfg(test)]
+mod tests;
+
+pub use reallocation::reallocate;
