@@ -4,7 +4,7 @@ ghost use Rattle.relabel.specs.Discovering.{discovered};
 ghost use Rattle.bench_programs.specs.Found.{IsFoundIn, IsFoundOf, IsFoundFor};
 
 use relabel::{Found, RuleError, Rules};
-use sd_documents::{Config, DocumentError, Job, read_config};
+use sd_documents::{Config, Job, SdError, read_config};
 use std::alloc::{AllocError, Global};
 
 /// What is found in the static groups of the configuration's first job, looked for anew in each round. Nothing where the
@@ -14,7 +14,7 @@ pub fn found_in(alloc: Global, bytes: &[u8], rounds: u32) -> Result<Option<Found
 {
     match read_config(alloc, bytes) {
         Ok(config) => found_of(alloc, &config, rounds),
-        Err(DocumentError::Memory) => Err(AllocError),
+        Err(SdError::Memory) => Err(AllocError),
         Err(_) => Ok(None),
     }
 }
