@@ -2,6 +2,7 @@ use crate::{Spelled, member, parse, text_of};
 use lists::{List, Plain, Text};
 use std::alloc::{AllocError, Global};
 use std::process::Abort;
+use std::test::Fail;
 
 /// The pairs of the member `pairs`.
 fn pairs(alloc: Global, text: &str) -> Result<Option<List<(u32, u32)>>, AllocError> {
@@ -77,20 +78,21 @@ fn reads_texts(rt: HostRuntime) -> Result<(), &'static str> {
     Ok(())
 }
 
-/// A text without its blanks.
-fn rewritten(alloc: Global, text: &str) -> Result<Option<Text>, AllocError> {
+/// Whether a text is written so again.
+fn is_rewritten(alloc: Global, text: &str, compact: &str) -> Result<bool, AllocError> {
     match parse(alloc, text.as_bytes())? {
-        Some(value) => Ok(Some(text_of(alloc, &value)?)),
-        None => Ok(None),
+        Some(value) => {
+            let written = text_of(alloc, &value)?;
+            Ok(written.as_str() == compact)
+        }
+        None => Ok(false),
     }
 }
 
 #[test]
-fn writes_compact_texts(rt: HostRuntime) -> Result<(), &'static str> {
+fn writes_compact_texts(rt: HostRuntime) -> Result<(), Fail> {
     let text = " { \"b\" : [ 1 , \"\\n\" ] ,\n \"a\" : { } } ";
-    let Ok(Some(compact)) = rewritten(rt.alloc(), text) else {
-        return Err("no memory");
-    };
-    assert_eq!(rt; compact.as_str(), "{\"a\":{},\"b\":[1,\"\\n\"]}");
+    let compact = "{\"a\":{},\"b\":[1,\"\\n\"]}";
+    assert!(rt; is_rewritten(rt.alloc(), text, compact)?);
     Ok(())
 }
