@@ -4,3 +4,4 @@ pub mod Sweeping
 pub mod Fitting
 pub mod Inputs
 pub mod Counting
+pub mod DefaultLemmas

@@ -6,3 +6,4 @@ pub mod Effect
 pub mod Expanding
 pub mod Applying
 pub mod Discovering
+pub mod Defaults
