@@ -13,4 +13,4 @@ is_found bytes config (Ok None) said h = tt
 is_found bytes config (Err e) said h = tt
 
 pub returns-in-Ok : goal.returns-in-Ok
-returns-in-Ok c = is_found _ _ _ c.in-Ok.ensures.said c.found_of.ensures
+returns-in-Ok c = is_found _ c.in-Ok.config _ c.in-Ok.ensures.said c.found_of.ensures
