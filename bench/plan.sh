@@ -8,6 +8,7 @@ root=$(cd "$(dirname "$0")/.." && pwd)
 folder=$(mktemp -d)
 trap 'rm -rf "$folder"' EXIT
 runs=${RUNS:-3}
+patience=20
 c++ -O3 -o "$folder/lemon" "$root/bench/lemon.cpp" -llemon
 "$root/allocd" check < "$root/examples/one-of-two.json" > /dev/null
 (cd "$root/crates/plan_work" && rt run < stdin > /dev/null 2>&1)
@@ -18,6 +19,19 @@ families=("$@")
 # least seconds and most megabytes of the runs of a command on a file
 measure() {
     python3 "$root/bench/measure.py" "$1" "$runs" "${@:2}"
+}
+
+# least seconds of LEMON on the instance, whose verdict has to be this one, or that it takes too long
+lemon_seconds() {
+    local said seconds
+    said=$(timeout "$patience" "$folder/lemon" "$1" < "$folder/instance" | head -1)
+    if [ -z "$said" ]; then
+        echo "over $patience"
+        return
+    fi
+    [ "best $said" = "$2" ] || { echo "LEMON says $said, check $2" >&2; exit 1; }
+    read -r seconds _ < <(measure "$folder/instance" "$folder/lemon" "$1")
+    echo "$seconds"
 }
 
 ratio() {
@@ -33,12 +47,8 @@ for family in "${families[@]}"; do
     work=$("$root/crates/plan_work/out/plan_work" < "$folder/instance")
     read -r seconds memory < <(measure "$folder/instance" "$root/crates/allocd/out/allocd" plan)
     read -r check_seconds _ < <(measure "$folder/plan" "$root/crates/allocd/out/allocd" check)
-    for way in simplex scaling; do
-        said=$("$folder/lemon" "$way" < "$folder/instance" | head -1)
-        [ "best $said" = "$verdict" ] || { echo "LEMON says $said, check $verdict" >&2; exit 1; }
-    done
-    read -r simplex _ < <(measure "$folder/instance" "$folder/lemon" simplex)
-    read -r scaling _ < <(measure "$folder/instance" "$folder/lemon" scaling)
+    simplex=$(lemon_seconds simplex "$verdict")
+    scaling=$(lemon_seconds scaling "$verdict")
     echo "| $family | $seconds | $memory | $work | $check_seconds | $(ratio "$seconds" "$check_seconds") | $simplex | $scaling |" \
-        "$(ratio "$seconds" "min($simplex, $scaling)") | $verdict |"
+        "$(ratio "$seconds" "min(${simplex/over /}, ${scaling/over /})") | $verdict |"
 done
