@@ -1,6 +1,6 @@
 use crate::{CollectorName, NameError, Reach, ReachError};
-use label_sets::{Finished, Labels, Target, finish};
 use json_values::{Spelled, text_of};
+use label_sets::{Finished, Labels, Target, finish};
 use lists::Plain;
 use serde_json::Value;
 use std::alloc::Global;
