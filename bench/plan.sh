@@ -5,13 +5,13 @@
 # usage: bench/plan.sh [FAMILY..]      (RUNS=3 in the environment says how many runs)
 set -eu
 root=$(cd "$(dirname "$0")/.." && pwd)
+. "$root/bench/programs.sh"
+programs=$(bench_programs)
 folder=$(mktemp -d)
 trap 'rm -rf "$folder"' EXIT
 runs=${RUNS:-3}
 patience=20
 c++ -O3 -o "$folder/lemon" "$root/bench/lemon.cpp" -llemon
-"$root/allocd" check < "$root/examples/one-of-two.json" > /dev/null
-(cd "$root/crates/plan_work" && rt run < stdin > /dev/null 2>&1)
 families=("$@")
 [ $# -gt 0 ] || families=(ring ring-less dense dense-before dense-one fleet sparse sparse-before sparse-long sparse-long-before
     chain crowd gate gate-few stairs stairs-steps flat ladder)
@@ -42,11 +42,11 @@ echo "| family | plan, seconds | MB at the most | work | check, seconds | plan /
 echo "|---|---|---|---|---|---|---|---|---|---|"
 for family in "${families[@]}"; do
     python3 "$root/bench/instances.py" "$family" > "$folder/instance"
-    "$root/crates/allocd/out/allocd" plan < "$folder/instance" > "$folder/plan"
-    verdict=$("$root/crates/allocd/out/allocd" check < "$folder/plan")
-    work=$("$root/crates/plan_work/out/plan_work" < "$folder/instance")
-    read -r seconds memory < <(measure "$folder/instance" "$root/crates/allocd/out/allocd" plan)
-    read -r check_seconds _ < <(measure "$folder/plan" "$root/crates/allocd/out/allocd" check)
+    "$allocd" plan < "$folder/instance" > "$folder/plan"
+    verdict=$("$allocd" check < "$folder/plan")
+    work=$("$programs" plan < "$folder/instance")
+    read -r seconds memory < <(measure "$folder/instance" "$allocd" plan)
+    read -r check_seconds _ < <(measure "$folder/plan" "$allocd" check)
     simplex=$(lemon_seconds simplex "$verdict")
     scaling=$(lemon_seconds scaling "$verdict")
     echo "| $family | $seconds | $memory | $work | $check_seconds | $(ratio "$seconds" "$check_seconds") | $simplex | $scaling |" \

@@ -12,8 +12,8 @@ use Rattle.label_sets.specs.Target.{FinalTarget, IsFinal, target_data}
 use Rattle.label_sets.specs.Written.{label_members}
 use Rattle.sd_documents.specs.Reading.{◌>>=◌}
 use Rattle.sd_documents.specs.Groups.{labels_from, group_said}
-use Rattle.sd_documents.specs.declared.error.DocumentError.{DocumentError}
-use Rattle.sd_documents.specs.declared.error.DocumentError.TheVariants.{BadLabelName}
+use Rattle.sd_documents.specs.declared.error.SdError.{SdError}
+use Rattle.sd_documents.specs.declared.error.SdError.TheVariants.{BadLabelName}
 use Rattle.sd_documents.specs.declared.error.Member.TheVariants.{Groups}
 use Rattle.sd_documents.specs.declared.group.Group.{Group}
 use Rattle.fleet_events.specs.Targets.{filled_text, finished_target, target_at, target_of, target_in}
@@ -31,7 +31,7 @@ labels_back last front (l ∷ rest) set =
     rw named (ap (λ (ls : LabelList). labels_from 0 Groups ls (label_members rest)) (last front rest l.0 l.1 set)
     ∙ labels_back last (front ++ l ∷ []) rest (subst IsLabelSet (sym split) set) ∙ ap Ok split)
 
-with_labels : List ℕ → Result LabelList DocumentError → Result Group DocumentError
+with_labels : List ℕ → Result LabelList SdError → Result Group SdError
 with_labels address r = r >>= λ labels. Ok (record { targets = address ∷ []; labels = labels })
 
 group_back : LastIsPutLast → (target : FinalTarget) → IsLabelSet target.labels → group_said 0 Groups (target_data target) ≡ Ok (record { targets = target.address ∷ []; labels = target.labels })
@@ -45,6 +45,6 @@ filled_back (b ∷ bs) some = refl
 pub target_back : LastIsPutLast → FinishesAgain → (target : FinalTarget) → IsFinal target → target_in (target_data target) ≡ Some target
 unfolding target_in
 target_back last again target final =
-    ap (λ (r : Result Group DocumentError). option_and_then target_of (result_ok r)) (group_back last target final.labels)
+    ap (λ (r : Result Group SdError). option_and_then target_of (result_ok r)) (group_back last target final.labels)
     ∙ ap (option_and_then (target_at target.labels)) (filled_back target.address final.address)
     ∙ ap finished_target (again target final)

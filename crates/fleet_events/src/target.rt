@@ -7,7 +7,7 @@ ghost use Rattle.fleet_events.specs.Reading.{targets_in};
 
 use label_sets::{Finished, Labels, Target, finish};
 use lists::{List, Text};
-use sd_documents::{DocumentError, Group, read_group};
+use sd_documents::{Group, SdError, read_group};
 use serde_json::Value;
 use std::alloc::{AllocError, Global};
 
@@ -50,7 +50,7 @@ fn read_one_group(alloc: Global, value: &Value) -> Result<Option<Group>, AllocEr
 {
     match read_group(alloc, value) {
         Ok(group) => Ok(Some(group)),
-        Err(DocumentError::Memory) => Err(AllocError),
+        Err(SdError::Memory) => Err(AllocError),
         Err(_) => Ok(None),
     }
 }

@@ -6,7 +6,7 @@ ghost use Rattle.replay_lines.specs.Configurations.{spec_of as spec_of_data, job
 
 use allocation_core::{Core, JobSpec, OpenError};
 use lists::Plain;
-use sd_documents::{DocumentError, Job, read_config};
+use sd_documents::{Job, SdError, read_config};
 use std::alloc::{AllocError, Global};
 
 /// The allocator that the document of a configuration opens.
@@ -36,7 +36,7 @@ fn jobs_in(alloc: Global, line: &[u8]) -> Result<Option<Vec<JobSpec>>, AllocErro
 {
     match read_config(alloc, line) {
         Ok(config) => Ok(Some(specs_of(alloc, config.jobs.as_slice())?)),
-        Err(DocumentError::Memory) => Err(AllocError),
+        Err(SdError::Memory) => Err(AllocError),
         Err(_) => Ok(None),
     }
 }

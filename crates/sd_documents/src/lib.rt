@@ -19,7 +19,7 @@ mod tests;
 mod written;
 
 pub use config::{Config, Job, Param, read_config, scrape_configs_text};
-pub use error::{Limit, Member, SdError, SdError as DocumentError};
+pub use error::{Limit, Member, SdError};
 pub use group::Group;
 pub use groups::{read_group, read_groups};
 pub use labelling::first_labels;
