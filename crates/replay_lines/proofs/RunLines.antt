@@ -9,7 +9,7 @@ use Rattle.allocation_core.specs.Runs.{answers_of}
 use Rattle.allocation_core.specs.Best.{AlwaysBest}
 use Rattle.allocation_core.specs.Booked.{AlwaysBooked}
 use Rattle.fleet_events.specs.declared.event.Event.{Event}
-use Rattle.allocation_core.specs.declared.job.JobSpec.{JobSpec}
+use Rattle.fleet.specs.declared.job.JobSpec.{JobSpec}
 use Rattle.replay_lines.specs.Configurations.{opened}
 use Rattle.fleet_events.specs.Reading.{event_of}
 use Rattle.replay_lines.specs.Replays.{Written, answered, answered_line, total_line, unreadable_at, unreadable_line, written_from, written_by, replay_of}

@@ -9,7 +9,7 @@ use Rattle.allocation_core.specs.Best.{AllBest}
 use Rattle.allocation_core.specs.Booked.{AllBooked}
 use Rattle.fleet_events.specs.declared.answer.Answer.{Answer}
 use Rattle.fleet_events.specs.declared.event.Event.{Event}
-use Rattle.allocation_core.specs.declared.job.JobSpec.{JobSpec}
+use Rattle.fleet.specs.declared.job.JobSpec.{JobSpec}
 use Rattle.replay_lines.specs.Configurations.{opened}
 use Rattle.replay_lines.specs.Replays.{Written, answered_line, total_line, written_by, lines_in}
 use Rattle.replay_lines.specs.declared.run.Ended.TheVariants.{Done}

@@ -2,9 +2,9 @@
 use Rattle.std.specs.Prelude.{ℕ, ◌+◌, List, length, map, Option, Some, None, option_map, option_and_then, if◌then◌else◌}
 use Rattle.std.specs.Result.{result_ok}
 use Rattle.sd_documents.specs.Config.{ConfigData, JobData, config_read}
-use Rattle.allocation_core.specs.Jobs.{are_jobs}
+use Rattle.fleet.specs.Jobs.{are_jobs}
 use Rattle.allocation_core.specs.State.{State, first_state}
-use Rattle.allocation_core.specs.declared.job.JobSpec.{JobSpec}
+use Rattle.fleet.specs.declared.job.JobSpec.{JobSpec}
 
 -- A job has one source for its static groups, and one for each URL of its service discovery by HTTP.
 abbrev pub spec_of : JobData → JobSpec

@@ -4,7 +4,8 @@ ghost use Rattle.sd_documents.specs.Config.{job_data};
 ghost use Rattle.sd_documents.specs.Limits.{IsWithinLimits};
 ghost use Rattle.replay_lines.specs.Configurations.{spec_of as spec_of_data, jobs_in as jobs_said, opened, opened_with};
 
-use allocation_core::{Core, JobSpec, OpenError};
+use allocation_core::Core;
+use fleet::{JobSpec, OpenError};
 use lists::Plain;
 use sd_documents::{Job, SdError, read_config};
 use std::alloc::{AllocError, Global};
