@@ -1,17 +1,16 @@
 -- An event as it is written has no float and few levels, so its text is known and reads back.
-use Rattle.std.proofs.Common.{◌≡◌, ◌≤◌, ℕ, false, List, [], ◌∷◌, refl, arith}
+use Rattle.std.proofs.Common.{◌≡◌, ◌≤◌, ℕ, false, [], ◌∷◌, refl, arith}
 use Rattle.std.proofs.Math.Nat.{max-le}
 use Rattle.std.proofs.lemmas.Bool.{or_from}
 use Rattle.serde_json.specs.Data.{depth, members_depth}
 use Rattle.serde_json.specs.Read.{max_depth}
 use Rattle.serde_json.specs.Written.{has_float, members_have_float}
-use Rattle.json_values.specs.Spelling.{number_data, pair_data, list_data}
+use Rattle.json_values.specs.Spelling.{number_data, pair_data}
 use Rattle.json_values.proofs.Lists.{no_float, levels}
 use Rattle.label_sets.specs.Labels.{LabelList}
 use Rattle.label_sets.specs.Target.{FinalTarget, target_data}
 use Rattle.label_sets.specs.Written.{label_members}
-use Rattle.reach_rules.specs.Spelling.{rule_data, rule_data_of, reach_data}
-use Rattle.reach_rules.specs.declared.rule.ReachRule.{ReachRule}
+use Rattle.reach_rules.specs.Spelling.{rule_data, rule_data_of}
 use Rattle.reach_rules.specs.declared.rule.ReachTest.{ReachTest}
 use Rattle.reach_rules.specs.declared.rule.ReachTest.TheVariants.{Any, Present, Equals}
 use Rattle.scrape_books.specs.declared.report.Outcome.{Outcome}

@@ -1,19 +1,17 @@
 -- A target's group is read as the target.
-use Rattle.std.proofs.Common.{◌≡◌, ℕ, Bool, true, false, cond, List, [], ◌∷◌, ◌++◌, Option, Some, None, Result, Ok, Err, refl, sym, ap, subst, ◌∙◌, append_assoc, append-nil}
-use Rattle.std.specs.Prelude.{codes, option_and_then, if◌then◌else◌}
+use Rattle.std.proofs.Common.{◌≡◌, ℕ, true, List, [], ◌∷◌, ◌++◌, Some, Result, Ok, refl, sym, ap, subst, ◌∙◌, append_assoc, append-nil}
+use Rattle.std.specs.Prelude.{option_and_then}
 use Rattle.std.specs.Result.{result_ok}
 use Rattle.std.specs.List.{list_all}
-use Rattle.std.specs.Str.{bytes_eq}
 use Rattle.std.proofs.lemmas.Bool.{and_parts}
 use Rattle.label_sets.specs.Name.{is_label_name}
-use Rattle.label_sets.specs.Labels.{LabelList, with_label, is_some_text, IsLabelSet}
+use Rattle.label_sets.specs.Labels.{LabelList, is_some_text, IsLabelSet}
 use Rattle.label_sets.specs.Laws.{LastIsPutLast, FinishesAgain}
 use Rattle.label_sets.specs.Target.{FinalTarget, IsFinal, target_data}
 use Rattle.label_sets.specs.Written.{label_members}
 use Rattle.sd_documents.specs.Reading.{◌>>=◌}
 use Rattle.sd_documents.specs.Groups.{labels_from, group_said}
 use Rattle.sd_documents.specs.declared.error.SdError.{SdError}
-use Rattle.sd_documents.specs.declared.error.SdError.TheVariants.{BadLabelName}
 use Rattle.sd_documents.specs.declared.error.Member.TheVariants.{Groups}
 use Rattle.sd_documents.specs.declared.group.Group.{Group}
 use Rattle.fleet_events.specs.Targets.{filled_text, finished_target, target_at, target_of, target_in}
