@@ -2,7 +2,5 @@
 #![tactic(auto)]
 
 mod reallocation;
-#[cfg(test)]
-mod tests;
 
 pub use reallocation::reallocate;
