@@ -1,5 +1,5 @@
 -- The form in which a document is written: it has no float and few levels, so its text is known and reads back.
-use Rattle.std.proofs.Common.{◌≡◌, ◌≤◌, ℕ, false, List, Some, Result, Ok, Err, Vec, Global, IfOk, IsUtf8, refl, sym, ap, subst, ◌∙◌, arith}
+use Rattle.std.proofs.Common.{◌≡◌, ◌+◌, ◌≤◌, ℕ, false, List, Some, Result, Ok, Err, Vec, Global, IfOk, IsUtf8, refl, sym, ap, subst, ◌∙◌, arith}
 use Rattle.std.proofs.lemmas.Bool.{or_from}
 use Rattle.std.specs.declared.alloc.AllocError.{AllocError}
 use Rattle.serde_json.specs.Data.{Data, depth}
@@ -8,21 +8,35 @@ use Rattle.serde_json.specs.Written.{has_float, compact_text}
 use Rattle.json_values.proofs.Lists.{no_float, levels}
 use Rattle.json_values.proofs.Texts.{json_of-text}
 use Rattle.price_certificate.specs.Problem.{Problem}
+use Rattle.price_certificate.specs.declared.version.Version.{Version}
+use Rattle.price_certificate.specs.declared.version.Version.TheVariants.{One, Two}
 use Rattle.json_values.specs.Spelling.{number_data, pair_data, list_data}
-use Rattle.price_certificate.specs.Document.{pairs_from, document_data, SpellsInstance, SpellsPlan, IsDocument}
+use Rattle.price_certificate.specs.Document.{pairs_from, marked_from, object_of, document_data, SpellsInstance, SpellsPlan, IsDocument}
+
+no_float_by : (version : Version) (before bin_prices bins draining item_prices pairs reach : Data) → has_float before ≡ false → has_float bin_prices ≡ false → has_float bins ≡ false → has_float draining ≡ false → has_float item_prices ≡ false → has_float pairs ≡ false → has_float reach ≡ false → has_float (object_of version before bin_prices bins draining item_prices pairs reach) ≡ false
+no_float_by One before bin_prices bins draining item_prices pairs reach a b c d e f g = or_from _ _ a (or_from _ _ b (or_from _ _ c (or_from _ _ e (or_from _ _ f (or_from _ _ g refl)))))
+no_float_by Two before bin_prices bins draining item_prices pairs reach a b c d e f g = or_from _ _ a (or_from _ _ b (or_from _ _ c (or_from _ _ d (or_from _ _ e (or_from _ _ f (or_from _ _ g refl))))))
+
+levels_by : (version : Version) (before bin_prices bins draining item_prices pairs reach : Data) (n : ℕ) → depth before ≤ n → depth bin_prices ≤ n → depth bins ≤ n → depth draining ≤ n → depth item_prices ≤ n → depth pairs ≤ n → depth reach ≤ n → depth (object_of version before bin_prices bins draining item_prices pairs reach) ≤ n + 1
+levels_by One before bin_prices bins draining item_prices pairs reach n a b c d e f g = omega (arith, a, b, c, e, f, g)
+levels_by Two before bin_prices bins draining item_prices pairs reach n a b c d e f g = omega (arith, a, b, c, d, e, f, g)
 
 pub has_float-document_data : (p : Problem) (pairs : List (ℕ × ℕ)) (item_prices bin_prices : List ℕ) → has_float (document_data p pairs item_prices bin_prices) ≡ false
 has_float-document_data p pairs item_prices bin_prices =
     let numbers = no_float number_data (λ n. refl) in
     let both = no_float pair_data (λ q. refl) in
-    or_from _ _ (both (pairs_from 0 p.before)) (or_from _ _ (numbers bin_prices) (or_from _ _ (numbers p.limits) (or_from _ _ (numbers item_prices) (or_from _ _ (both pairs) (or_from _ _ (no_float (list_data number_data) numbers p.rows) refl)))))
+    no_float_by p.version _ _ _ _ _ _ _ (both (pairs_from 0 p.before)) (numbers bin_prices) (numbers p.limits) (numbers (marked_from 0 p.draining)) (numbers item_prices) (both pairs) (no_float (list_data number_data) numbers p.rows)
 
 pub depth-document_data : (p : Problem) (pairs : List (ℕ × ℕ)) (item_prices bin_prices : List ℕ) → depth (document_data p pairs item_prices bin_prices) ≤ max_depth
 depth-document_data p pairs item_prices bin_prices =
     let numbers = levels number_data 0 (λ n. omega arith) in
     let both = levels pair_data 1 (λ q. omega arith) in
     let rows = levels (list_data number_data) 1 (λ row. omega (arith, levels number_data 0 (λ n. omega arith) row)) p.rows in
-    omega (arith, both (pairs_from 0 p.before), numbers bin_prices, numbers p.limits, numbers item_prices, both pairs, rows)
+    let low = λ (xs : List ℕ). (let r : depth (list_data number_data xs) ≤ 2 = omega (arith, numbers xs) in r) in
+    let two = λ (qs : List (ℕ × ℕ)). (let r : depth (list_data pair_data qs) ≤ 2 = omega (arith, both qs) in r) in
+    let table : depth (list_data (list_data number_data) p.rows) ≤ 2 = omega (arith, rows) in
+    let most = levels_by p.version (list_data pair_data (pairs_from 0 p.before)) (list_data number_data bin_prices) (list_data number_data p.limits) (list_data number_data (marked_from 0 p.draining)) (list_data number_data item_prices) (list_data pair_data pairs) (list_data (list_data number_data) p.rows) 2 (two (pairs_from 0 p.before)) (low bin_prices) (low p.limits) (low (marked_from 0 p.draining)) (low item_prices) (two pairs) table in
+    omega (arith, most)
 
 -- the text of what has the form
 pub text_of_form : (b : List ℕ) (p : Problem) (pairs : List (ℕ × ℕ)) (item_prices bin_prices : List ℕ) (d : Data) → d ≡ document_data p pairs item_prices bin_prices → (has_float d ≡ false → b ≡ compact_text d) → b ≡ compact_text (document_data p pairs item_prices bin_prices)

@@ -1,12 +1,16 @@
 -- What an instance keeps of the pairs before, as a list in order of items.
-use Rattle.std.proofs.Common.{◌≡◌, ℕ, zero, suc, cond, eqb, ◌+◌, ◌<◌, ◌≤◌, Bool, true, false, List, [], ◌∷◌, Option, Some, None, All, inl, inr, length, get_or, count_by, refl, sym, ◌∙◌, arith}
-use Rattle.std.proofs.lemmas.List.Elements.{All-nil, All-cons}
+use Rattle.std.proofs.Common.{◌≡◌, ℕ, zero, suc, cond, eqb, ◌+◌, ◌<◌, ◌≤◌, ◌||◌, Bool, true, false, List, [], ◌∷◌, Option, Some, None, All, inl, inr, length, get_or, count_by, refl, sym, ap, subst, ◌∙◌, arith}
+use Rattle.std.specs.List.{list_any}
+use Rattle.std.specs.List.Sorted.{IsStrictlyIncreasing}
+use Rattle.std.proofs.lemmas.List.Elements.{All-nil, All-cons, All-weaker, All-get_or}
 use Rattle.std.proofs.lemmas.List.Sums.{sum_by-cons}
-use Rattle.std.proofs.lemmas.Bool.{cases_eq, eq-eqb, ne_eqb}
+use Rattle.std.proofs.lemmas.Bool.{cases_eq, eq-eqb, ne_eqb, or_from}
 use Rattle.serde_json.specs.Data.{Data}
-use Rattle.price_certificate.specs.Problem.{Problem, IsProblem, IsPreceding, bin_in, items_of, bins_of}
+use Rattle.price_certificate.specs.Problem.{Problem, IsProblem, IsRow, IsPlaced, IsPreceding, bin_in, items_of, bins_of}
+use Rattle.price_certificate.specs.declared.version.Version.{Version}
+use Rattle.price_certificate.specs.declared.version.Version.TheVariants.{One, Two}
 use Rattle.json_values.specs.Spelling.{number_in, pair_in, list_in}
-use Rattle.price_certificate.specs.Document.{pairs_from, object_of, SpellsInstance}
+use Rattle.price_certificate.specs.Document.{pairs_from, marked_from, object_of, SpellsInstance}
 
 chosen_not : (b : Bool) (x : ℕ) (rest : Option ℕ) → b ≡ false → cond b (Some x) rest ≡ rest
 chosen_not true x rest e = cc
@@ -76,13 +80,73 @@ preceding p h = record {
   once = once-pairs_from 0 p.before;
 }
 
--- an object with the members of an instance spells it
-pub spells_instance : (p : Problem) (before bin_prices bins item_prices pairs reach : Data) → IsProblem p → list_in pair_in before ≡ Some (pairs_from 0 p.before) → list_in number_in bins ≡ Some p.limits → list_in (list_in number_in) reach ≡ Some p.rows → SpellsInstance (object_of before bin_prices bins item_prices pairs reach) p
-spells_instance p before bin_prices bins item_prices pairs reach h b l r = record {
+-- no bin before the first is written
+marked-earlier : (n : ℕ) (marks : List Bool) (bin : ℕ) → bin < n → list_any (λ b. eqb b bin) (marked_from n marks) ≡ false
+marked-earlier n [] bin l = refl
+marked-earlier n (false ∷ marks) bin l = marked-earlier (n + 1) marks bin (omega arith)
+marked-earlier n (true ∷ marks) bin l = or_from (eqb n bin) _ (ne_eqb n bin (earlier n bin l)) (marked-earlier (n + 1) marks bin (omega arith))
+
+-- a bin is written exactly if it is marked
+marked-there : (n : ℕ) (marks : List Bool) (k bin : ℕ) → bin ≡ n + k → get_or marks k false ≡ list_any (λ b. eqb b bin) (marked_from n marks)
+marked-there n [] k bin e = refl
+marked-there n (false ∷ marks) zero bin e = sym (marked-earlier (n + 1) marks bin (omega arith))
+marked-there n (false ∷ marks) (suc k) bin e = marked-there (n + 1) marks k bin (omega arith)
+marked-there n (true ∷ marks) zero bin e = sym (ap (λ (b : Bool). b || list_any (λ c. eqb c bin) (marked_from (n + 1) marks)) (eq-eqb n bin (omega arith)))
+marked-there n (true ∷ marks) (suc k) bin e = marked-there (n + 1) marks k bin (omega arith) ∙ sym (ap (λ (b : Bool). b || list_any (λ c. eqb c bin) (marked_from (n + 1) marks)) (ne_eqb n bin (λ same. omega arith)))
+
+-- the bins that are written ascend, from the first on, and are in range
+marked-least : (n : ℕ) (marks : List Bool) → All (λ b. n ≤ b) (marked_from n marks)
+marked-least n [] = All-nil (λ (b : ℕ). n ≤ b)
+marked-least n (false ∷ marks) = All-weaker (λ (b : ℕ). n + 1 ≤ b) (λ (b : ℕ). n ≤ b) (λ b l. omega arith) _ (marked-least (n + 1) marks)
+marked-least n (true ∷ marks) = All-cons (λ (b : ℕ). n ≤ b) n _ (omega arith) (All-weaker (λ (b : ℕ). n + 1 ≤ b) (λ (b : ℕ). n ≤ b) (λ b l. omega arith) _ (marked-least (n + 1) marks))
+
+marked-below : (n bins : ℕ) (marks : List Bool) → n + length marks ≤ bins → All (λ b. b < bins) (marked_from n marks)
+marked-below n bins [] l = All-nil (λ (b : ℕ). b < bins)
+marked-below n bins (false ∷ marks) l = marked-below (n + 1) bins marks (omega arith)
+marked-below n bins (true ∷ marks) l = All-cons (λ (b : ℕ). b < bins) n _ (omega arith) (marked-below (n + 1) bins marks (omega arith))
+
+rises-cons : (n : ℕ) (xs : List ℕ) → All (λ b. n + 1 ≤ b) xs → IsStrictlyIncreasing xs → (k : ℕ) → k + 1 < length (n ∷ xs) → get_or (n ∷ xs) k 0 < get_or (n ∷ xs) (k + 1) 0
+rises-cons n xs above h zero l = omega (arith, All-get_or (λ (b : ℕ). n + 1 ≤ b) xs 0 0 (omega (arith, l)) above)
+rises-cons n xs above h (suc k) l =
+    let next : suc k + 1 ≡ suc (k + 1) = omega arith in
+    subst (λ (m : ℕ). get_or (n ∷ xs) (suc k) 0 < get_or (n ∷ xs) m 0) (sym next) (h k (omega (arith, l)))
+
+marked-rises : (n : ℕ) (marks : List Bool) → IsStrictlyIncreasing (marked_from n marks)
+marked-rises n [] = λ k l. absurd (omega (arith, l))
+marked-rises n (false ∷ marks) = marked-rises (n + 1) marks
+marked-rises n (true ∷ marks) = rises-cons n (marked_from (n + 1) marks) (marked-least (n + 1) marks) (marked-rises (n + 1) marks)
+
+marked-row : (p : Problem) → IsProblem p → IsRow (bins_of p) (marked_from 0 p.draining)
+marked-row p h = record { ascending = marked-rises 0 p.draining; in_range = marked-below 0 (bins_of p) p.draining (omega (arith, h.bins)) }
+
+no-row : (bins : ℕ) → IsRow bins []
+no-row bins = record { ascending = λ k l. absurd (omega (arith, l)); in_range = All-nil (λ (b : ℕ). b < bins) }
+
+placed : (p : Problem) → IsProblem p → IsPlaced (items_of p) (pairs_from 0 p.before) p.before
+placed p h = record { each = h.items; bins = λ item below. bin_in-pairs_from 0 p.before item item (omega arith) }
+
+spells_by : (p : Problem) (v : Version) → p.version ≡ v → (before bin_prices bins draining item_prices pairs reach : Data) → IsProblem p → list_in pair_in before ≡ Some (pairs_from 0 p.before) → list_in number_in bins ≡ Some p.limits → list_in number_in draining ≡ Some (marked_from 0 p.draining) → list_in (list_in number_in) reach ≡ Some p.rows → SpellsInstance (object_of v before bin_prices bins draining item_prices pairs reach) p
+spells_by p One e before bin_prices bins draining item_prices pairs reach h b l d r = record {
+  version = One;
   limits = p.limits;
+  draining = [];
   rows = p.rows;
   preceding = pairs_from 0 p.before;
-  parts = record { version = refl; bins = l; reach = r; before = b };
-  shaped = record { reach = h.reach; preceding = preceding p h };
-  same = record { same_limits = refl; same_rows = refl; before = record { each = h.items; bins = λ item below. bin_in-pairs_from 0 p.before item item (omega arith) } };
+  parts = record { number = refl; bins = l; drains = refl; reach = r; before = b };
+  shaped = record { reach = h.reach; drains = no-row (bins_of p); preceding = preceding p h };
+  same = record { same_version = e; same_limits = refl; same_draining = record { each = h.bins; at = λ bin below. h.old e bin }; same_rows = refl; before = placed p h };
 }
+spells_by p Two e before bin_prices bins draining item_prices pairs reach h b l d r = record {
+  version = Two;
+  limits = p.limits;
+  draining = marked_from 0 p.draining;
+  rows = p.rows;
+  preceding = pairs_from 0 p.before;
+  parts = record { number = refl; bins = l; drains = d; reach = r; before = b };
+  shaped = record { reach = h.reach; drains = marked-row p h; preceding = preceding p h };
+  same = record { same_version = e; same_limits = refl; same_draining = record { each = h.bins; at = λ bin below. marked-there 0 p.draining bin bin (omega arith) }; same_rows = refl; before = placed p h };
+}
+
+-- an object with the members of an instance spells it
+pub spells_instance : (p : Problem) (before bin_prices bins draining item_prices pairs reach : Data) → IsProblem p → list_in pair_in before ≡ Some (pairs_from 0 p.before) → list_in number_in bins ≡ Some p.limits → list_in number_in draining ≡ Some (marked_from 0 p.draining) → list_in (list_in number_in) reach ≡ Some p.rows → SpellsInstance (object_of p.version before bin_prices bins draining item_prices pairs reach) p
+spells_instance p before bin_prices bins draining item_prices pairs reach h b l d r = spells_by p p.version refl before bin_prices bins draining item_prices pairs reach h b l d r

@@ -13,3 +13,4 @@ pub mod First
 pub mod Finding
 pub mod Verdicts
 pub mod LeastFault
+pub mod Marking

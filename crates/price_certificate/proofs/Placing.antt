@@ -7,7 +7,10 @@ use Rattle.std.proofs.lemmas.List.Sums.{sum_by-append, sum_by-cons, sum_by-take-
 use Rattle.std.proofs.lemmas.List.Elements.{All-nil, All-push, All-head, All-tail}
 use Rattle.std.proofs.lemmas.Option.{none-some}
 use Rattle.std.proofs.lemmas.Bool.{cases_eq, cases_lt, eq-eqb, ne_eqb}
-use Rattle.price_certificate.specs.Problem.{IsPreceding, IsPlaced, IsReach, IsProblem, IsShaped, IsProblemOf, bin_in}
+use Rattle.std.specs.List.{list_any}
+use Rattle.price_certificate.specs.Problem.{IsPreceding, IsPlaced, IsMarked, IsRow, IsReach, IsProblem, IsShaped, IsProblemOf, bin_in}
+use Rattle.price_certificate.specs.declared.version.Version.{Version}
+use Rattle.price_certificate.specs.declared.version.Version.TheVariants.{One}
 
 -- after some of the pairs
 pub record IsPlacing (items bins : ℕ) (taken : List (ℕ × ℕ)) (places : List (Option ℕ)) : Type 0 where
@@ -136,12 +139,20 @@ placing_refused items bins pairs i places q o h il read some l e =
     let there : is_some (get_or places q.0 None) ≡ true = ap (λ (p : Option ℕ). is_some p) (read_at places q.0 o (omega (arith, h.each)) read) ∙ sym some in
     placing_twice items bins pairs i places q h il there l (get_or_default pairs i q (0, 0) l ∙ e)
 
--- What `Instance::new` makes is an instance, of what it was given.
-pub new_problem : (limits ls : List ℕ) (rows rs : List (List ℕ)) (pairs ps : List (ℕ × ℕ)) (made places : List (Option ℕ)) (items bins : ℕ) → ls ≡ limits → rs ≡ rows → ps ≡ pairs → items ≡ length rows → bins ≡ length limits → made ≡ places → IsReach ls rs → IsPreceding items bins ps × IsPlaced items ps places → IsProblem (record { limits = limits; rows = rows; before = made }) × (IsShaped limits rows pairs × IsProblemOf (record { limits = limits; rows = rows; before = made }) limits rows pairs)
-new_problem limits ls rows rs pairs ps made places items bins ls_is rs_is ps_is items_is bins_is made_is reach h =
+-- what the marks of a version are
+old_marks : (version : Version) (bins : ℕ) (draining : List ℕ) (marks : List Bool) → (version ≡ One → draining ≡ []) → IsMarked bins draining marks → version ≡ One → (bin : ℕ) → get_or marks bin false ≡ false
+old_marks version bins draining marks none marked e bin = elim (cases_lt bin bins) [
+  | inl l ↦ marked.at bin l ∙ ap (λ (ds : List ℕ). list_any (λ b. eqb b bin) ds) (none e)
+  | inr g ↦ get_or_past marks bin false (omega (arith, marked.each))
+]
+
+-- What makes an instance makes it of what it was given.
+pub new_problem : (version : Version) (limits ls draining : List ℕ) (rows rs : List (List ℕ)) (pairs ps : List (ℕ × ℕ)) (made_marks marks : List Bool) (made places : List (Option ℕ)) (items bins : ℕ) → (version ≡ One → draining ≡ []) → ls ≡ limits → rs ≡ rows → ps ≡ pairs → items ≡ length rows → bins ≡ length limits → made_marks ≡ marks → made ≡ places → IsReach ls rs → IsRow (length limits) draining → IsMarked (length limits) draining marks → IsPreceding items bins ps × IsPlaced items ps places → IsProblem (record { version = version; limits = limits; draining = made_marks; rows = rows; before = made }) × (IsShaped limits draining rows pairs × IsProblemOf (record { version = version; limits = limits; draining = made_marks; rows = rows; before = made }) version limits draining rows pairs)
+new_problem version limits ls draining rows rs pairs ps made_marks marks made places items bins old ls_is rs_is ps_is items_is bins_is marks_is made_is reach row marked h =
     let same_reach : IsReach limits rows = subst (λ (xs : List ℕ). IsReach xs rows) ls_is (subst (λ (xs : List (List ℕ)). IsReach ls xs) rs_is reach) in
+    let same_marked : IsMarked (length limits) draining made_marks = subst (λ (xs : List Bool). IsMarked (length limits) draining xs) (sym marks_is) marked in
     let preceding : IsPreceding (length rows) (length limits) pairs = subst (λ (xs : List (ℕ × ℕ)). IsPreceding (length rows) (length limits) xs) ps_is (subst (λ (n : ℕ). IsPreceding n (length limits) ps) items_is (subst (λ (n : ℕ). IsPreceding items n ps) bins_is h.0)) in
     let placed : IsPlaced (length rows) pairs made = subst (λ (xs : List (Option ℕ)). IsPlaced (length rows) pairs xs) (sym made_is) (subst (λ (n : ℕ). IsPlaced n pairs places) items_is (subst (λ (xs : List (ℕ × ℕ)). IsPlaced items xs places) ps_is h.1)) in (
-      record { reach = same_reach; items = placed.each; before_in_range = placed_in_range (length rows) (length limits) pairs made preceding placed },
-      (record { reach = same_reach; preceding = preceding }, record { same_limits = refl; same_rows = refl; before = placed }),
+      record { reach = same_reach; bins = same_marked.each; old = old_marks version (length limits) draining made_marks old same_marked; items = placed.each; before_in_range = placed_in_range (length rows) (length limits) pairs made preceding placed },
+      (record { reach = same_reach; drains = row; preceding = preceding }, record { same_version = refl; same_limits = refl; same_draining = same_marked; same_rows = refl; before = placed }),
     )

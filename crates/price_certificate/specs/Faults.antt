@@ -1,10 +1,10 @@
 -- The checker's verdict: the first fault of a plan, in the order of the kinds, each looked for through the whole plan
 -- before the next.
-use Rattle.std.specs.Prelude.{ℕ, zero, suc, Bool, true, false, List, Option, Some, None, ◌≡◌, ◌<◌, ◌≤◌, ◌↔◌, ◌⊎◌, ◌+◌, ◌*◌, ◌==◌, ◌&&◌, not, nat_lt, nat_le, length, slice_index, slice_index_or, take, if◌then◌else◌}
+use Rattle.std.specs.Prelude.{ℕ, zero, suc, Bool, true, false, List, Option, Some, None, ◌≡◌, ◌<◌, ◌≤◌, ◌↔◌, ◌⊎◌, ◌+◌, ◌-◌, ◌*◌, ◌==◌, ◌&&◌, not, nat_lt, nat_le, length, slice_index, slice_index_or, take, if◌then◌else◌}
 use Rattle.std.specs.List.{list_any}
-use Rattle.price_certificate.specs.Problem.{Problem, IsAllowed, IsProblem, items_of, bins_of, row_of, capacity_of, weight_of}
-use Rattle.price_certificate.specs.Assignment.{uses_of_bin, covered, kept, moved}
-use Rattle.price_certificate.specs.Certificate.{IsCertified, value_of}
+use Rattle.price_certificate.specs.Problem.{Problem, IsAllowed, IsProblem, items_of, bins_of, row_of, capacity_of, cover_worth, steady_worth, weight_of}
+use Rattle.price_certificate.specs.Assignment.{uses_of_bin, covered, left, kept, moved}
+use Rattle.price_certificate.specs.Certificate.{IsCertified, value_of, worth_of}
 use Rattle.price_certificate.specs.declared.verdict.Fault.{Fault}
 use Rattle.price_certificate.specs.declared.verdict.Fault.TheVariants.{WrongLengths, BadNumber, ItemTwice, OutOfReach, OverLimit, PriceTooLow, SumsDiffer}
 use Rattle.price_certificate.specs.declared.verdict.Verdict.{Verdict}
@@ -78,9 +78,13 @@ row_fault p item_prices bin_prices item = first_below (price_fault_at p item_pri
 unfoldable pub price_fault : Problem → List ℕ → List ℕ → Option Fault
 price_fault p item_prices bin_prices = first_below (row_fault p item_prices bin_prices) (items_of p)
 
--- the value of the prices and the worth of the pairs: what they cover times one more than there are items, and what they keep
+-- the worth of the pairs level by level: what they cover, what of that is not left at draining bins, and what they keep
 abbrev pub weight_sum : Problem → List (ℕ × ℕ) → ℕ
-weight_sum p pairs = (items_of p + 1) * covered pairs + kept p pairs
+weight_sum p pairs = cover_worth p.version (items_of p) * covered pairs + steady_worth p.version (items_of p) * (covered pairs - left p pairs) + kept p pairs
+
+-- and that is what its pairs are worth together
+abbrev pub WorthIsByLevel : Type 0
+WorthIsByLevel = (p : Problem) (pairs : List (ℕ × ℕ)) → worth_of p pairs ≡ weight_sum p pairs
 
 unfoldable pub sum_fault : Problem → List (ℕ × ℕ) → List ℕ → List ℕ → Option Fault
 sum_fault p pairs item_prices bin_prices = fault_unless (value_of p item_prices bin_prices == weight_sum p pairs) (SumsDiffer (value_of p item_prices bin_prices) (weight_sum p pairs))
@@ -106,16 +110,16 @@ PriceFaultIsLeast =
     (p : Problem) (item_prices bin_prices : List ℕ) (item bin : ℕ) → IsProblem p → price_fault p item_prices bin_prices ≡ Some (PriceTooLow item bin) → (other other_bin : ℕ) → IsAllowed p other other_bin
     → slice_index item_prices other + slice_index bin_prices other_bin < weight_of p other other_bin → (item < other) ⊎ ((item ≡ other) × (bin ≤ other_bin))
 
-abbrev pub verdict_by : ℕ → ℕ → Option Fault → Verdict
-verdict_by covers moves None = Best covers moves
-verdict_by covers moves (Some fault) = Refused fault
+abbrev pub verdict_by : ℕ → ℕ → ℕ → Option Fault → Verdict
+verdict_by covers leaves moves None = Best covers leaves moves
+verdict_by covers leaves moves (Some fault) = Refused fault
 
 abbrev pub verdict_of : Problem → List (ℕ × ℕ) → List ℕ → List ℕ → Verdict
-verdict_of p pairs item_prices bin_prices = verdict_by (covered pairs) (moved p pairs) (fault_of p pairs item_prices bin_prices)
+verdict_of p pairs item_prices bin_prices = verdict_by (covered pairs) (left p pairs) (moved p pairs) (fault_of p pairs item_prices bin_prices)
 
 -- the verdict is `Best`
 abbrev pub is_best : Verdict → Bool
-is_best (Best covers moves) = true
+is_best (Best covers leaves moves) = true
 is_best (Refused fault) = false
 
 -- how many pairs each bin has

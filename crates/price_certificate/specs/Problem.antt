@@ -1,12 +1,17 @@
--- An instance of the assignment problem with capacities: items, bins with limits, the pairs of an item and a bin that
--- are allowed, and the pairs of the preceding assignment.
-use Rattle.std.specs.Prelude.{◌≡◌, ◌==◌, ◌+◌, ◌<◌, ◌≤◌, ℕ, Bool, false, List, Option, Some, None, Contains, All, [], ◌∷◌, length, slice_index, slice_index_or, sum_by, count_by, is_some, if◌then◌else◌, min}
+-- An instance of the assignment problem with capacities: items, bins with limits, some of which drain, the pairs of an item
+-- and a bin that are allowed, and the pairs of the preceding assignment.
+use Rattle.std.specs.Prelude.{◌≡◌, ◌==◌, ◌+◌, ◌*◌, ◌<◌, ◌≤◌, ℕ, Bool, false, List, Option, Some, None, Contains, All, [], ◌∷◌, length, slice_index, slice_index_or, sum_by, count_by, is_some, if◌then◌else◌, min}
+use Rattle.std.specs.List.{list_any}
 use Rattle.std.specs.List.Sorted.{IsStrictlyIncreasing}
+use Rattle.price_certificate.specs.declared.version.Version.{Version}
+use Rattle.price_certificate.specs.declared.version.Version.TheVariants.{One, Two}
 
--- What contracts see of an `Instance`: the limit of each bin, for each item the bins that it may use in ascending order,
--- and for each item the bin where it was.
+-- What contracts see of an `Instance`: its version, the limit of each bin and whether it drains, for each item the bins that
+-- it may use in ascending order, and for each item the bin where it was.
 pub record Problem : Type 0 where
+  pub version : Version
   pub limits : List ℕ
+  pub draining : List Bool
   pub rows : List (List ℕ)
   pub before : List (Option ℕ)
 
@@ -15,6 +20,10 @@ items_of p = length p.rows
 
 abbrev pub bins_of : Problem → ℕ
 bins_of p = length p.limits
+
+-- the bin drains: it is to be left
+abbrev pub drains : Problem → ℕ → Bool
+drains p bin = slice_index_or p.draining bin false
 
 -- the bins that an item may use
 unfoldable pub row_of : Problem → ℕ → List ℕ
@@ -48,14 +57,25 @@ capacity_by items limit = if limit == 0 then items else min limit items
 abbrev pub capacity_of : Problem → ℕ → ℕ
 capacity_of p bin = capacity_by (items_of p) (slice_index p.limits bin)
 
--- What a pair is worth: covering an item outweighs all that can be kept in place, and keeping one outweighs nothing else.
--- This is the one place that knows the levels of weight.
-unfoldable pub weight_of : Problem → ℕ → ℕ → ℕ
-weight_of p item bin = items_of p + 1 + (if was_in p item bin then 1 else 0)
+-- What a pair is worth. Covering an item outweighs all else; in version 2 a bin that does not drain outweighs all that can be
+-- kept in place; and keeping an item in place outweighs nothing else. This is the one place that knows the levels of weight.
+abbrev pub cover_worth : Version → ℕ → ℕ
+cover_worth One items = items + 1
+cover_worth Two items = (items + 1) * (items + 1)
+
+abbrev pub steady_worth : Version → ℕ → ℕ
+steady_worth One items = 0
+steady_worth Two items = items + 1
+
+unfoldable pub weight_by : Version → ℕ → Bool → Bool → ℕ
+weight_by version items draining before = cover_worth version items + (if draining then 0 else steady_worth version items) + (if before then 1 else 0)
+
+abbrev pub weight_of : Problem → ℕ → ℕ → ℕ
+weight_of p item bin = weight_by p.version (items_of p) (drains p bin) (was_in p item bin)
 
 -- no pair is worth more
 unfoldable pub top_weight : Problem → ℕ
-top_weight p = items_of p + 2
+top_weight p = cover_worth p.version (items_of p) + steady_worth p.version (items_of p) + 1
 
 -- how many items, bins and allowed pairs there may be
 abbrev pub most_items : ℕ
@@ -84,9 +104,10 @@ pub record IsPreceding (items bins : ℕ) (pairs : List (ℕ × ℕ)) : Type 0 w
   pub in_range : All (λ (q : ℕ × ℕ). (q.0 < items) × (q.1 < bins)) pairs
   pub once : (item : ℕ) → count_by (λ (q : ℕ × ℕ). q.0 == item) pairs ≤ 1
 
--- what `Instance::new` accepts
-pub record IsShaped (limits : List ℕ) (rows : List (List ℕ)) (pairs : List (ℕ × ℕ)) : Type 0 where
+-- what an instance is made of: limits and rows within the limits, draining bins that ascend and are in range, pairs before
+pub record IsShaped (limits draining : List ℕ) (rows : List (List ℕ)) (pairs : List (ℕ × ℕ)) : Type 0 where
   pub reach : IsReach limits rows
+  pub drains : IsRow (length limits) draining
   pub preceding : IsPreceding (length rows) (length limits) pairs
 
 -- the bin beside an item in a list of pairs, the first where there are several
@@ -99,14 +120,23 @@ pub record IsPlaced (items : ℕ) (pairs : List (ℕ × ℕ)) (places : List (Op
   pub each : length places ≡ items
   pub bins : (item : ℕ) → item < items → slice_index_or places item None ≡ bin_in pairs item
 
--- the problem has these limits, rows and pairs before
-pub record IsProblemOf (p : Problem) (limits : List ℕ) (rows : List (List ℕ)) (pairs : List (ℕ × ℕ)) : Type 0 where
+-- for each bin whether it is one of these
+pub record IsMarked (bins : ℕ) (draining : List ℕ) (marks : List Bool) : Type 0 where
+  pub each : length marks ≡ bins
+  pub at : (bin : ℕ) → bin < bins → slice_index_or marks bin false ≡ list_any (λ b. b == bin) draining
+
+-- the problem has this version, these limits, draining bins, rows and pairs before
+pub record IsProblemOf (p : Problem) (version : Version) (limits draining : List ℕ) (rows : List (List ℕ)) (pairs : List (ℕ × ℕ)) : Type 0 where
+  pub same_version : p.version ≡ version
   pub same_limits : p.limits ≡ limits
+  pub same_draining : IsMarked (length limits) draining p.draining
   pub same_rows : p.rows ≡ rows
   pub before : IsPlaced (length rows) pairs p.before
 
--- what every instance keeps
+-- what every instance keeps: in version 1 nothing drains
 pub record IsProblem (p : Problem) : Type 0 where
   pub reach : IsReach p.limits p.rows
+  pub bins : length p.draining ≡ bins_of p
+  pub old : p.version ≡ One → (bin : ℕ) → drains p bin ≡ false
   pub items : length p.before ≡ items_of p
   pub before_in_range : (item bin : ℕ) → before_of p item ≡ Some bin → bin < bins_of p

@@ -1,11 +1,12 @@
+//! The checker: whether prices prove a plan the best.
 ghost use Rattle.std.specs.Prelude.{◌≡◌, ◌↔◌, IfOk, true};
 ghost use Rattle.price_certificate.specs.Assignment.{IsOptimal, moved};
 ghost use Rattle.price_certificate.specs.Certificate.{IsCertified};
 ghost use Rattle.price_certificate.specs.Faults.{fault_of, verdict_of, is_best};
 
 use crate::faults::{
-    count_kept, find_bad_number, find_different_sums, find_item_twice, find_out_of_reach,
-    find_over_limit, find_price_too_low, find_wrong_lengths,
+    count_kept, count_left, find_bad_number, find_different_sums, find_item_twice,
+    find_out_of_reach, find_over_limit, find_price_too_low, find_wrong_lengths,
 };
 use crate::instance::Instance;
 use crate::plan::Plan;
@@ -32,6 +33,7 @@ pub fn check(alloc: Global, instance: &Instance, plan: &Plan) -> Result<Verdict,
         Some(fault) => Ok(Verdict::Refused(fault)),
         None => Ok(Verdict::Best {
             covered: pairs.len() as u64,
+            left: count_left(instance, pairs),
             moved: moves(instance, pairs),
         }),
     }

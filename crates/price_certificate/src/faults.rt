@@ -3,11 +3,12 @@
 ghost use Rattle.std.specs.Prelude.{◌≡◌, ◌==◌, ◌+◌, ◌*◌, ◌<◌, ◌≤◌, ℕ, Option, None, false, IfOk, length, replicate, slice_index, sum};
 ghost use Rattle.std.specs.List.{list_any};
 ghost use Rattle.price_certificate.specs.Problem.{items_of, bins_of, capacity_of};
-ghost use Rattle.price_certificate.specs.Assignment.{kept};
+ghost use Rattle.price_certificate.specs.Assignment.{left, kept};
 ghost use Rattle.price_certificate.specs.Certificate.{sum_below};
 ghost use Rattle.price_certificate.specs.Faults.{pair_at, length_fault, number_fault, repeat_fault, reach_fault, limit_fault, row_fault, price_fault, sum_fault, weight_sum, IsCounted};
 
 use crate::instance::Instance;
+use crate::shape::MOST_ITEMS;
 use crate::verdict::Fault;
 use std::alloc::{AllocError, Global};
 
@@ -217,12 +218,15 @@ fn worth(instance: &Instance, pairs: &[(u32, u32)]) -> u64
     requires { length pairs.now ≤ items_of instance.now }
     ensures { result ≡ weight_sum instance.now pairs.now }
 {
-    (instance.items() as u64 + 1) * pairs.len() as u64 + count_kept(instance, pairs)
+    let steady = pairs.len() as u64 - count_left(instance, pairs);
+    u64::from(instance.cover_worth()) * pairs.len() as u64
+        + u64::from(instance.steady_worth()) * steady
+        + count_kept(instance, pairs)
 }
 
 /// The sum of the items' prices.
 fn value_of_items(prices: &[u32]) -> u64
-    requires { length prices.now ≤ 16384 }
+    requires { length prices.now ≤ MOST_ITEMS }
     ensures sum { result ≡ sum prices.now }
     ensures most { result ≤ 70368744161280 }
 {
@@ -244,6 +248,20 @@ fn value_of_bins(instance: &Instance, prices: &[u32]) -> u64
         value += instance.capacity(bin) as u64 * prices[bin] as u64;
     }
     value
+}
+
+/// How many pairs are left at draining bins.
+pub(crate) fn count_left(instance: &Instance, pairs: &[(u32, u32)]) -> u64
+    ensures count { result ≡ left instance.now pairs.now }
+    ensures most { result ≤ length pairs.now }
+{
+    let mut count = 0u64;
+    for pair in pairs {
+        if instance.drains(pair.1 as usize) {
+            count += 1;
+        }
+    }
+    count
 }
 
 /// How many pairs of the preceding assignment are kept.

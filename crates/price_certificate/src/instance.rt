@@ -1,15 +1,20 @@
-ghost use Rattle.std.specs.Prelude.{◌≡◌, ◌<◌, ◌≤◌, List, Some, IfOk, slice_index, count_by, is_some};
-ghost use Rattle.price_certificate.specs.Problem.{Problem, IsProblem, IsShaped, IsProblemOf, items_of, bins_of, row_of, before_of, before_count, capacity_by, capacity_of, weight_of, top_weight};
+//! Instances: what is asked of a plan.
+ghost use Rattle.std.specs.Prelude.{◌≡◌, ◌<◌, ◌≤◌, List, [], Some, IfOk, slice_index, count_by, is_some};
+ghost use Rattle.price_certificate.specs.Problem.{Problem, IsProblem, IsShaped, IsProblemOf, items_of, bins_of, drains, row_of, before_of, before_count, capacity_by, capacity_of, cover_worth, steady_worth, weight_of, top_weight};
+ghost use Rattle.price_certificate.specs.declared.version.Version.TheVariants.{One, Two};
 
-use crate::shape::{InstanceError, has_reach, places};
+use crate::shape::{InstanceError, MOST_BINS, MOST_ITEMS, has_reach, is_row, marks, places};
+use crate::version::Version;
 use lists::{List, Plain};
 use std::alloc::{AllocError, Global};
 use std::marker::Model;
 
-/// Items, bins with limits, the bins that each item may use, and the bin where each item was.
+/// Items, bins with limits, some of which drain, the bins that each item may use, and the bin where each item was.
 #[derive(Debug, Drop)]
 pub struct Instance {
+    version: Version,
     limits: List<u32>,
+    draining: List<bool>,
     rows: List<List<u32>>,
     before: List<Option<u32>>,
 }
@@ -19,39 +24,90 @@ impl Model for Instance {
 
     ghost Value = { Problem };
 
-    ghost view = { λ i. record { limits = i.limits; rows = i.rows; before = i.before } };
+    ghost view = { λ i. record { version = i.version; limits = i.limits; draining = i.draining; rows = i.rows; before = i.before } };
 
-    ghost invariant = { λ i. IsProblem (record { limits = i.limits; rows = i.rows; before = i.before }) };
+    ghost invariant = { λ i. IsProblem (record { version = i.version; limits = i.limits; draining = i.draining; rows = i.rows; before = i.before }) };
 }
 
 impl Instance {
-    /// The instance with these limits of bins, where 0 is no limit, these rows, which have for each item the bins that
-    /// it may use in ascending order, and these pairs of the preceding assignment, in any order. There may be 16,384
-    /// items, 16,384 bins and 4,194,304 allowed pairs. A pair of the preceding assignment needs no allowed pair.
+    /// The instance of version 1 with these limits of bins, where 0 is no limit, these rows, which have for each item the
+    /// bins that it may use in ascending order, and these pairs of the preceding assignment, in any order. There may be
+    /// 16,384 items, 16,384 bins and 4,194,304 allowed pairs. A pair of the preceding assignment needs no allowed pair.
     pub fn new(
         alloc: Global,
         limits: List<u32>,
         rows: List<List<u32>>,
         before: List<(u32, u32)>,
     ) -> Result<Instance, InstanceError>
-        ensures ok { IfOk result (λ i. IsShaped limits rows before × IsProblemOf i limits rows before) }
-        ensures shape { result ≡ Err InstanceError.Shape → ¬ IsShaped limits rows before }
+        ensures ok { IfOk result (λ i. IsShaped limits [] rows before × IsProblemOf i One limits [] rows before) }
+        ensures shape { result ≡ Err InstanceError.Shape → ¬ IsShaped limits [] rows before }
+    {
+        Instance::of_version(alloc, Version::One, limits, &[], rows, before)
+    }
+
+    /// The instance of version 2 with these limits of bins, these bins that drain, in ascending order, and rows and pairs
+    /// as above.
+    pub fn new2(
+        alloc: Global,
+        limits: List<u32>,
+        draining: List<u32>,
+        rows: List<List<u32>>,
+        before: List<(u32, u32)>,
+    ) -> Result<Instance, InstanceError>
+        ensures ok { IfOk result (λ i. IsShaped limits draining rows before × IsProblemOf i Two limits draining rows before) }
+        ensures shape { result ≡ Err InstanceError.Shape → ¬ IsShaped limits draining rows before }
+    {
+        Instance::of_version(
+            alloc,
+            Version::Two,
+            limits,
+            draining.as_slice(),
+            rows,
+            before,
+        )
+    }
+
+    /// The instance of a version.
+    pub(crate) fn of_version(
+        alloc: Global,
+        version: Version,
+        limits: List<u32>,
+        draining: &[u32],
+        rows: List<List<u32>>,
+        before: List<(u32, u32)>,
+    ) -> Result<Instance, InstanceError>
+        requires { version ≡ One → draining.now ≡ [] }
+        ensures ok { IfOk result (λ i. IsShaped limits draining.now rows before × IsProblemOf i version limits draining.now rows before) }
+        ensures shape { result ≡ Err InstanceError.Shape → ¬ IsShaped limits draining.now rows before }
     {
         if !has_reach(limits.as_slice(), rows.as_slice()) {
             return Err(InstanceError::Shape);
         }
+        if !is_row(limits.len(), draining) {
+            return Err(InstanceError::Shape);
+        }
+        let draining = marks(alloc, limits.len(), draining)?;
         let before = places(alloc, rows.len(), limits.len(), before.as_slice())?;
         Ok(Instance {
+            version,
             limits,
+            draining: List::from_vec(draining),
             rows,
             before: List::from_vec(before),
         })
     }
 
+    /// The version.
+    pub fn version(&self) -> Version
+        ensures { result ≡ self.now.version }
+    {
+        self.version
+    }
+
     /// How many items there are, at most 16,384.
     pub fn items(&self) -> usize
         ensures count { result ≡ items_of self.now }
-        ensures most { result ≤ 16384 }
+        ensures most { result ≤ MOST_ITEMS }
     {
         self.rows.len()
     }
@@ -59,7 +115,7 @@ impl Instance {
     /// How many bins there are, at most 16,384.
     pub fn bins(&self) -> usize
         ensures count { result ≡ bins_of self.now }
-        ensures most { result ≤ 16384 }
+        ensures most { result ≤ MOST_BINS }
     {
         self.limits.len()
     }
@@ -78,11 +134,21 @@ impl Instance {
     #[tactic(auto, unfolding(crate::specs::Problem::capacity_by))]
     pub fn capacity(&self, bin: usize) -> usize
         ensures value { result ≡ capacity_of self.now bin }
-        ensures most { result ≤ 16384 }
+        ensures most { result ≤ MOST_ITEMS }
     {
         let limit = self.limit(bin) as usize;
         let items = self.items();
         if limit == 0 { items } else { limit.min(items) }
+    }
+
+    /// Whether a bin drains; false past the last bin.
+    pub fn drains(&self, bin: usize) -> bool
+        ensures { result ≡ drains self.now bin }
+    {
+        match self.draining.as_slice().get(bin) {
+            Some(draining) => *draining,
+            None => false,
+        }
     }
 
     /// The bins that an item may use, in ascending order; none past the last item.
@@ -113,15 +179,35 @@ impl Instance {
         count_some(self.before.as_slice())
     }
 
+    /// What covering an item is worth.
+    pub(crate) fn cover_worth(&self) -> u32
+        ensures worth { result ≡ cover_worth self.now.version (items_of self.now) }
+        ensures most { result ≤ 268468225 }
+    {
+        self.version.cover_worth(self.items())
+    }
+
+    /// What a place at a bin that does not drain is worth besides.
+    pub(crate) fn steady_worth(&self) -> u32
+        ensures worth { result ≡ steady_worth self.now.version (items_of self.now) }
+        ensures most { result ≤ 16385 }
+    {
+        self.version.steady_worth(self.items())
+    }
+
     /// What the pair of an item and a bin is worth.
-    #[tactic(auto, unfolding(crate::specs::Problem::weight_of))]
+    #[tactic(auto, unfolding(crate::specs::Problem::weight_by))]
     pub fn weight(&self, item: usize, bin: usize) -> u32
         ensures { result ≡ weight_of self.now item bin }
     {
-        let weight = self.items() as u32 + 1;
+        let place = if self.drains(bin) {
+            self.cover_worth()
+        } else {
+            self.cover_worth() + self.steady_worth()
+        };
         match self.before(item) {
-            Some(home) if home as usize == bin => weight + 1,
-            _ => weight,
+            Some(home) if home as usize == bin => place + 1,
+            _ => place,
         }
     }
 
@@ -130,7 +216,7 @@ impl Instance {
     pub fn top_weight(&self) -> u32
         ensures { result ≡ top_weight self.now }
     {
-        self.items() as u32 + 2
+        self.cover_worth() + self.steady_worth() + 1
     }
 
     /// What every instance keeps.
@@ -144,17 +230,22 @@ impl Instance {
 impl Plain for Instance {
     fn copy(&self) -> Result<Instance, AllocError> {
         let limits = self.limits.copy()?;
+        let draining = self.draining.copy()?;
         let rows = self.rows.copy()?;
         let before = self.before.copy()?;
         Ok(Instance {
+            version: self.version,
             limits,
+            draining,
             rows,
             before,
         })
     }
 
     fn same(&self, other: &Instance) -> bool {
-        self.limits.same(&other.limits)
+        self.version == other.version
+            && self.limits.same(&other.limits)
+            && self.draining.same(&other.draining)
             && self.rows.same(&other.rows)
             && self.before.same(&other.before)
     }

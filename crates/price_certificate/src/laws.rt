@@ -1,18 +1,18 @@
 //! Laws above the definitions.
-ghost use Rattle.std.specs.Prelude.{◌≡◌, ◌+◌, ◌*◌, ℕ, List};
-ghost use Rattle.price_certificate.specs.Problem.{Problem, IsProblem, items_of};
-ghost use Rattle.price_certificate.specs.Assignment.{IsOptimal, covered, kept};
-ghost use Rattle.price_certificate.specs.Certificate.{IsCertified, worth_of};
-ghost use Rattle.price_certificate.specs.Faults.{NoFaultIsCertified, PriceFaultIsLeast};
+ghost use Rattle.std.specs.Prelude.{ℕ, List};
+ghost use Rattle.price_certificate.specs.Problem.{Problem, IsProblem};
+ghost use Rattle.price_certificate.specs.Assignment.{IsOptimal};
+ghost use Rattle.price_certificate.specs.Certificate.{IsCertified};
+ghost use Rattle.price_certificate.specs.Faults.{NoFaultIsCertified, PriceFaultIsLeast, WorthIsByLevel};
 
 /// Weak duality: prices that certify an assignment prove it optimal, among all feasible assignments.
 pub fn certified_is_optimal()
     ensures { (p : Problem) (pairs : List (ℕ × ℕ)) (item_prices bin_prices : List ℕ) → IsProblem p → IsCertified p pairs item_prices bin_prices → IsOptimal p pairs }
 {}
 
-/// What an assignment is worth, by what it covers and keeps.
-pub fn worth_is_covered_and_kept()
-    ensures { (p : Problem) (pairs : List (ℕ × ℕ)) → worth_of p pairs ≡ (items_of p + 1) * covered pairs + kept p pairs }
+/// What an assignment is worth, by what it covers, leaves at draining bins and keeps.
+pub fn worth_is_by_level()
+    ensures { WorthIsByLevel }
 {}
 
 /// A plan has no fault exactly where its prices certify it.

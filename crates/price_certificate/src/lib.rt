@@ -12,6 +12,7 @@ mod shape;
 #[cfg(test)]
 mod tests;
 mod verdict;
+mod version;
 
 pub use checker::check;
 pub use document::{
@@ -19,8 +20,9 @@ pub use document::{
 };
 pub use instance::Instance;
 pub use laws::{
-    certified_is_optimal, no_fault_is_certified, price_fault_is_least, worth_is_covered_and_kept,
+    certified_is_optimal, no_fault_is_certified, price_fault_is_least, worth_is_by_level,
 };
 pub use plan::Plan;
-pub use shape::InstanceError;
+pub use shape::{InstanceError, MOST_BINS, MOST_ITEMS, MOST_PAIRS};
 pub use verdict::{Fault, Verdict};
+pub use version::Version;

@@ -1,5 +1,6 @@
-ghost use Rattle.std.specs.Prelude.{◌≡◌, ◌↔◌, ◌≤◌, ◌<◌, List, Option, None, replicate, All, IsTrue, IfOk, length, sum_by, is_some};
-ghost use Rattle.price_certificate.specs.Problem.{IsRow, IsReach, IsPreceding, IsPlaced};
+//! The parts of an instance: what fits together, and the tables that are made of them.
+ghost use Rattle.std.specs.Prelude.{◌≡◌, ◌↔◌, ◌≤◌, ◌<◌, List, Option, None, false, replicate, All, IsTrue, IfOk, length, sum_by, is_some};
+ghost use Rattle.price_certificate.specs.Problem.{IsRow, IsReach, IsPreceding, IsPlaced, IsMarked};
 ghost use Rattle.price_certificate.specs.declared.shape.InstanceError.TheVariants.{Memory};
 
 use lists::List;
@@ -24,11 +25,14 @@ impl From<AllocError> for InstanceError {
     }
 }
 
-const MOST_ITEMS: usize = 16384;
+/// The most items of an instance.
+pub const MOST_ITEMS: usize = 16384;
 
-const MOST_BINS: usize = 16384;
+/// The most bins of an instance.
+pub const MOST_BINS: usize = 16384;
 
-const MOST_PAIRS: usize = 4194304;
+/// The most allowed pairs of an instance.
+pub const MOST_PAIRS: usize = 4194304;
 
 /// Whether the limits and the rows are those of an instance.
 pub(crate) fn has_reach(limits: &[u32], rows: &[List<u32>]) -> bool
@@ -45,7 +49,7 @@ pub(crate) fn has_reach(limits: &[u32], rows: &[List<u32>]) -> bool
 
 /// Whether the rows have no more than the most pairs.
 fn has_few_pairs(rows: &[List<u32>]) -> bool
-    ensures { IsTrue result ↔ (sum_by length rows.now ≤ 4194304) }
+    ensures { IsTrue result ↔ (sum_by length rows.now ≤ MOST_PAIRS) }
 {
     let mut left = MOST_PAIRS;
     for row in rows {
@@ -70,7 +74,7 @@ fn are_rows(bins: usize, rows: &[List<u32>]) -> bool
 }
 
 /// Whether the bins ascend and are below the number of bins.
-fn is_row(bins: usize, row: &[u32]) -> bool
+pub(crate) fn is_row(bins: usize, row: &[u32]) -> bool
     ensures { IsTrue result ↔ IsRow bins row.now }
 {
     for i in 0..row.len() {
@@ -113,4 +117,23 @@ fn nowhere(alloc: Global, items: usize) -> Result<Vec<Option<u32>>, AllocError>
     ensures { IfOk result (λ v. v.items ≡ replicate items None) }
 {
     vec![in alloc; None; items]
+}
+
+/// For each bin whether it is one of these.
+pub(crate) fn marks(alloc: Global, bins: usize, draining: &[u32]) -> Result<Vec<bool>, AllocError>
+    requires { All (λ bin. bin < bins) draining.now }
+    ensures { IfOk result (λ v. IsMarked bins draining.now v.items) }
+{
+    let mut marks = no_marks(alloc, bins)?;
+    for i in 0..draining.len() {
+        marks[draining[i] as usize] = true;
+    }
+    Ok(marks)
+}
+
+/// No mark for any bin.
+fn no_marks(alloc: Global, bins: usize) -> Result<Vec<bool>, AllocError>
+    ensures { IfOk result (λ v. v.items ≡ replicate bins false) }
+{
+    vec![in alloc; false; bins]
 }

@@ -1,3 +1,4 @@
+//! The checker judges plans; copies are the same.
 use crate::{Fault, Instance, Plan, Verdict, check};
 use lists::{List, Plain};
 use std::alloc::{AllocError, Global};
@@ -40,6 +41,7 @@ fn verdict_for(alloc: Global, item: u32) -> Option<Verdict> {
 fn judges_plans(rt: HostRuntime) -> Result<(), &'static str> {
     let best = Verdict::Best {
         covered: 1,
+        left: 0,
         moved: 0,
     };
     let refused = Verdict::Refused(Fault::SumsDiffer(4, 3));

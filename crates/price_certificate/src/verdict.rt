@@ -1,3 +1,4 @@
+//! What the checker says of a plan, and the texts of faults.
 ghost use Rattle.std.specs.Prelude.{◌≡◌, IfOk, string_bytes};
 ghost use Rattle.price_certificate.specs.Lines.{fault_line};
 
@@ -26,9 +27,9 @@ pub enum Fault {
 /// What the checker says of a plan.
 #[derive(Clone, Copy, Debug, PartialEq, Eq)]
 pub enum Verdict {
-    /// The plan is certified, and so the best: how many items it covers, and how many pairs of the preceding
-    /// assignment it loses.
-    Best { covered: u64, moved: u64 },
+    /// The plan is certified, and so the best: how many items it covers, how many of them it leaves at draining bins, and
+    /// how many pairs of the preceding assignment it loses.
+    Best { covered: u64, left: u64, moved: u64 },
     /// The first fault.
     Refused(Fault),
 }

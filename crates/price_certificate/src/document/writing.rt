@@ -2,10 +2,12 @@
 ghost use Rattle.std.specs.Prelude.{◌≡◌, Some, IfOk};
 ghost use Rattle.serde_json.specs.View.{view};
 ghost use Rattle.json_values.specs.Spelling.{number_in, pair_in, list_in, number_data, pair_data, list_data};
-ghost use Rattle.price_certificate.specs.Document.{pairs_from, object_of as object_data, document_data, SpellsInstance, SpellsPlan};
+ghost use Rattle.price_certificate.specs.declared.version.Version.TheVariants.{One, Two};
+ghost use Rattle.price_certificate.specs.Document.{pairs_from, marked_from, object_of as object_data, document_data, SpellsInstance, SpellsPlan};
 
 use crate::instance::Instance;
 use crate::plan::Plan;
+use crate::version::Version;
 use json_values::{Spelled, array_of};
 use serde_json::{Map, Value, put};
 use std::alloc::{AllocError, Global};
@@ -16,6 +18,7 @@ struct Members {
     before: Value,
     bin_prices: Value,
     bins: Value,
+    draining: Value,
     item_prices: Value,
     pairs: Value,
     reach: Value,
@@ -32,16 +35,27 @@ pub(crate) fn value_of(alloc: Global, instance: &Instance, plan: &Plan) -> Resul
         before: before_of(alloc, instance)?,
         bin_prices: plan.bin_prices.write(alloc)?,
         bins: bins_of(alloc, instance)?,
+        draining: draining_of(alloc, instance)?,
         item_prices: plan.item_prices.write(alloc)?,
         pairs: plan.pairs.write(alloc)?,
         reach: reach_of(alloc, instance)?,
     };
-    object_of(alloc, members)
+    object_of(alloc, instance.version(), members)
 }
 
 /// The object of these members.
-fn object_of(alloc: Global, members: Members) -> Result<Value, AllocError>
-    ensures { IfOk result (λ v. view v ≡ object_data (view members.before) (view members.bin_prices) (view members.bins) (view members.item_prices) (view members.pairs) (view members.reach)) }
+fn object_of(alloc: Global, version: Version, members: Members) -> Result<Value, AllocError>
+    ensures { IfOk result (λ v. view v ≡ object_data version (view members.before) (view members.bin_prices) (view members.bins) (view members.draining) (view members.item_prices) (view members.pairs) (view members.reach)) }
+{
+    match version {
+        Version::One => first_object(alloc, members),
+        Version::Two => second_object(alloc, members),
+    }
+}
+
+/// The object of version 1.
+fn first_object(alloc: Global, members: Members) -> Result<Value, AllocError>
+    ensures { IfOk result (λ v. view v ≡ object_data One (view members.before) (view members.bin_prices) (view members.bins) (view members.draining) (view members.item_prices) (view members.pairs) (view members.reach)) }
 {
     let mut map = Map::new(alloc);
     put(&mut map, alloc, "before", members.before)?;
@@ -52,6 +66,46 @@ fn object_of(alloc: Global, members: Members) -> Result<Value, AllocError>
     put(&mut map, alloc, "reach", members.reach)?;
     put(&mut map, alloc, "version", Value::from(1u32))?;
     Ok(Value::Object(map))
+}
+
+/// The object of version 2.
+fn second_object(alloc: Global, members: Members) -> Result<Value, AllocError>
+    ensures { IfOk result (λ v. view v ≡ object_data Two (view members.before) (view members.bin_prices) (view members.bins) (view members.draining) (view members.item_prices) (view members.pairs) (view members.reach)) }
+{
+    let mut map = Map::new(alloc);
+    put(&mut map, alloc, "before", members.before)?;
+    put(&mut map, alloc, "bin_prices", members.bin_prices)?;
+    put(&mut map, alloc, "bins", members.bins)?;
+    put(&mut map, alloc, "draining", members.draining)?;
+    put(&mut map, alloc, "item_prices", members.item_prices)?;
+    put(&mut map, alloc, "pairs", members.pairs)?;
+    put(&mut map, alloc, "reach", members.reach)?;
+    put(&mut map, alloc, "version", Value::from(2u32))?;
+    Ok(Value::Object(map))
+}
+
+/// The draining bins.
+fn draining_of(alloc: Global, instance: &Instance) -> Result<Value, AllocError>
+    ensures form { IfOk result (λ v. view v ≡ list_data number_data (marked_from 0 instance.now.draining)) }
+    ensures reads_back { IfOk result (λ v. list_in number_in (view v) ≡ Some (marked_from 0 instance.now.draining)) }
+{
+    let draining = marked_of(alloc, instance)?;
+    array_of(alloc, draining.as_slice())
+}
+
+/// The bins that drain, in ascending order.
+fn marked_of(alloc: Global, instance: &Instance) -> Result<Vec<u32>, AllocError>
+    ensures { IfOk result (λ v. v.items ≡ marked_from 0 instance.now.draining) }
+{
+    let bins = instance.bins();
+    instance.is_problem();
+    let mut draining = Vec::new(alloc);
+    for bin in 0..bins {
+        if instance.drains(bin) {
+            draining.push(bin as u32)?;
+        }
+    }
+    Ok(draining)
 }
 
 /// The pairs before, in order of items.
