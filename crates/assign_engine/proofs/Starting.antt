@@ -114,7 +114,7 @@ start_sound p ats us vs valid h ue ve =
       bins = ap length ve ∙ length-replicate (bins_of p) 0;
       priced = λ t b a. omega (arith, u_at t (allowed_item p t b a), weight-most p t b);
       allowed = λ t b e. (h.home t b e).allowed;
-      tight = λ t b e. omega (arith, u_at t (omega (arith, seated_item ats t b e, h.seats)), v_at b, weight-before p t b (h.home t b e).before);
+      tight = λ t b e. omega (arith, u_at t (omega (arith, seated_item ats t b e, h.seats)), v_at b, weight-before p t b (h.home t b e).before (h.home t b e).steady);
       within = h.within;
       full = λ b l. absurd (omega (arith, v_at b));
     }

@@ -1,8 +1,8 @@
 //! What the engine starts from.
-ghost use Rattle.std.specs.Prelude.{◌≡◌, ◌==◌, ◌<◌, ◌≤◌, List, ℕ, IfSome, IfNone, IfOk, IsTrue, Contains, Some, replicate, count_by, is_none};
+ghost use Rattle.std.specs.Prelude.{◌≡◌, ◌==◌, ◌<◌, ◌≤◌, List, ℕ, IfSome, IfNone, IfOk, IsTrue, Contains, Some, false, replicate, count_by, is_none};
 ghost use Rattle.std.specs.List.{list_any};
-ghost use Rattle.price_certificate.specs.Problem.{items_of, bins_of, capacity_of};
-ghost use Rattle.assign_engine.specs.Usable.{IsHome, home_of, if_in, movers_below};
+ghost use Rattle.price_certificate.specs.Problem.{IsAllowed, items_of, bins_of, capacity_of, drains};
+ghost use Rattle.assign_engine.specs.Usable.{IsHome, home_of, may_stay, movers_below};
 ghost use Rattle.assign_engine.specs.Seats.{used, IsSound, IsStart};
 
 use crate::matching::Matching;
@@ -18,28 +18,28 @@ fn has_bin(row: &[u32], bin: u32) -> bool
     row.iter().any(|b| *b == bin)
 }
 
-/// The bin, if it is in the row.
-fn bin_if_in(row: &[u32], bin: Option<u32>) -> Option<usize>
-    ensures exact { result ≡ if_in row.now bin }
-    ensures allowed { IfSome result (λ b. Contains row.now b) }
-    ensures before { IfSome result (λ b. bin ≡ Some b) }
+/// Whether an item may use a bin that does not drain.
+fn may_stay(instance: &Instance, item: usize, bin: u32) -> bool
+    ensures exact { result ≡ may_stay instance.now item bin }
+    ensures allowed { IsTrue result → IsAllowed instance.now item bin }
+    ensures steady { IsTrue result → drains instance.now bin ≡ false }
 {
-    match bin {
-        Some(bin) if has_bin(row, bin) => Some(bin as usize),
-        _ => None,
-    }
+    has_bin(instance.row(item), bin) && !instance.drains(bin as usize)
 }
 
-/// The bin where an item was, if the item may use it.
+/// The bin where an item was, if the item may stay there.
 #[tactic(auto, unfolding(crate::specs::Usable::home_of))]
 fn home(instance: &Instance, item: usize) -> Option<usize>
     ensures exact { result ≡ home_of instance.now item }
     ensures home { IfSome result (λ b. IsHome instance.now item b) }
 {
-    bin_if_in(instance.row(item), instance.before(item))
+    match instance.before(item) {
+        Some(bin) if may_stay(instance, item, bin) => Some(bin as usize),
+        _ => None,
+    }
 }
 
-/// The bin where an item was, if the item may use it and it has room.
+/// The bin where an item was, if the item may stay there and it has room.
 fn home_with_room(instance: &Instance, seating: &Seating, item: usize) -> Option<usize>
     ensures home { IfSome result (λ bin. IsHome instance.now item bin) }
     ensures exact { IfSome result (λ bin. Some bin ≡ home_of instance.now item) }
