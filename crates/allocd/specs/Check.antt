@@ -7,6 +7,8 @@ use Rattle.price_certificate.specs.Faults.{verdict_of}
 use Rattle.price_certificate.specs.Lines.{fault_line}
 use Rattle.price_certificate.specs.declared.verdict.Verdict.{Verdict}
 use Rattle.price_certificate.specs.declared.verdict.Verdict.TheVariants as verdict
+use Rattle.price_certificate.specs.declared.version.Version.{Version}
+use Rattle.price_certificate.specs.declared.version.Version.TheVariants.{One, Two}
 use Rattle.allocd.specs.Answer.{Answers}
 use Rattle.allocd.specs.Unreadable.{IsUnreadable}
 use Rattle.allocd.specs.declared.answer.Answer.{Answer}
@@ -22,21 +24,26 @@ pub record IsCertificate (input : List ℕ) : Type 0 where
   pub bin_prices : List ℕ
   pub document : IsDocument input problem pairs item_prices bin_prices
 
-abbrev pub verdict_line : Verdict → List ℕ
-verdict_line (verdict.Best covered moved) = codes "best covered=" ++ (decimal covered ++ (codes " moved=" ++ (decimal moved ++ codes "\n")))
-verdict_line (verdict.Refused fault) = codes "refused " ++ (fault_line fault ++ codes "\n")
+-- in version 1 no bin drains, and nothing is said of what is left
+abbrev pub best_line : Version → ℕ → ℕ → ℕ → List ℕ
+best_line One covered left moved = codes "best covered=" ++ (decimal covered ++ (codes " moved=" ++ (decimal moved ++ codes "\n")))
+best_line Two covered left moved = codes "best covered=" ++ (decimal covered ++ (codes " left=" ++ (decimal left ++ (codes " moved=" ++ (decimal moved ++ codes "\n")))))
+
+abbrev pub verdict_line : Version → Verdict → List ℕ
+verdict_line version (verdict.Best covered left moved) = best_line version covered left moved
+verdict_line version (verdict.Refused fault) = codes "refused " ++ (fault_line fault ++ codes "\n")
 
 abbrev pub verdict_status : Verdict → Status
-verdict_status (verdict.Best covered moved) = Done
+verdict_status (verdict.Best covered left moved) = Done
 verdict_status (verdict.Refused fault) = Refused
 
-abbrev pub told : Verdict → Answer
-told verdict = Text (verdict_line verdict) (verdict_status verdict)
+abbrev pub told : Version → Verdict → Answer
+told version verdict = Text (verdict_line version verdict) (verdict_status verdict)
 
 -- the input is the document of a plan, and the answer tells its verdict
 pub record IsJudged (input : List ℕ) (answer : Answer) : Type 0 where
   pub certificate : IsCertificate input
-  pub tells : answer ≡ told (verdict_of certificate.problem certificate.pairs certificate.item_prices certificate.bin_prices)
+  pub tells : answer ≡ told certificate.problem.version (verdict_of certificate.problem certificate.pairs certificate.item_prices certificate.bin_prices)
 
 -- an input is no certificate document, or its plan is judged
 abbrev pub Checks : Answers

@@ -1,14 +1,14 @@
 //! The command `check`: it judges a certificate document.
 ghost use Rattle.std.specs.Prelude.{◌≡◌, IfOk, string_bytes};
 ghost use Rattle.allocd.specs.Answer.{EndsTo, NoFront};
-ghost use Rattle.allocd.specs.Check.{Checks, verdict_line, verdict_status, told};
+ghost use Rattle.allocd.specs.Check.{Checks, best_line, verdict_line, verdict_status, told};
 
 use crate::answer::{Answer, Unfinished, whole_or_nothing};
 use crate::ending::{Ending, Status};
 use crate::runner::{Task, run_task};
 use crate::unreadable::Unreadable;
 use lists::List;
-use price_certificate::{DocumentError, Verdict, check, read_document};
+use price_certificate::{DocumentError, Verdict, Version, check, read_document};
 use std::alloc::{AllocError, Global};
 use std::io::{Read, Write};
 
@@ -39,7 +39,7 @@ fn answer_to(alloc: Global, input: &[u8]) -> Result<Answer, AllocError>
     match read_document(alloc, input) {
         Ok((instance, plan)) => {
             let verdict = check(alloc, &instance, &plan)?;
-            tell(alloc, verdict)
+            tell(alloc, instance.version(), verdict)
         }
         Err(DocumentError::NotJson) => Ok(Answer::NotRead(Unreadable::NotJson)),
         Err(DocumentError::Shape) => Ok(Answer::NotRead(Unreadable::Shape)),
@@ -48,10 +48,10 @@ fn answer_to(alloc: Global, input: &[u8]) -> Result<Answer, AllocError>
 }
 
 /// The answer that tells a verdict.
-fn tell(alloc: Global, verdict: Verdict) -> Result<Answer, AllocError>
-    ensures { IfOk result (λ answer. answer ≡ told verdict) }
+fn tell(alloc: Global, version: Version, verdict: Verdict) -> Result<Answer, AllocError>
+    ensures { IfOk result (λ answer. answer ≡ told version verdict) }
 {
-    let line = line_of(alloc, verdict)?;
+    let line = line_of(alloc, version, verdict)?;
     Ok(Answer::Text {
         text: List::from_vec(line.into_bytes()),
         status: status_of(verdict),
@@ -59,17 +59,35 @@ fn tell(alloc: Global, verdict: Verdict) -> Result<Answer, AllocError>
 }
 
 /// The line on a verdict.
-fn line_of(alloc: Global, verdict: Verdict) -> Result<String, AllocError>
-    ensures { IfOk result (λ line. string_bytes line ≡ verdict_line verdict) }
+fn line_of(alloc: Global, version: Version, verdict: Verdict) -> Result<String, AllocError>
+    ensures { IfOk result (λ line. string_bytes line ≡ verdict_line version verdict) }
 {
     match verdict {
-        Verdict::Best { covered, moved } => {
-            format!(in alloc; "best covered={covered} moved={moved}\n")
-        }
+        Verdict::Best {
+            covered,
+            left,
+            moved,
+        } => best_line(alloc, version, covered, left, moved),
         Verdict::Refused(fault) => {
             let line = fault.line(alloc)?;
             format!(in alloc; "refused {line}\n")
         }
+    }
+}
+
+/// The line on a best plan.
+fn best_line(
+    alloc: Global,
+    version: Version,
+    covered: u64,
+    left: u64,
+    moved: u64,
+) -> Result<String, AllocError>
+    ensures { IfOk result (λ line. string_bytes line ≡ best_line version covered left moved) }
+{
+    match version {
+        Version::One => format!(in alloc; "best covered={covered} moved={moved}\n"),
+        Version::Two => format!(in alloc; "best covered={covered} left={left} moved={moved}\n"),
     }
 }
 
