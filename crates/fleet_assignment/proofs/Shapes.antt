@@ -1,18 +1,23 @@
 -- The parts of the instance of a moment are those of an instance.
 use Rattle.std.proofs.Common.{◌≡◌, ◌≢◌, ℕ, zero, suc, ◌+◌, ◌*◌, ◌<◌, ◌≤◌, List, [], ◌∷◌, ◌++◌, Bool, true, false, Option, Some, None, All, length, get_or, cond, eqb, count_by, refl, sym, ap, subst, ◌∙◌, inl, inr, arith, add-one, length-append}
-use Rattle.std.specs.Prelude.{map, sum_by, option_and_then, slice_get}
+use Rattle.std.specs.Prelude.{map, replicate, sum_by, option_and_then, slice_get}
+use Rattle.std.specs.List.{list_any}
 use Rattle.std.specs.List.Sorted.{IsStrictlyIncreasing}
 use Rattle.std.specs.Option.{option_map, option_map_or, option_to_list}
 use Rattle.std.proofs.Math.Nat.{mul-le-mul_left}
-use Rattle.std.proofs.lemmas.List.{length-map, get_or-map, ext_get_or}
+use Rattle.std.proofs.lemmas.List.{length-map, length-replicate, get_or-map, ext_get_or}
 use Rattle.std.proofs.lemmas.List.Elements.{All-nil, All-head, All-tail}
 use Rattle.std.proofs.lemmas.List.Sums.{sum_by-cons}
 use Rattle.std.proofs.lemmas.Bool.{cases_eq, eq-eqb, ne_eqb}
 use Rattle.price_certificate.specs.Problem.{Problem, IsShaped, IsRow, IsPreceding, IsProblemOf, bin_in as bin_of_item}
+use Rattle.price_certificate.specs.Document.{marked_from}
+use Rattle.price_certificate.specs.declared.version.Version.TheVariants.{Two}
+use Rattle.price_certificate.proofs.DocumentParts.{marked_is_row, marked_is_marked}
 use Rattle.reach_rules.specs.Rules.{reaches}
 use Rattle.fleet.proofs.ChangeLemmas.{position_below}
-use Rattle.fleet_assignment.specs.Instance.{limits_for, row_from, row_in, place_of, bin_in, bin_before_in, problem_of}
+use Rattle.fleet_assignment.specs.Instance.{limits_for, draining_for, row_from, row_in, place_of, bin_in, bin_before_in, problem_of}
 use Rattle.fleet_assignment.specs.Tables.{preceding_from, ArePlaced}
+use Rattle.fleet.specs.ShareLimit.{share_limit}
 use Rattle.fleet.specs.declared.job.JobSpec.{JobSpec}
 use Rattle.fleet.specs.declared.known_target.KnownTarget.{KnownTarget}
 use Rattle.fleet.specs.declared.collector.Collector.{Collector}
@@ -20,7 +25,11 @@ use Rattle.fleet.specs.declared.collector.Collector.{Collector}
 pub length-limits : (jobs : List JobSpec) (cs : List Collector) → length (limits_for jobs cs) ≡ length jobs * length cs
 length-limits jobs [] = omega arith
 length-limits jobs (c ∷ cs) =
-    omega (arith, length-append (map (λ (job : JobSpec). job.target_limit) jobs) (limits_for jobs cs), length-map jobs (λ (job : JobSpec). job.target_limit), length-limits jobs cs)
+    omega (arith, length-append (map (λ (job : JobSpec). share_limit job c) jobs) (limits_for jobs cs), length-map jobs (λ (job : JobSpec). share_limit job c), length-limits jobs cs)
+
+pub length-draining : (jobs : ℕ) (cs : List Collector) → length (draining_for jobs cs) ≡ jobs * length cs
+length-draining jobs [] = omega arith
+length-draining jobs (c ∷ cs) = omega (arith, length-append (replicate jobs c.draining) (draining_for jobs cs), length-replicate jobs c.draining, length-draining jobs cs)
 
 -- the numbers ascend from one on, below another
 abbrev Ascends : ℕ → ℕ → List ℕ → Type 0
@@ -159,15 +168,17 @@ abbrev held_bin : ℕ → List Collector → List KnownTarget → List (Option �
 held_bin jobs cs known holders t = option_and_then (bin_in jobs cs known t) (get_or holders t None)
 
 pub parts_shaped :
-    (jobs : List JobSpec) (cs : List Collector) (known : List KnownTarget) (live : List ℕ) (holders : List (Option ℕ)) (limits : List ℕ) (rows : List (List ℕ)) (before : List (ℕ × ℕ))
+    (jobs : List JobSpec) (cs : List Collector) (known : List KnownTarget) (live : List ℕ) (holders : List (Option ℕ)) (limits draining : List ℕ) (rows : List (List ℕ)) (before : List (ℕ × ℕ))
     → All (λ (k : KnownTarget). k.job < length jobs) known → length jobs * length cs ≤ 16384 → length cs ≤ 256 → length live ≤ 16384
-    → limits ≡ limits_for jobs cs → rows ≡ map (row_in (length jobs) cs known) live → before ≡ preceding_from (held_bin (length jobs) cs known holders) 0 live → IsShaped limits rows before
-parts_shaped jobs cs known live holders limits rows before homes few_bins few_collectors few_live is_limits is_rows is_before =
+    → limits ≡ limits_for jobs cs → draining ≡ marked_from 0 (draining_for (length jobs) cs) → rows ≡ map (row_in (length jobs) cs known) live → before ≡ preceding_from (held_bin (length jobs) cs known holders) 0 live → IsShaped limits draining rows before
+parts_shaped jobs cs known live holders limits draining rows before homes few_bins few_collectors few_live is_limits is_draining is_rows is_before =
     let j : ℕ = length jobs in
     let bins : length limits ≡ j * length cs = ap (λ (xs : List ℕ). length xs) is_limits ∙ length-limits jobs cs in
     let items : length rows ≡ length live = ap (λ (xs : List (List ℕ)). length xs) is_rows ∙ length-map live (row_in j cs known) in
     let few : j * length cs ≤ length limits = omega (arith, bins) in
+    let marks : length (draining_for j cs) ≡ length limits = length-draining j cs ∙ sym bins in
     record {
+      drains = subst (λ (xs : List ℕ). IsRow (length limits) xs) (sym is_draining) (subst (λ (n : ℕ). IsRow n (marked_from 0 (draining_for j cs))) marks (marked_is_row (draining_for j cs)));
       reach = record {
         items = omega (arith, items);
         bins = omega (arith, bins);
@@ -181,10 +192,10 @@ parts_shaped jobs cs known live holders limits rows before homes few_bins few_co
     }
 
 pub parts_make :
-    (jobs : List JobSpec) (cs : List Collector) (known : List KnownTarget) (live : List ℕ) (pairs : List (ℕ × ℕ)) (holders seen : List (Option ℕ)) (limits : List ℕ) (rows : List (List ℕ)) (before : List (ℕ × ℕ)) (p : Problem)
+    (jobs : List JobSpec) (cs : List Collector) (known : List KnownTarget) (live : List ℕ) (pairs : List (ℕ × ℕ)) (holders seen : List (Option ℕ)) (limits draining : List ℕ) (rows : List (List ℕ)) (before : List (ℕ × ℕ)) (p : Problem)
     → All (λ n. n < length known) live → length holders ≡ length known → ArePlaced pairs holders → seen ≡ holders
-    → limits ≡ limits_for jobs cs → rows ≡ map (row_in (length jobs) cs known) live → before ≡ preceding_from (held_bin (length jobs) cs known seen) 0 live → IsProblemOf p limits rows before → p ≡ problem_of jobs cs known live pairs
-parts_make jobs cs known live pairs holders seen limits rows before p numbers size placed same is_limits is_rows is_before made =
+    → limits ≡ limits_for jobs cs → draining ≡ marked_from 0 (draining_for (length jobs) cs) → rows ≡ map (row_in (length jobs) cs known) live → before ≡ preceding_from (held_bin (length jobs) cs known seen) 0 live → IsProblemOf p Two limits draining rows before → p ≡ problem_of jobs cs known live pairs
+parts_make jobs cs known live pairs holders seen limits draining rows before p numbers size placed same is_limits is_draining is_rows is_before made =
     let j : ℕ = length jobs in
     let items : length rows ≡ length live = ap (λ (xs : List (List ℕ)). length xs) is_rows ∙ length-map live (row_in j cs known) in
     let bins : p.before ≡ map (bin_before_in j cs known pairs) live =
@@ -197,4 +208,10 @@ parts_make jobs cs known live pairs holders seen limits rows before p numbers si
     ∙ ap (λ (hs : List (Option ℕ)). held_bin j cs known hs (get_or live i 0)) same
     ∙ ap (λ (o : Option ℕ). option_and_then (bin_in j cs known (get_or live i 0)) o) (placed.at (get_or live i 0) (omega (arith, size, numbers i 0 in_live)))
     ∙ sym (get_or-map (bin_before_in j cs known pairs) live i 0 None in_live)) in
-    λ i. record { limits = (made.same_limits ∙ is_limits) i; rows = (made.same_rows ∙ is_rows) i; before = bins i }
+    let marks : p.draining ≡ draining_for j cs =
+    (let long : length (draining_for j cs) ≡ length limits = length-draining j cs ∙ sym (ap (λ (xs : List ℕ). length xs) is_limits ∙ length-limits jobs cs) in
+    ext_get_or false p.draining (draining_for j cs) (made.same_draining.each ∙ sym long)
+    (λ i l.
+    let in_bins : i < length limits = omega (arith, made.same_draining.each) in
+    made.same_draining.at i in_bins ∙ ap (λ (xs : List ℕ). list_any (λ (b : ℕ). eqb b i) xs) is_draining ∙ sym ((marked_is_marked (draining_for j cs)).at i (omega (arith, long))))) in
+    λ i. record { version = made.same_version i; limits = (made.same_limits ∙ is_limits) i; draining = marks i; rows = (made.same_rows ∙ is_rows) i; before = bins i }

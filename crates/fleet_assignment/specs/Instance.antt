@@ -1,20 +1,28 @@
 -- The assignment problem of a fleet and a preceding allocation: its items are the live targets in order of number, its bins for
--- each collector in order the jobs, so that the bin of a collector's place and a job's place is place * jobs + job.
-use Rattle.std.specs.Prelude.{ℕ, ◌+◌, ◌*◌, ◌==◌, List, [], ◌∷◌, ◌++◌, Option, if◌then◌else◌, length, map, option_and_then, slice_get}
+-- each collector in order the jobs, so that the bin of a collector's place and a job's place is place * jobs + job. The bins of a
+-- draining collector drain.
+use Rattle.std.specs.Prelude.{ℕ, ◌+◌, ◌*◌, ◌==◌, Bool, List, [], ◌∷◌, ◌++◌, Option, if◌then◌else◌, length, map, replicate, option_and_then, slice_get}
 use Rattle.std.specs.List.{position_from}
 use Rattle.std.specs.Option.{option_map, option_map_or}
 use Rattle.price_certificate.specs.Problem.{Problem}
+use Rattle.price_certificate.specs.declared.version.Version.TheVariants.{Two}
 use Rattle.reach_rules.specs.Rules.{reaches}
 use Rattle.fleet.specs.declared.job.JobSpec.{JobSpec}
 use Rattle.fleet.specs.declared.known_target.KnownTarget.{KnownTarget}
 use Rattle.fleet.specs.declared.collector.Collector.{Collector}
 use Rattle.fleet.specs.Fleet.{FleetState, live_of}
+use Rattle.fleet.specs.ShareLimit.{share_limit}
 use Rattle.fleet_assignment.specs.Beside.{beside}
 
--- the limits of the bins: for each collector those of the jobs
+-- the limits of the bins: for each collector those of its shares of the jobs
 abbrev pub limits_for : List JobSpec → List Collector → List ℕ
 limits_for jobs [] = []
-limits_for jobs (c ∷ collectors) = map (λ (job : JobSpec). job.target_limit) jobs ++ limits_for jobs collectors
+limits_for jobs (c ∷ collectors) = map (λ (job : JobSpec). share_limit job c) jobs ++ limits_for jobs collectors
+
+-- which bins drain: for each collector, as often as there are jobs, whether it does
+abbrev pub draining_for : ℕ → List Collector → List Bool
+draining_for jobs [] = []
+draining_for jobs (c ∷ collectors) = replicate jobs c.draining ++ draining_for jobs collectors
 
 -- the bins that a target may use: those of its job at the collectors that reach it, from a place on
 abbrev pub row_from : ℕ → ℕ → List Collector → KnownTarget → List ℕ
@@ -46,7 +54,13 @@ bin_before fleet before target = bin_before_in (length fleet.jobs) fleet.collect
 -- the instance of these targets, jobs and collectors, with the pairs of an allocation before
 abbrev pub problem_of : List JobSpec → List Collector → List KnownTarget → List ℕ → List (ℕ × ℕ) → Problem
 problem_of jobs collectors known live pairs =
-    record { limits = limits_for jobs collectors; rows = map (row_in (length jobs) collectors known) live; before = map (bin_before_in (length jobs) collectors known pairs) live }
+    record {
+      version = Two;
+      limits = limits_for jobs collectors;
+      draining = draining_for (length jobs) collectors;
+      rows = map (row_in (length jobs) collectors known) live;
+      before = map (bin_before_in (length jobs) collectors known pairs) live;
+    }
 
 -- the assignment problem of a fleet and a preceding allocation
 unfoldable pub instance_of : FleetState → List (ℕ × ℕ) → Problem

@@ -1,11 +1,14 @@
 //! The assignment problem of a fleet: items are its live targets, bins each collector's share of each job. The way back, from a
 //! plan to an allocation, is in `allocation.rt`.
-ghost use Rattle.std.specs.Prelude.{◌≡◌, ◌<◌, ◌≤◌, ◌*◌, ◌+◌, ◌++◌, ℕ, None, All, length, map, option_and_then, slice_index_or, IfOk, IfSome, OnOk};
+ghost use Rattle.std.specs.Prelude.{◌≡◌, ◌<◌, ◌≤◌, ◌*◌, ◌+◌, ◌++◌, ℕ, None, false, All, length, map, option_and_then, slice_index_or, IfOk, IfSome, OnOk};
 ghost use Rattle.price_certificate.specs.Problem.{IsShaped, IsProblemOf};
+ghost use Rattle.price_certificate.specs.Document.{marked_from};
+ghost use Rattle.price_certificate.specs.declared.version.Version.TheVariants.{Two};
 ghost use Rattle.fleet.specs.Fleet.{live_of};
+ghost use Rattle.fleet.specs.ShareLimit.{share_limit};
 ghost use Rattle.fleet.specs.declared.job.JobSpec.{JobSpec};
 ghost use Rattle.fleet.specs.declared.known_target.KnownTarget.{KnownTarget};
-ghost use Rattle.fleet_assignment.specs.Instance.{instance_of, limits_for, row_from, row_in, place_of, bin_in, problem_of};
+ghost use Rattle.fleet_assignment.specs.Instance.{instance_of, limits_for, draining_for, row_from, row_in, place_of, bin_in, problem_of};
 ghost use Rattle.fleet_assignment.specs.Tables.{preceding_from};
 
 use crate::table::placed;
@@ -54,6 +57,7 @@ fn instance(
     ensures { IfOk result (λ i. i ≡ problem_of jobs.now collectors.now known.now live.now pairs.now) }
 {
     let limits = limits(alloc, jobs, collectors)?;
+    let draining = draining(alloc, jobs.len(), collectors)?;
     let rows = rows(alloc, jobs.len(), collectors, known, live)?;
     let holders = placed(alloc, known.len(), pairs)?;
     let before = preceding(
@@ -64,7 +68,7 @@ fn instance(
         live,
         holders.as_slice(),
     )?;
-    let instance = made(alloc, limits, rows, before)?;
+    let instance = made(alloc, limits, draining, rows, before)?;
     Ok(instance)
 }
 
@@ -72,40 +76,69 @@ fn instance(
 fn made(
     alloc: Global,
     limits: Vec<u32>,
+    draining: Vec<u32>,
     rows: Vec<List<u32>>,
     before: Vec<(u32, u32)>,
 ) -> Result<Instance, AllocError>
-    requires { IsShaped limits.items rows.items before.items }
-    ensures { IfOk result (λ i. IsProblemOf i limits.items rows.items before.items) }
+    requires { IsShaped limits.items draining.items rows.items before.items }
+    ensures { IfOk result (λ i. IsProblemOf i Two limits.items draining.items rows.items before.items) }
 {
     let limits = List::from_vec(limits);
+    let draining = List::from_vec(draining);
     let rows = List::from_vec(rows);
     let before = List::from_vec(before);
-    match Instance::new(alloc, limits, rows, before) {
+    match Instance::new2(alloc, limits, draining, rows, before) {
         Ok(instance) => Ok(instance),
         Err(InstanceError::Memory) => Err(AllocError),
         Err(InstanceError::Shape) => unreachable!(),
     }
 }
 
-/// The limits of the bins: for each collector those of the jobs.
+/// The limits of the bins: for each collector those of its shares of the jobs.
 fn limits(alloc: Global, jobs: &[JobSpec], collectors: &[Collector]) -> Result<Vec<u32>, AllocError>
     ensures { IfOk result (λ v. v.items ≡ limits_for jobs.now collectors.now) }
 {
     let mut limits = Vec::new(alloc);
-    for _collector in collectors {
-        push_limits(&mut limits, jobs)?;
+    for collector in collectors {
+        push_limits(&mut limits, jobs, collector)?;
     }
     Ok(limits)
 }
 
-fn push_limits(limits: &mut Vec<u32>, jobs: &[JobSpec]) -> Result<(), AllocError>
-    ensures { OnOk result (limits.new.items ≡ limits.old.items ++ map (λ (job : JobSpec). job.target_limit) jobs.now) }
+/// The limits of a collector's shares of the jobs.
+fn push_limits(
+    limits: &mut Vec<u32>,
+    jobs: &[JobSpec],
+    collector: &Collector,
+) -> Result<(), AllocError>
+    ensures { OnOk result (limits.new.items ≡ limits.old.items ++ map (λ (job : JobSpec). share_limit job collector.now) jobs.now) }
 {
     for job in jobs {
-        limits.push(job.target_limit)?;
+        limits.push(collector.share_limit(job))?;
     }
     Ok(())
+}
+
+/// The bins that drain, in ascending order.
+fn draining(alloc: Global, jobs: usize, collectors: &[Collector]) -> Result<Vec<u32>, AllocError>
+    requires { jobs * length collectors.now ≤ MOST_BINS }
+    ensures { IfOk result (λ v. v.items ≡ marked_from 0 (draining_for jobs collectors.now)) }
+{
+    let mut draining = Vec::new(alloc);
+    for bin in 0..jobs * collectors.len() {
+        if drains(jobs, collectors, bin) {
+            draining.push(bin as u32)?;
+        }
+    }
+    Ok(draining)
+}
+
+/// Whether a bin drains.
+fn drains(jobs: usize, collectors: &[Collector], bin: usize) -> bool
+    requires { bin < jobs * length collectors.now }
+    ensures { result ≡ slice_index_or (draining_for jobs collectors.now) bin false }
+{
+    collectors[bin / jobs].draining
 }
 
 /// For each live target the bins that it may use.

@@ -6,8 +6,8 @@ pub fn instances_are_problems()
     ensures { InstancesAreProblems }
 {}
 
-/// The allocation of a feasible plan is sound and in order of target, covers as many targets as the plan has pairs, and moves
-/// what the plan moves.
+/// The allocation of a feasible plan is sound and in order of target, covers as many targets as the plan has pairs, leaves at
+/// draining collectors what the plan leaves at draining bins, and moves what the plan moves.
 pub fn feasible_are_carried_over()
     ensures { FeasibleAreCarriedOver }
 {}

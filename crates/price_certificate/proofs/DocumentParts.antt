@@ -6,7 +6,7 @@ use Rattle.std.proofs.lemmas.List.Elements.{All-nil, All-cons, All-weaker, All-g
 use Rattle.std.proofs.lemmas.List.Sums.{sum_by-cons}
 use Rattle.std.proofs.lemmas.Bool.{cases_eq, eq-eqb, ne_eqb, or_from}
 use Rattle.serde_json.specs.Data.{Data}
-use Rattle.price_certificate.specs.Problem.{Problem, IsProblem, IsRow, IsPlaced, IsPreceding, bin_in, items_of, bins_of}
+use Rattle.price_certificate.specs.Problem.{Problem, IsProblem, IsRow, IsMarked, IsPlaced, IsPreceding, bin_in, items_of, bins_of}
 use Rattle.price_certificate.specs.declared.version.Version.{Version}
 use Rattle.price_certificate.specs.declared.version.Version.TheVariants.{One, Two}
 use Rattle.json_values.specs.Spelling.{number_in, pair_in, list_in}
@@ -116,8 +116,12 @@ marked-rises n [] = λ k l. absurd (omega (arith, l))
 marked-rises n (false ∷ marks) = marked-rises (n + 1) marks
 marked-rises n (true ∷ marks) = rises-cons n (marked_from (n + 1) marks) (marked-least (n + 1) marks) (marked-rises (n + 1) marks)
 
-marked-row : (p : Problem) → IsProblem p → IsRow (bins_of p) (marked_from 0 p.draining)
-marked-row p h = record { ascending = marked-rises 0 p.draining; in_range = marked-below 0 (bins_of p) p.draining (omega (arith, h.bins)) }
+-- the bins that are written are a row of bins, and mark what was marked
+pub marked_is_row : (marks : List Bool) → IsRow (length marks) (marked_from 0 marks)
+marked_is_row marks = record { ascending = marked-rises 0 marks; in_range = marked-below 0 (length marks) marks (omega arith) }
+
+pub marked_is_marked : (marks : List Bool) → IsMarked (length marks) (marked_from 0 marks) marks
+marked_is_marked marks = record { each = refl; at = λ bin below. marked-there 0 marks bin bin (omega arith) }
 
 no-row : (bins : ℕ) → IsRow bins []
 no-row bins = record { ascending = λ k l. absurd (omega (arith, l)); in_range = All-nil (λ (b : ℕ). b < bins) }
@@ -143,8 +147,8 @@ spells_by p Two e before bin_prices bins draining item_prices pairs reach h b l 
   rows = p.rows;
   preceding = pairs_from 0 p.before;
   parts = record { number = refl; bins = l; drains = d; reach = r; before = b };
-  shaped = record { reach = h.reach; drains = marked-row p h; preceding = preceding p h };
-  same = record { same_version = e; same_limits = refl; same_draining = record { each = h.bins; at = λ bin below. marked-there 0 p.draining bin bin (omega arith) }; same_rows = refl; before = placed p h };
+  shaped = record { reach = h.reach; drains = subst (λ (n : ℕ). IsRow n (marked_from 0 p.draining)) h.bins (marked_is_row p.draining); preceding = preceding p h };
+  same = record { same_version = e; same_limits = refl; same_draining = subst (λ (n : ℕ). IsMarked n (marked_from 0 p.draining) p.draining) h.bins (marked_is_marked p.draining); same_rows = refl; before = placed p h };
 }
 
 -- an object with the members of an instance spells it
