@@ -1,5 +1,6 @@
 pub mod CountLemmas
 pub mod FitLemmas
+pub mod LimitLemmas
 pub mod Moment
 pub mod MovedLemmas
 pub mod PairLemmas

@@ -7,21 +7,23 @@ use Rattle.std.proofs.lemmas.List.{length-map, get_or-map}
 use Rattle.std.proofs.lemmas.List.Elements.{All-map}
 use Rattle.std.proofs.lemmas.List.Sums.{count_by-le-length}
 use Rattle.std.proofs.lemmas.Bool.{cases_eq, eq-eqb, ne_eqb, eqb-true, eqb-false, and_from}
-use Rattle.price_certificate.specs.Problem.{IsAllowed, before_of, before_count, capacity_by, is_bin, items_of, was_in}
-use Rattle.price_certificate.specs.Assignment.{IsFeasible, IsOptimal, kept, moved, uses_of_bin, uses_of_item}
+use Rattle.price_certificate.specs.Problem.{IsAllowed, before_of, before_count, capacity_by, drains, is_bin, items_of, was_in}
+use Rattle.price_certificate.specs.Assignment.{IsFeasible, IsOptimal, kept, left, moved, uses_of_bin, uses_of_item}
 use Rattle.price_certificate.proofs.Duality.{allowed_item}
 use Rattle.price_certificate.proofs.Sums.{sum_by-same}
-use Rattle.fleet.specs.Fleet.{live_of}
+use Rattle.fleet.specs.Fleet.{is_draining, live_of}
+use Rattle.fleet.specs.ShareLimit.{lower_limit}
 use Rattle.fleet_assignment.proofs.Moment.{Moment}
 use Rattle.fleet_assignment.specs.Beside.{beside}
 use Rattle.fleet_assignment.specs.Instance.{instance_of, bin_in, bin_before, place_of}
 use Rattle.fleet_assignment.specs.Allocation.{allocation_of}
 use Rattle.fleet.specs.IsFleet.{IsFleet}
-use Rattle.fleet_assignment.specs.Best.{IsBest, IsCarriedOver, IsOnce, IsSound, is_of_job, limit_at, moved_by, share_of, stands_in}
+use Rattle.fleet_assignment.specs.Best.{IsBest, IsCarriedOver, IsOnce, IsSound, is_of_job, left_by, limit_at, moved_by, own_limit_at, share_of, stands_in}
 use Rattle.fleet.specs.declared.known_target.KnownTarget.{KnownTarget}
 use Rattle.fleet.specs.declared.collector.Collector.{Collector}
 use Rattle.fleet_assignment.proofs.SoundLemmas.{allocation_ascending, allocation_live, allocation_once, allocation_reaching, same_some}
-use Rattle.fleet_assignment.proofs.WithinLemmas.{HasId, allocation_within, find_id, got, limit_of_bin, one_place}
+use Rattle.fleet_assignment.proofs.WithinLemmas.{HasId, allocation_within, allocation_within_own, draining_at, draining_one, find_id, limit_of_bin, one_place}
+use Rattle.fleet_assignment.proofs.LimitLemmas.{lower_least}
 use Rattle.fleet_assignment.proofs.CountLemmas.{count_weaker, ones, pairs_most, passes_or, stands_beside, sum_by-map}
 use Rattle.fleet_assignment.proofs.FitLemmas.{Fits, allowed_fits, bin_is, bin_of, fits_allowed, item_of, place_by, position_none, reached_fits, same_bin}
 use Rattle.fleet_assignment.proofs.MovedLemmas.{before_can, loses_the_rest}
@@ -75,10 +77,6 @@ capacity_least : (items limit n : ℕ) → n ≤ items → (limit ≢ 0 → n �
 unfolding capacity_by
 capacity_least items limit n few within = elim (cases_eq limit 0) [ inl e ↦ rw (eq-eqb limit 0 e) few | inr d ↦ rw (ne_eqb limit 0 d) (omega (arith, few, within d)) ]
 
-limit_is : (m : Moment) (place job bin : ℕ) → place < length m.fleet.collectors → job < length m.fleet.jobs → bin ≡ place * length m.fleet.jobs + job → slice_index (instance_of m.fleet m.before).limits bin ≡ limit_at m.fleet job
-unfolding instance_of
-limit_is m place job bin l in_range is = limit_of_bin m.fleet.jobs m.fleet.collectors place job bin l in_range is
-
 item_once : (m : Moment) (pairs : List (ℕ × ℕ)) (item : ℕ) → IsFleet m.fleet → IsSound m.fleet pairs → uses_of_item (plan_from m pairs) item ≤ 1
 item_once m pairs item kept sound =
     let t : ℕ = get_or (live_of m.fleet) item 0 in
@@ -95,14 +93,15 @@ bin_within m pairs bin kept sound limited = elim (passes_or (λ (q : ℕ × ℕ)
       let g : Fits m (item_of m q.0) (bin_of m q.0 q.1) q.0 q.1 = all_fit m pairs kept sound p.place (0, 0) p.in_range in
       let is : bin_of m q.0 q.1 ≡ bin = eqb-true (bin_of m q.0 q.1) bin p.pass in
       let job : ℕ = g.known_as.job in
-      let limit : slice_index (instance_of m.fleet m.before).limits bin ≡ limit_at m.fleet job = limit_is m g.place job bin (got m.fleet.collectors g.place g.reacher g.reacher g.found).0 g.home (sym is ∙ g.is_place) in
+      let limit : slice_index (instance_of m.fleet m.before).limits bin ≡ lower_limit (limit_at m.fleet job) (own_limit_at m.fleet q.1 job) =
+      limit_of_bin m g.place job bin g.reacher kept g.found g.home (sym is ∙ g.is_place) ∙ ap (λ (id : ℕ). lower_limit (limit_at m.fleet job) (own_limit_at m.fleet id job)) g.number in
       let few : count_by (λ (r : ℕ × ℕ). eqb (bin_of m r.0 r.1) bin) pairs ≤ share_of m.fleet pairs q.1 job =
       count_weaker (λ (r : ℕ × ℕ). eqb (bin_of m r.0 r.1) bin) (λ (r : ℕ × ℕ). eqb r.1 q.1 && is_of_job m.fleet job r.0) pairs
       (λ k d l e.
       let r : ℕ × ℕ = get_or pairs k d in
       let s = same_bin m (item_of m r.0) (bin_of m r.0 r.1) r.0 r.1 (item_of m q.0) (bin_of m q.0 q.1) q.0 q.1 (all_fit m pairs kept sound k d l) g (eqb-true (bin_of m r.0 r.1) bin e ∙ sym is) in
       and_from (eqb r.1 q.1) (is_of_job m.fleet job r.0) (eq-eqb r.1 q.1 s.0) s.1) in
-      omega (arith, few, limit, sound.within q.1 job (λ z. limited (limit ∙ z)))
+      omega (arith, few, limit, lower_least (limit_at m.fleet job) (own_limit_at m.fleet q.1 job) (share_of m.fleet pairs q.1 job) (sound.within q.1 job) (sound.within_own q.1 job) (λ z. limited (limit ∙ z)))
 ]
 
 -- the plan of a sound allocation is feasible
@@ -131,6 +130,21 @@ plan_keeps m pairs is_kept once sound =
     (λ k d l. ap (λ (b : Bool). (let r : ℕ = cond b 1 0 in r))
     (was_stands m (item_of m (get_or pairs k d).0) (bin_of m (get_or pairs k d).0 (get_or pairs k d).1) (get_or pairs k d).0 (get_or pairs k d).1 is_kept once (all_fit m pairs is_kept sound k d l)))
 
+-- a bin drains if its collector does
+drains_is : (m : Moment) (item bin target collector : ℕ) → IsFleet m.fleet → Fits m item bin target collector → drains (instance_of m.fleet m.before) bin ≡ is_draining m.fleet collector
+unfolding instance_of
+drains_is m item bin target collector is_kept f =
+    draining_at (length m.fleet.jobs) m.fleet.collectors f.place f.known_as.job bin f.reacher f.found f.home f.is_place
+    ∙ sym (draining_one m.fleet.collectors f.place f.reacher is_kept.ascending f.found) ∙ ap (is_draining m.fleet) f.number
+
+-- and leaves at draining bins what the allocation leaves at draining collectors
+plan_leaves : (m : Moment) (pairs : List (ℕ × ℕ)) → IsFleet m.fleet → IsSound m.fleet pairs → left (instance_of m.fleet m.before) (plan_from m pairs) ≡ left_by m.fleet pairs
+plan_leaves m pairs is_kept sound =
+    sum_by-map (λ (r : ℕ × ℕ). cond (drains (instance_of m.fleet m.before) r.1) 1 0) (λ (q : ℕ × ℕ). (let r : ℕ × ℕ = (item_of m q.0, bin_of m q.0 q.1) in r)) pairs
+    ∙ sum_by-same (λ (q : ℕ × ℕ). cond (drains (instance_of m.fleet m.before) (bin_of m q.0 q.1)) 1 0) (λ (q : ℕ × ℕ). cond (is_draining m.fleet q.1) 1 0) pairs
+    (λ k d l. ap (λ (b : Bool). (let r : ℕ = cond b 1 0 in r))
+    (drains_is m (item_of m (get_or pairs k d).0) (bin_of m (get_or pairs k d).0 (get_or pairs k d).1) (get_or pairs k d).0 (get_or pairs k d).1 is_kept (all_fit m pairs is_kept sound k d l)))
+
 -- from plans to allocations
 sum_allocation :
     (m : Moment) (v : ℕ × ℕ → ℕ) (plan : List (ℕ × ℕ)) → IsFleet m.fleet → IsFeasible (instance_of m.fleet m.before) plan → sum_by v (allocation_of m.fleet plan) ≡ sum_by (λ (q : ℕ × ℕ). v (meant (length m.fleet.jobs) m.fleet.collectors (live_of m.fleet) q)) plan
@@ -155,6 +169,14 @@ allocation_keeps m plan is_kept once feasible =
     let q : ℕ × ℕ = get_or plan k d in
     ap (λ (b : Bool). (let r : ℕ = cond b 1 0 in r)) (sym (was_stands m q.0 q.1 _ _ is_kept once (allowed_fits m q.0 q.1 is_kept (feasible.allowed k d l)))))
 
+allocation_leaves : (m : Moment) (plan : List (ℕ × ℕ)) → IsFleet m.fleet → IsFeasible (instance_of m.fleet m.before) plan → left_by m.fleet (allocation_of m.fleet plan) ≡ left (instance_of m.fleet m.before) plan
+allocation_leaves m plan is_kept feasible =
+    sum_allocation m (λ (q : ℕ × ℕ). cond (is_draining m.fleet q.1) 1 0) plan is_kept feasible
+    ∙ sum_by-same (λ (q : ℕ × ℕ). cond (is_draining m.fleet (meant (length m.fleet.jobs) m.fleet.collectors (live_of m.fleet) q).1) 1 0) (λ (q : ℕ × ℕ). cond (drains (instance_of m.fleet m.before) q.1) 1 0) plan
+    (λ k d l.
+    let q : ℕ × ℕ = get_or plan k d in
+    ap (λ (b : Bool). (let r : ℕ = cond b 1 0 in r)) (sym (drains_is m q.0 q.1 _ _ is_kept (allowed_fits m q.0 q.1 is_kept (feasible.allowed k d l)))))
+
 fewer : (before a b c d : ℕ) → before - a ≤ before - b → c + a ≡ before → d + b ≡ before → c ≤ d
 fewer before a b c d l e f = omega arith
 
@@ -171,11 +193,15 @@ best_of m plan is_kept once sound optimal =
     record {
       sound = sound;
       covers = λ others fine. omega (arith, optimal.covers_most (plan_from m others) (plan_feasible m others is_kept fine), length-map others (λ (q : ℕ × ℕ). (let r : ℕ × ℕ = (item_of m q.0, bin_of m q.0 q.1) in r)), size);
-      moves = λ others fine same.
+      leaves = λ others fine same.
+          let long : length (plan_from m others) ≡ length others = length-map others (λ (q : ℕ × ℕ). (let r : ℕ × ℕ = (item_of m q.0, bin_of m q.0 q.1) in r)) in
+          omega (arith, optimal.leaves_least (plan_from m others) (plan_feasible m others is_kept fine) (long ∙ same ∙ size), plan_leaves m others is_kept fine, allocation_leaves m plan is_kept optimal.feasible);
+      moves = λ others fine same alike.
           let feasible = plan_feasible m others is_kept fine in
+          let leaves : left (instance_of m.fleet m.before) (plan_from m others) ≡ left (instance_of m.fleet m.before) plan = plan_leaves m others is_kept fine ∙ alike ∙ allocation_leaves m plan is_kept optimal.feasible in
           let long : length (plan_from m others) ≡ length others = length-map others (λ (q : ℕ × ℕ). (let r : ℕ × ℕ = (item_of m q.0, bin_of m q.0 q.1) in r)) in
           fewer (before_count (instance_of m.fleet m.before)) (kept (instance_of m.fleet m.before) plan) (kept (instance_of m.fleet m.before) (plan_from m others)) (moved_by m.fleet m.before (allocation_of m.fleet plan)) (moved_by m.fleet m.before others)
-          (optimal.moves_least (plan_from m others) feasible (long ∙ same ∙ size))
+          (optimal.moves_least (plan_from m others) feasible (long ∙ same ∙ size) leaves)
           (omega (arith, before, loses_the_rest m (allocation_of m.fleet plan) sound once, allocation_keeps m plan is_kept once optimal.feasible))
           (omega (arith, before, loses_the_rest m others fine once, plan_keeps m others is_kept once fine));
     }
@@ -188,6 +214,7 @@ allocation_sound m plan is_kept feasible =
       once = allocation_once m plan;
       reaching = allocation_reaching m plan is_kept feasible.allowed;
       within = allocation_within m plan is_kept feasible;
+      within_own = allocation_within_own m plan is_kept feasible;
     }
 
 pub carried_over : (m : Moment) (plan : List (ℕ × ℕ)) → IsFleet m.fleet → IsOnce m.before → IsFeasible (instance_of m.fleet m.before) plan → IsCarriedOver m.fleet m.before plan
@@ -197,6 +224,7 @@ carried_over m plan is_kept once feasible =
       sound = sound;
       ascending = allocation_ascending m plan;
       covers = allocation_size m plan is_kept feasible;
+      leaves = sym (allocation_leaves m plan is_kept feasible);
       moves = moves_alike m plan is_kept once sound feasible;
     }
 
@@ -207,7 +235,10 @@ optimal_by m plan is_kept once feasible best =
     record {
       feasible = feasible;
       covers_most = λ others fine. let theirs = carried_over m others is_kept once fine in omega (arith, best.covers (allocation_of m.fleet others) theirs.sound, mine.covers, theirs.covers);
-      moves_least = λ others fine same.
+      leaves_least = λ others fine same.
           let theirs = carried_over m others is_kept once fine in
-          omega (arith, best.moves (allocation_of m.fleet others) theirs.sound (omega (arith, same, mine.covers, theirs.covers)), mine.moves, theirs.moves);
+          omega (arith, best.leaves (allocation_of m.fleet others) theirs.sound (omega (arith, same, mine.covers, theirs.covers)), mine.leaves, theirs.leaves);
+      moves_least = λ others fine same alike.
+          let theirs = carried_over m others is_kept once fine in
+          omega (arith, best.moves (allocation_of m.fleet others) theirs.sound (omega (arith, same, mine.covers, theirs.covers)) (omega (arith, alike, mine.leaves, theirs.leaves)), mine.moves, theirs.moves);
     }

@@ -1,20 +1,24 @@
 -- An allocation of a feasible plan gives no collector more of a job's targets than the job's limit.
-use Rattle.std.proofs.Common.{◌≡◌, ◌≢◌, ℕ, zero, suc, ◌+◌, ◌*◌, ◌/◌, ◌<◌, ◌≤◌, ◌&&◌, ◌⊎◌, List, [], ◌∷◌, ◌++◌, Bool, true, false, Option, Some, None, length, get_or, cond, eqb, refl, sym, ap, subst, ◌∙◌, inl, inr, arith}
-use Rattle.std.specs.Prelude.{Contains, map, slice_get, slice_index}
+use Rattle.std.proofs.Common.{◌≡◌, ◌≢◌, ℕ, zero, suc, ◌+◌, ◌*◌, ◌/◌, ◌<◌, ◌≤◌, ◌&&◌, ◌||◌, ◌⊎◌, List, [], ◌∷◌, ◌++◌, Bool, true, false, Option, Some, None, All, length, get_or, cond, eqb, refl, sym, ap, subst, ◌∙◌, inl, inr, arith}
+use Rattle.std.specs.Prelude.{AllPairs, Contains, find, map, replicate, slice_get, slice_index}
+use Rattle.std.specs.List.{list_any}
 use Rattle.std.specs.Option.{option_map, option_map_or, option_to_list}
 use Rattle.std.proofs.lemmas.Nat.{div-mul-add}
-use Rattle.std.proofs.lemmas.List.{length-map}
+use Rattle.std.proofs.lemmas.List.{length-map, length-replicate, get_or-replicate}
 use Rattle.std.proofs.lemmas.List.Sums.{sum_by-cons}
 use Rattle.std.proofs.lemmas.Bool.{cases_eq, cases_lt, eq-eqb, ne_eqb}
 use Rattle.price_certificate.specs.Problem.{IsAllowed, capacity_by, capacity_of, items_of, is_bin}
 use Rattle.price_certificate.specs.Assignment.{IsFeasible, uses_of_bin}
+use Rattle.reach_rules.specs.OwnLimits.{own_limit}
 use Rattle.fleet.specs.Fleet.{live_of}
+use Rattle.fleet.specs.ShareLimit.{lower_limit, share_limit}
 use Rattle.fleet_assignment.proofs.Moment.{Moment}
 use Rattle.fleet_assignment.specs.Beside.{beside}
-use Rattle.fleet_assignment.specs.Instance.{instance_of, row_from, row_for, limits_for}
+use Rattle.fleet_assignment.specs.Instance.{instance_of, row_from, row_for, limits_for, draining_for}
 use Rattle.fleet_assignment.specs.Allocation.{allocation_of, pair_by, pairs_from}
 use Rattle.fleet.specs.IsFleet.{IsFleet}
-use Rattle.fleet_assignment.specs.Best.{is_of_job, share_of, limit_at}
+use Rattle.fleet_assignment.specs.Best.{is_of_job, share_of, limit_at, own_limit_at}
+use Rattle.fleet_assignment.proofs.LimitLemmas.{capacity_first, capacity_second}
 use Rattle.fleet_assignment.proofs.Shapes.{found_has}
 use Rattle.fleet_assignment.proofs.SoundLemmas.{row_is_from, row_at_item, beside_has}
 use Rattle.fleet.specs.declared.job.JobSpec.{JobSpec}
@@ -184,48 +188,71 @@ get_back [] ys i k e = ap (λ (n : ℕ). get_or ys n 0) (let r : i ≡ k = omega
 get_back (x ∷ xs) ys zero k e = absurd (omega arith)
 get_back (x ∷ xs) ys (suc i) k e = get_back xs ys i k (omega arith)
 
-limit_of_job : (jobs : List JobSpec) (job : ℕ) → get_or (map (λ (j : JobSpec). j.target_limit) jobs) job 0 ≡ option_map_or (λ (j : JobSpec). j.target_limit) (slice_get jobs job) 0
-limit_of_job [] job = refl
-limit_of_job (j ∷ jobs) zero = refl
-limit_of_job (j ∷ jobs) (suc job) = limit_of_job jobs job
+job_in_range : (f : JobSpec → ℕ) (jobs : List JobSpec) (job : ℕ) → option_map_or f (slice_get jobs job) 0 ≢ 0 → job < length jobs
+job_in_range f [] job d = absurd (d refl)
+job_in_range f (j ∷ jobs) zero d = omega arith
+job_in_range f (j ∷ jobs) (suc job) d = omega (arith, job_in_range f jobs job d)
 
-job_in_range : (jobs : List JobSpec) (job : ℕ) → option_map_or (λ (j : JobSpec). j.target_limit) (slice_get jobs job) 0 ≢ 0 → job < length jobs
-job_in_range [] job d = absurd (d refl)
-job_in_range (j ∷ jobs) zero d = omega arith
-job_in_range (j ∷ jobs) (suc job) d = omega (arith, job_in_range jobs job d)
+limit_of_job : (f : JobSpec → ℕ) (jobs : List JobSpec) (job : ℕ) → get_or (map f jobs) job 0 ≡ option_map_or f (slice_get jobs job) 0
+limit_of_job f [] job = refl
+limit_of_job f (j ∷ jobs) zero = refl
+limit_of_job f (j ∷ jobs) (suc job) = limit_of_job f jobs job
 
-pub limit_of_bin : (jobs : List JobSpec) (cs : List Collector) (place job i : ℕ) → place < length cs → job < length jobs → i ≡ place * length jobs + job → get_or (limits_for jobs cs) i 0 ≡ option_map_or (λ (j : JobSpec). j.target_limit) (slice_get jobs job) 0
-limit_of_bin jobs [] place job i l in_range e = absurd (omega arith)
-limit_of_bin jobs (c ∷ cs) zero job i l in_range e =
+-- the bin of a collector's place and a job's has the limit of the collector's share of the job
+share_of_bin : (jobs : List JobSpec) (cs : List Collector) (place job i : ℕ) (one : Collector) → slice_get cs place ≡ Some one → job < length jobs → i ≡ place * length jobs + job → get_or (limits_for jobs cs) i 0 ≡ option_map_or (λ (j : JobSpec). share_limit j one) (slice_get jobs job) 0
+share_of_bin jobs [] place job i one found in_range e = cc
+share_of_bin jobs (c ∷ cs) zero job i one found in_range e =
     let here : i ≡ job = omega arith in
-    ap (λ (n : ℕ). get_or (limits_for jobs (c ∷ cs)) n 0) here ∙ get_front (map (λ (j : JobSpec). j.target_limit) jobs) (limits_for jobs cs) job (omega (arith, length-map jobs (λ (j : JobSpec). j.target_limit))) ∙ limit_of_job jobs job
-limit_of_bin jobs (c ∷ cs) (suc place) job i l in_range e =
-    get_back (map (λ (j : JobSpec). j.target_limit) jobs) (limits_for jobs cs) i (place * length jobs + job) (omega (arith, length-map jobs (λ (j : JobSpec). j.target_limit)))
-    ∙ limit_of_bin jobs cs place job (place * length jobs + job) (omega arith) in_range refl
+    let is : c ≡ one = cc in
+    let f : JobSpec → ℕ = λ j. share_limit j c in
+    ap (λ (n : ℕ). get_or (limits_for jobs (c ∷ cs)) n 0) here ∙ get_front (map f jobs) (limits_for jobs cs) job (omega (arith, length-map jobs f)) ∙ limit_of_job f jobs job ∙ ap (λ (x : Collector). option_map_or (λ (j : JobSpec). share_limit j x) (slice_get jobs job) 0) is
+share_of_bin jobs (c ∷ cs) (suc place) job i one found in_range e =
+    let f : JobSpec → ℕ = λ j. share_limit j c in
+    get_back (map f jobs) (limits_for jobs cs) i (place * length jobs + job) (omega (arith, length-map jobs f))
+    ∙ share_of_bin jobs cs place job (place * length jobs + job) one found in_range refl
 
-capacity_le : (items limit : ℕ) → limit ≢ 0 → capacity_by items limit ≤ limit
-unfolding capacity_by
-capacity_le items limit d = rw (ne_eqb limit 0 d) (omega arith)
+-- the limit of a share is the lower of the job's and the collector's own
+lower_by : (o : Option JobSpec) (one : Collector) → option_map_or (λ (j : JobSpec). share_limit j one) o 0 ≡ lower_limit (option_map_or (λ (j : JobSpec). j.target_limit) o 0) (option_map_or (λ (j : JobSpec). own_limit one.limits j.name) o 0)
+lower_by None one = refl
+lower_by (Some j) one = refl
 
-limit_of_instance : (m : Moment) (place job : ℕ) → place < length m.fleet.collectors → limit_at m.fleet job ≢ 0 → slice_index (instance_of m.fleet m.before).limits (place * length m.fleet.jobs + job) ≡ limit_at m.fleet job
+find_step : (b : Bool) (x one : Collector) (rest : Option Collector) → (b ≡ true → x ≡ one) → (b ≡ false → rest ≡ Some one) → cond b (Some x) rest ≡ Some one
+find_step true x one rest here there = let s = here refl in cc
+find_step false x one rest here there = there refl
+
+-- the first collector of a number is the one that has it
+pub find_one : (cs : List Collector) (place : ℕ) (one : Collector) (id : ℕ) → AllPairs (λ (a b : Collector). a.id < b.id) cs → slice_get cs place ≡ Some one → one.id ≡ id → find (λ (c : Collector). eqb c.id id) cs ≡ Some one
+find_one [] place one id rises found is = cc
+find_one (x ∷ cs) zero one id rises found is = let s : x ≡ one = cc in find_step (eqb x.id id) x one (find (λ (c : Collector). eqb c.id id) cs) (λ e. s) (λ e. absurd (true_false (sym (eq-eqb x.id id (ap (λ (c : Collector). c.id) s ∙ is)) ∙ e)))
+  where
+    true_false : true ≡ false → ⊥
+    true_false e = cc
+find_one (x ∷ cs) (suc place) one id rises found is =
+    let there = got cs place one x found in
+    let below : x.id < one.id = omega (arith, rises 0 (suc place) x (omega arith) (omega (arith, there.0)), ap (λ (c : Collector). c.id) there.1) in
+    find_step (eqb x.id id) x one (find (λ (c : Collector). eqb c.id id) cs) (λ e. absurd (omega (arith, below, is, eqb_same x.id id e)))
+    (λ e. find_one cs place one id (λ i j d l less. rises (suc i) (suc j) d (omega arith) (omega arith)) found is)
+
+-- the limit of the bin, as the fleet tells both
+pub limit_of_bin :
+    (m : Moment) (place job bin : ℕ) (one : Collector) → IsFleet m.fleet → slice_get m.fleet.collectors place ≡ Some one → job < length m.fleet.jobs → bin ≡ place * length m.fleet.jobs + job
+    → slice_index (instance_of m.fleet m.before).limits bin ≡ lower_limit (limit_at m.fleet job) (own_limit_at m.fleet one.id job)
 unfolding instance_of
-limit_of_instance m place job l d = limit_of_bin m.fleet.jobs m.fleet.collectors place job (place * length m.fleet.jobs + job) l (job_in_range m.fleet.jobs job d) refl
+limit_of_bin m place job bin one kept found in_range is =
+    let own : own_limit_at m.fleet one.id job ≡ option_map_or (λ (j : JobSpec). own_limit one.limits j.name) (slice_get m.fleet.jobs job) 0 =
+    ap (λ (o : Option Collector). option_map_or (λ (c : Collector). option_map_or (λ (j : JobSpec). own_limit c.limits j.name) (slice_get m.fleet.jobs job) 0) o 0) (find_one m.fleet.collectors place one one.id kept.ascending found refl) in
+    share_of_bin m.fleet.jobs m.fleet.collectors place job bin one found in_range is ∙ lower_by (slice_get m.fleet.jobs job) one ∙ ap (lower_limit (limit_at m.fleet job)) (sym own)
 
-pub allocation_within :
-    (m : Moment) (plan : List (ℕ × ℕ)) → IsFleet m.fleet → IsFeasible (instance_of m.fleet m.before) plan → (collector job : ℕ) → limit_at m.fleet job ≢ 0 → share_of m.fleet (allocation_of m.fleet plan) collector job ≤ limit_at m.fleet job
+-- a collector's share of a job is no more than its bin holds
+share_capacity :
+    (m : Moment) (plan : List (ℕ × ℕ)) → IsFleet m.fleet → IsFeasible (instance_of m.fleet m.before) plan → (collector job : ℕ) (h : HasId m.fleet.collectors collector)
+    → share_of m.fleet (allocation_of m.fleet plan) collector job ≤ capacity_of (instance_of m.fleet m.before) (h.place * length m.fleet.jobs + job)
 unfolding allocation_of
-allocation_within m plan kept feasible collector job limited = elim (find_id m.fleet.collectors collector) [
-  | inl none ↦ omega (arith, share_none m collector job (beside plan) 0 (live_of m.fleet) none)
-  | inr h ↦
-      let bin : ℕ = h.place * length m.fleet.jobs + job in
-      let in_range : h.place < length m.fleet.collectors = (got m.fleet.collectors h.place h.one h.one h.found).0 in
-      let few = share_few m collector job bin (beside plan) 0 (live_of m.fleet)
-      (λ i l q e test. bin_test m plan collector job i q h kept feasible l e test) in
-      let limit = limit_of_instance m h.place job in_range limited in
-      let capacity : capacity_of (instance_of m.fleet m.before) bin ≤ limit_at m.fleet job =
-      subst (λ (n : ℕ). capacity_by (items_of (instance_of m.fleet m.before)) n ≤ limit_at m.fleet job) (sym limit) (capacity_le (items_of (instance_of m.fleet m.before)) (limit_at m.fleet job) limited) in
-      omega (arith, few, with_uses plan bin 0 (length (live_of m.fleet)), feasible.within bin, capacity)
-]
+share_capacity m plan kept feasible collector job h =
+    let bin : ℕ = h.place * length m.fleet.jobs + job in
+    let few = share_few m collector job bin (beside plan) 0 (live_of m.fleet)
+    (λ i l q e test. bin_test m plan collector job i q h kept feasible l e test) in
+    omega (arith, few, with_uses plan bin 0 (length (live_of m.fleet)), feasible.within bin)
   where
     bin_test :
         (m : Moment) (plan : List (ℕ × ℕ)) (collector job i : ℕ) (q : ℕ × ℕ) (h : HasId m.fleet.collectors collector) → IsFleet m.fleet → IsFeasible (instance_of m.fleet m.before) plan → i < length (live_of m.fleet)
@@ -237,3 +264,103 @@ allocation_within m plan kept feasible collector job limited = elim (find_id m.f
         let has : Contains (row_for m.fleet t) b = subst (λ (row : List ℕ). Contains row b) (row_at_item m i l) (beside_has (λ (item bin : ℕ). IsAllowed (instance_of m.fleet m.before) item bin) plan i b feasible.allowed (ap (beside plan) (let r : i ≡ 0 + i = omega arith in r) ∙ s)) in
         let is : b ≡ h.place * length m.fleet.jobs + job = bin_by m collector job t b c h (slice_get m.fleet.known t) kept refl (λ k f. found_has (λ (x : KnownTarget). x.job < length m.fleet.jobs) m.fleet.known t k kept.homes f) has found tested in
         ap (λ (o : Option ℕ). is_bin o (h.place * length m.fleet.jobs + job)) s ∙ eq-eqb b (h.place * length m.fleet.jobs + job) is) e test
+
+share_nobody :
+    (m : Moment) (plan : List (ℕ × ℕ)) (collector job : ℕ) → ((k : ℕ) (c : Collector) → slice_get m.fleet.collectors k ≡ Some c → eqb c.id collector ≡ false) → share_of m.fleet (allocation_of m.fleet plan) collector job ≡ 0
+unfolding allocation_of
+share_nobody m plan collector job none = share_none m collector job (beside plan) 0 (live_of m.fleet) none
+
+-- the capacity of the bin, by the two limits that the fleet tells
+capacity_is :
+    (m : Moment) (collector job : ℕ) (h : HasId m.fleet.collectors collector) → IsFleet m.fleet → job < length m.fleet.jobs
+    → capacity_of (instance_of m.fleet m.before) (h.place * length m.fleet.jobs + job) ≡ capacity_by (items_of (instance_of m.fleet m.before)) (lower_limit (limit_at m.fleet job) (own_limit_at m.fleet collector job))
+capacity_is m collector job h kept in_range =
+    ap (capacity_by (items_of (instance_of m.fleet m.before)))
+    (limit_of_bin m h.place job (h.place * length m.fleet.jobs + job) h.one kept h.found in_range refl ∙ ap (λ (id : ℕ). lower_limit (limit_at m.fleet job) (own_limit_at m.fleet id job)) h.number)
+
+-- no collector has more than the job's limit
+pub allocation_within :
+    (m : Moment) (plan : List (ℕ × ℕ)) → IsFleet m.fleet → IsFeasible (instance_of m.fleet m.before) plan → (collector job : ℕ) → limit_at m.fleet job ≢ 0 → share_of m.fleet (allocation_of m.fleet plan) collector job ≤ limit_at m.fleet job
+allocation_within m plan kept feasible collector job limited = elim (find_id m.fleet.collectors collector) [
+  | inl none ↦ omega (arith, share_nobody m plan collector job none)
+  | inr h ↦
+      omega (
+        arith,
+        share_capacity m plan kept feasible collector job h,
+        capacity_is m collector job h kept (job_in_range (λ (j : JobSpec). j.target_limit) m.fleet.jobs job limited),
+        capacity_first (items_of (instance_of m.fleet m.before)) (limit_at m.fleet job) (own_limit_at m.fleet collector job) limited,
+      )
+]
+
+own_in_range : (m : Moment) (o : Option Collector) (job : ℕ) → option_map_or (λ (c : Collector). option_map_or (λ (j : JobSpec). own_limit c.limits j.name) (slice_get m.fleet.jobs job) 0) o 0 ≢ 0 → job < length m.fleet.jobs
+own_in_range m None job d = absurd (d refl)
+own_in_range m (Some c) job d = job_in_range (λ (j : JobSpec). own_limit c.limits j.name) m.fleet.jobs job d
+
+-- nor than its own limit
+pub allocation_within_own :
+    (m : Moment) (plan : List (ℕ × ℕ)) → IsFleet m.fleet → IsFeasible (instance_of m.fleet m.before) plan → (collector job : ℕ) → own_limit_at m.fleet collector job ≢ 0 → share_of m.fleet (allocation_of m.fleet plan) collector job ≤ own_limit_at m.fleet collector job
+allocation_within_own m plan kept feasible collector job limited = elim (find_id m.fleet.collectors collector) [
+  | inl none ↦ omega (arith, share_nobody m plan collector job none)
+  | inr h ↦
+      omega (
+        arith,
+        share_capacity m plan kept feasible collector job h,
+        capacity_is m collector job h kept (own_in_range m (find (λ (c : Collector). eqb c.id collector) m.fleet.collectors) job limited),
+        capacity_second (items_of (instance_of m.fleet m.before)) (limit_at m.fleet job) (own_limit_at m.fleet collector job) limited,
+      )
+]
+
+get_front_flag : (xs ys : List Bool) (k : ℕ) → k < length xs → get_or (xs ++ ys) k false ≡ get_or xs k false
+get_front_flag [] ys k l = absurd (omega arith)
+get_front_flag (x ∷ xs) ys zero l = refl
+get_front_flag (x ∷ xs) ys (suc k) l = get_front_flag xs ys k (omega arith)
+
+get_back_flag : (xs ys : List Bool) (i k : ℕ) → i ≡ length xs + k → get_or (xs ++ ys) i false ≡ get_or ys k false
+get_back_flag [] ys i k e = ap (λ (n : ℕ). get_or ys n false) (let r : i ≡ k = omega arith in r)
+get_back_flag (x ∷ xs) ys zero k e = absurd (omega arith)
+get_back_flag (x ∷ xs) ys (suc i) k e = get_back_flag xs ys i k (omega arith)
+
+-- the bin of a collector's place and a job's drains if the collector does
+pub draining_at : (jobs : ℕ) (cs : List Collector) (place job i : ℕ) (one : Collector) → slice_get cs place ≡ Some one → job < jobs → i ≡ place * jobs + job → get_or (draining_for jobs cs) i false ≡ one.draining
+draining_at jobs [] place job i one found in_range e = cc
+draining_at jobs (c ∷ cs) zero job i one found in_range e =
+    let is : c ≡ one = cc in
+    get_front_flag (replicate jobs c.draining) (draining_for jobs cs) i (omega (arith, length-replicate jobs c.draining))
+    ∙ get_or-replicate jobs i c.draining false (omega arith) ∙ ap (λ (x : Collector). x.draining) is
+draining_at jobs (c ∷ cs) (suc place) job i one found in_range e =
+    get_back_flag (replicate jobs c.draining) (draining_for jobs cs) i (place * jobs + job) (omega (arith, length-replicate jobs c.draining))
+    ∙ draining_at jobs cs place job (place * jobs + job) one found in_range refl
+
+or_same : (a b c : Bool) → a ≡ c → b ≡ false → (a || b) ≡ c
+or_same true b c e f = e
+or_same false b c e f = f ∙ e
+
+none_drains : (cs : List Collector) (id : ℕ) → All (λ (c : Collector). id < c.id) cs → list_any (λ (c : Collector). eqb c.id id && c.draining) cs ≡ false
+none_drains [] id above = refl
+none_drains (x ∷ cs) id above =
+    or_same (eqb x.id id && x.draining) (list_any (λ (c : Collector). eqb c.id id && c.draining) cs) false
+    (not_both (eqb x.id id) x.draining (ne_eqb x.id id (λ e. absurd (omega (arith, e, above 0 x (omega arith))))))
+    (none_drains cs id (λ k d l. above (suc k) d (omega arith)))
+
+and_first : (a b c : Bool) → a ≡ true → b ≡ c → (a && b) ≡ c
+and_first true b c e f = f
+and_first false b c e f = cc
+
+-- the number of a live collector drains if that collector does
+pub draining_one : (cs : List Collector) (place : ℕ) (one : Collector) → AllPairs (λ (a b : Collector). a.id < b.id) cs → slice_get cs place ≡ Some one → list_any (λ (c : Collector). eqb c.id one.id && c.draining) cs ≡ one.draining
+draining_one [] place one rises found = cc
+draining_one (x ∷ cs) zero one rises found =
+    let is : x ≡ one = cc in
+    or_same (eqb x.id one.id && x.draining) (list_any (λ (c : Collector). eqb c.id one.id && c.draining) cs) one.draining
+    (and_first (eqb x.id one.id) x.draining one.draining (eq-eqb x.id one.id (ap (λ (c : Collector). c.id) is)) (ap (λ (c : Collector). c.draining) is))
+    (none_drains cs one.id (λ k d l. omega (arith, rises 0 (suc k) d (omega arith) (omega arith), ap (λ (c : Collector). c.id) is)))
+draining_one (x ∷ cs) (suc place) one rises found =
+    let there = got cs place one x found in
+    let below : x.id < one.id = omega (arith, rises 0 (suc place) x (omega arith) (omega (arith, there.0)), ap (λ (c : Collector). c.id) there.1) in
+    or_swap (eqb x.id one.id && x.draining) (list_any (λ (c : Collector). eqb c.id one.id && c.draining) cs) one.draining
+    (not_both (eqb x.id one.id) x.draining (ne_eqb x.id one.id (λ e. absurd (omega (arith, below, e)))))
+    (draining_one cs place one (λ i j d l less. rises (suc i) (suc j) d (omega arith) (omega arith)) found)
+  where
+    or_swap : (a b c : Bool) → a ≡ false → b ≡ c → (a || b) ≡ c
+    or_swap true b c e f = cc
+    or_swap false b c e f = f

@@ -1,0 +1,1 @@
+use Rattle.fleet_assignment.proofs.instance.drains.Goals as goal
