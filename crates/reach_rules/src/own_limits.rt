@@ -37,15 +37,6 @@ impl Model for OwnLimits {
 }
 
 impl OwnLimits {
-    /// The limits that a JSON value spells: an object from names of jobs to whole numbers of at most 32 bits. Another shape
-    /// is refused as `Shape`.
-    pub fn read(alloc: Global, value: &Value) -> Result<OwnLimits, ReachError>
-        ensures { Gives result (limits_in (view value.now)) }
-    {
-        let members = value.as_object().ok_or(ReachError::Shape)?;
-        read_members(alloc, members)
-    }
-
     /// No limits. It takes no memory.
     pub fn none(alloc: Global) -> OwnLimits
         ensures { result ≡ [] }
@@ -100,6 +91,17 @@ impl OwnLimits {
     }
 }
 
+impl OwnLimits {
+    /// The limits that a JSON value spells: an object from names of jobs to whole numbers of at most 32 bits. Another shape
+    /// is refused as `Shape`.
+    pub fn read(alloc: Global, value: &Value) -> Result<OwnLimits, ReachError>
+        ensures { Gives result (limits_in (view value.now)) }
+    {
+        let members = value.as_object().ok_or(ReachError::Shape)?;
+        read_members(alloc, members)
+    }
+}
+
 impl Plain for OwnLimits {
     fn copy(&self) -> Result<OwnLimits, AllocError> {
         OwnLimits::of(*self.entries.allocator(), self.entries.as_slice())
@@ -108,18 +110,6 @@ impl Plain for OwnLimits {
     fn same(&self, other: &OwnLimits) -> bool {
         all_same(self.entries.as_slice(), other.entries.as_slice())
     }
-}
-
-/// The limits that an object's members spell.
-fn read_members(alloc: Global, members: &Map<String, Value>) -> Result<OwnLimits, ReachError>
-    ensures { Gives result (option_map limits_of (entries_in (members_view members.now.entries))) }
-{
-    let mut limits = OwnLimits::none(alloc);
-    for (job, value) in members.iter() {
-        let limit = number(value).ok_or(ReachError::Shape)?;
-        limits.set(job.as_str(), limit)?;
-    }
-    Ok(limits)
 }
 
 impl Spelled for OwnLimits {
@@ -138,6 +128,33 @@ impl Spelled for OwnLimits {
     fn write(&self, alloc: Global) -> Result<Value, AllocError> {
         object_of(alloc, self.entries.as_slice())
     }
+}
+
+/// Whether two slices have equal entries.
+fn all_same(entries: &[(Text, u32)], others: &[(Text, u32)]) -> bool
+    ensures { IsTrue result ↔ (entries.now ≡ others.now) }
+{
+    if entries.len() != others.len() {
+        return false;
+    }
+    for i in 0..entries.len() {
+        if !entries[i].same(&others[i]) {
+            return false;
+        }
+    }
+    true
+}
+
+/// The limits that an object's members spell.
+fn read_members(alloc: Global, members: &Map<String, Value>) -> Result<OwnLimits, ReachError>
+    ensures { Gives result (option_map limits_of (entries_in (members_view members.now.entries))) }
+{
+    let mut limits = OwnLimits::none(alloc);
+    for (job, value) in members.iter() {
+        let limit = number(value).ok_or(ReachError::Shape)?;
+        limits.set(job.as_str(), limit)?;
+    }
+    Ok(limits)
 }
 
 /// The object of the entries.
@@ -199,19 +216,4 @@ fn put(entries: &mut Vec<(Text, u32)>, job: &str, limit: u32) -> Result<(), Allo
             Ok(())
         }
     }
-}
-
-/// Whether two slices have equal entries.
-fn all_same(entries: &[(Text, u32)], others: &[(Text, u32)]) -> bool
-    ensures { IsTrue result ↔ (entries.now ≡ others.now) }
-{
-    if entries.len() != others.len() {
-        return false;
-    }
-    for i in 0..entries.len() {
-        if !entries[i].same(&others[i]) {
-            return false;
-        }
-    }
-    true
 }
