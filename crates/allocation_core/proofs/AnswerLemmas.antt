@@ -6,19 +6,24 @@ use Rattle.price_certificate.specs.Faults.{fault_of}
 use Rattle.price_certificate.specs.declared.plan.Plan.{Plan}
 use Rattle.price_certificate.specs.declared.verdict.Fault.{Fault}
 use Rattle.handover.specs.Handover.{holder_in, taken_by}
-use Rattle.fleet.specs.Changes.{join_refusal, list_refusal}
+use Rattle.fleet.specs.Changes.{drain_refusal, join_refusal, limits_refusal, list_refusal}
 use Rattle.fleet.specs.Fleet.{is_joined}
 use Rattle.fleet.specs.declared.outcome.ListRefusal.{ListRefusal}
 use Rattle.fleet.specs.declared.outcome.ListRefusal.TheVariants.{UnknownJob as NoJob, UnknownSource as NoSource, TooManyLive as CrowdLive, TooManyKnown as CrowdKnown}
 use Rattle.fleet.specs.declared.outcome.JoinRefusal.{JoinRefusal}
-use Rattle.fleet.specs.declared.outcome.JoinRefusal.TheVariants.{AlreadyJoined as NameTaken, TooManyCollectors as NoRoom, IdsSpent as NoId}
+use Rattle.fleet.specs.declared.outcome.JoinRefusal.TheVariants.{UnknownJob as NoJobOfName, AlreadyJoined as NameTaken, TooManyCollectors as NoRoom, IdsSpent as NoId}
+use Rattle.fleet.specs.declared.outcome.DrainRefusal.{DrainRefusal}
+use Rattle.fleet.specs.declared.outcome.DrainRefusal.TheVariants.{UnknownCollector as NobodyDrains, AlreadyDraining as DrainsAlready}
+use Rattle.fleet.specs.declared.outcome.LimitsRefusal.{LimitsRefusal}
+use Rattle.fleet.specs.declared.outcome.LimitsRefusal.TheVariants.{UnknownCollector as NobodyLimited, UnknownJob as NoJobLimited}
 use Rattle.fleet_events.specs.declared.event.Event.{Event}
-use Rattle.fleet_events.specs.declared.event.Event.TheVariants.{Discover, Join, Leave, Install, NextRound, Take, Report}
-use Rattle.fleet_events.specs.declared.answer.Answer.TheVariants.{Discovered, Joined, Left, Published, RoundOpen, Taken, Booked}
+use Rattle.fleet_events.specs.declared.event.Event.TheVariants.{Discover, Join, Leave, Drain, SetLimits, Install, NextRound, Take, Report}
+use Rattle.fleet_events.specs.declared.answer.Answer.TheVariants.{Discovered, Joined, Left, Draining, LimitsSet, Published, RoundOpen, Taken, Booked}
 use Rattle.fleet_events.specs.declared.refusal.Refusal.TheVariants.{UnknownCollector, Unchanged, NumbersSpent, RoundsSpent, NotTaken, UnknownTarget, NotHolder, RoundClosed, RoundNotOpen, AlreadyBooked}
+use Rattle.allocation_core.specs.declared.limits.TheConstants.{LAST_ALLOCATION, LAST_ROUND}
 use Rattle.allocation_core.specs.State.{State, allocation_at, current_of, current_pairs, held_by, instance_at}
-use Rattle.allocation_core.specs.Steps.{answer_by, answer_of, is_booked, is_holder, plan_refusal, same_pairs, unjoined, unlisted}
-use Rattle.allocation_core.specs.Answers.{IsAnswerTo, is_discover_answer, is_join_answer, is_leave_answer, is_install_answer, is_round_answer, is_take_answer, is_report_answer}
+use Rattle.allocation_core.specs.Steps.{answer_by, answer_of, is_booked, is_holder, plan_refusal, same_pairs, undrained, unjoined, unlimited, unlisted}
+use Rattle.allocation_core.specs.Answers.{IsAnswerTo, is_discover_answer, is_join_answer, is_leave_answer, is_drain_answer, is_limits_answer, is_install_answer, is_round_answer, is_take_answer, is_report_answer}
 
 discover_answer : (o : Option ListRefusal) (x y : ℕ) → IsTrue (is_discover_answer (answer_by (option_map unlisted o) (Discovered x y)))
 discover_answer None x y = refl
@@ -29,6 +34,7 @@ discover_answer (Some CrowdKnown) x y = refl
 
 join_answer : (o : Option JoinRefusal) (x : ℕ) → IsTrue (is_join_answer (answer_by (option_map unjoined o) (Joined x)))
 join_answer None x = refl
+join_answer (Some NoJobOfName) x = refl
 join_answer (Some (NameTaken id)) x = refl
 join_answer (Some NoRoom) x = refl
 join_answer (Some NoId) x = refl
@@ -37,6 +43,16 @@ leave_answer : (b : Bool) → IsTrue (is_leave_answer (answer_by (cond b None (S
 leave_answer true = refl
 leave_answer false = refl
 
+drain_answer : (o : Option DrainRefusal) → IsTrue (is_drain_answer (answer_by (option_map undrained o) Draining))
+drain_answer None = refl
+drain_answer (Some NobodyDrains) = refl
+drain_answer (Some DrainsAlready) = refl
+
+limits_answer : (o : Option LimitsRefusal) → IsTrue (is_limits_answer (answer_by (option_map unlimited o) LimitsSet))
+limits_answer None = refl
+limits_answer (Some NobodyLimited) = refl
+limits_answer (Some NoJobLimited) = refl
+
 number_answer : (a b : Bool) (n x : ℕ) → IsTrue (is_install_answer (answer_by (cond a (Some (Unchanged n)) (cond b None (Some NumbersSpent))) (Published x)))
 number_answer true b n x = refl
 number_answer false true n x = refl
@@ -44,7 +60,7 @@ number_answer false false n x = refl
 
 install_answer : (m : State) (plan : Plan) (f : Option Fault) (x : ℕ) → IsTrue (is_install_answer (answer_by (plan_refusal m plan f) (Published x)))
 install_answer m plan (Some fault) x = refl
-install_answer m plan None x = number_answer (same_pairs (allocation_at m plan.pairs) (current_pairs m)) (nat_lt (current_of m) 4294967295) (current_of m) x
+install_answer m plan None x = number_answer (same_pairs (allocation_at m plan.pairs) (current_pairs m)) (nat_lt (current_of m) LAST_ALLOCATION) (current_of m) x
 
 round_answer : (b : Bool) (r : ℕ) → IsTrue (is_round_answer (answer_by (cond b None (Some RoundsSpent)) (RoundOpen r)))
 round_answer true r = refl
@@ -69,10 +85,12 @@ report_answer true true true true false false false taken round holder = refl
 pub answers_fit : (m : State) (e : Event) → IsAnswerTo e (answer_of m e)
 unfolding answer_of
 answers_fit m (Discover name source targets) = discover_answer (list_refusal m.fleet name source targets) _ _
-answers_fit m (Join name reach) = join_answer (join_refusal m.fleet name) (m.fleet.last_collector + 1)
+answers_fit m (Join name reach limits) = join_answer (join_refusal m.fleet name limits) (m.fleet.last_collector + 1)
 answers_fit m (Leave id) = leave_answer (is_joined m.fleet id)
+answers_fit m (Drain id) = drain_answer (drain_refusal m.fleet id)
+answers_fit m (SetLimits id limits) = limits_answer (limits_refusal m.fleet id limits)
 answers_fit m (Install plan) = install_answer m plan (fault_of (instance_at m) plan.pairs plan.item_prices plan.bin_prices) (current_of m + 1)
-answers_fit m NextRound = round_answer (nat_lt m.round 4294967295) (m.round + 1)
+answers_fit m NextRound = round_answer (nat_lt m.round LAST_ROUND) (m.round + 1)
 answers_fit m (Take id) = take_answer (is_joined m.fleet id) (current_of m) m.round (held_by m id)
 answers_fit m (Report report) =
     let holder : Option ℕ = holder_in m.published report.allocation report.target in

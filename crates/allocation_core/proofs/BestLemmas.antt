@@ -10,7 +10,7 @@ use Rattle.price_certificate.specs.Faults.{NoFaultIsCertified}
 use Rattle.price_certificate.specs.Problem.{IsProblem, Problem}
 use Rattle.handover.specs.Handover.{last_of}
 use Rattle.fleet.specs.declared.job.JobSpec.{JobSpec}
-use Rattle.fleet_assignment.specs.Best.{AllocationsAreOnce, FeasibleAreCarriedOver, InstancesAreProblems, IsBest, IsOnce, OptimalIsBest, moved_by}
+use Rattle.fleet_assignment.specs.Best.{AllocationsAreOnce, FeasibleAreCarriedOver, InstancesAreProblems, IsBest, IsOnce, OptimalIsBest, left_by, moved_by}
 use Rattle.fleet_events.specs.declared.answer.Answer.TheVariants.{Published}
 use Rattle.fleet_events.specs.declared.event.Event.{Event}
 use Rattle.fleet_events.specs.declared.event.Event.TheVariants.{Install}
@@ -99,6 +99,7 @@ here_best laws m e es k kept once low high p =
       ascending = subst (λ (ps : List (ℕ × ℕ)). AllPairs (λ (a b : ℕ × ℕ). a.0 < b.0) ps) (sym is) over.ascending;
       published = is;
       optimal = optimal_plan;
+      leaves = over.leaves ∙ ap (λ (ps : List (ℕ × ℕ)). left_by m.fleet ps) (sym is);
       moves = over.moves ∙ ap (λ (ps : List (ℕ × ℕ)). moved_by m.fleet (current_pairs m) ps) (sym is);
     }
 
@@ -123,6 +124,7 @@ run_best laws m (e ∷ es) k kept once low high = elim (cases_lt k (length (stat
         ascending = later.ascending;
         published = later.published;
         optimal = later.optimal;
+        leaves = later.leaves;
         moves = later.moves;
       }
 ]
@@ -145,6 +147,7 @@ farther first events done left place pairs e was =
       ascending = was.ascending;
       published = was.published;
       optimal = was.optimal;
+      leaves = was.leaves;
       moves = was.moves;
     }
 

@@ -20,7 +20,7 @@ use Rattle.allocation_core.specs.Kept.{IsKept}
 use Rattle.allocation_core.specs.Booked.{AllBooked, AlwaysBooked, WasBooked, report_of}
 use Rattle.fleet.specs.declared.job.JobSpec.{JobSpec}
 use Rattle.fleet_events.specs.declared.event.Event.{Event}
-use Rattle.fleet_events.specs.declared.event.Event.TheVariants.{Discover, Join, Leave, Install, NextRound, Take, Report}
+use Rattle.fleet_events.specs.declared.event.Event.TheVariants.{Discover, Join, Leave, Drain, SetLimits, Install, NextRound, Take, Report}
 use Rattle.fleet_events.specs.declared.answer.Answer.TheVariants.{Booked}
 use Rattle.fleet_events.specs.declared.refusal.Refusal.{Refusal}
 use Rattle.allocation_core.proofs.Admission.{Admitted, admitted}
@@ -49,8 +49,10 @@ report_by m n entry (Some r) free grown = inl refl
 pub books : (m : State) (e : Event) → ((state_after m e).booked ≡ m.booked) ⊎ Books m e
 unfolding state_after answer_of
 books m (Discover name source targets) = inl (same_by m _ (refusal_of m (Discover name source targets)) refl)
-books m (Join name reach) = inl (same_by m _ (refusal_of m (Join name reach)) refl)
+books m (Join name reach limits) = inl (same_by m _ (refusal_of m (Join name reach limits)) refl)
 books m (Leave id) = inl (same_by m _ (refusal_of m (Leave id)) refl)
+books m (Drain id) = inl (same_by m _ (refusal_of m (Drain id)) refl)
+books m (SetLimits id limits) = inl (same_by m _ (refusal_of m (SetLimits id limits)) refl)
 books m (Install plan) = inl (same_by m _ (refusal_of m (Install plan)) refl)
 books m NextRound = inl (same_by m _ (refusal_of m NextRound) refl)
 books m (Take id) = inl (same_by m _ (refusal_of m (Take id)) refl)
@@ -243,8 +245,10 @@ nothing_by m n o e = omega (arith, ap total_of (same_by m n o e))
 pub total_rises : (m : State) (e : Event) → total_of (state_after m e).booked ≡ total_of m.booked + gained e (answer_of m e)
 unfolding state_after answer_of
 total_rises m (Discover name source targets) = nothing_by m (changed m (Discover name source targets)) (refusal_of m (Discover name source targets)) refl
-total_rises m (Join name reach) = nothing_by m (changed m (Join name reach)) (refusal_of m (Join name reach)) refl
+total_rises m (Join name reach limits) = nothing_by m (changed m (Join name reach limits)) (refusal_of m (Join name reach limits)) refl
 total_rises m (Leave id) = nothing_by m (changed m (Leave id)) (refusal_of m (Leave id)) refl
+total_rises m (Drain id) = nothing_by m (changed m (Drain id)) (refusal_of m (Drain id)) refl
+total_rises m (SetLimits id limits) = nothing_by m (changed m (SetLimits id limits)) (refusal_of m (SetLimits id limits)) refl
 total_rises m (Install plan) = nothing_by m (changed m (Install plan)) (refusal_of m (Install plan)) refl
 total_rises m NextRound = nothing_by m (changed m NextRound) (refusal_of m NextRound) refl
 total_rises m (Take id) = nothing_by m (changed m (Take id)) (refusal_of m (Take id)) refl

@@ -9,22 +9,23 @@ use Rattle.price_certificate.specs.declared.plan.Plan.{Plan}
 use Rattle.price_certificate.specs.declared.verdict.Fault.{Fault}
 use Rattle.handover.specs.Handover.{with_taken}
 use Rattle.scrape_books.specs.declared.report.Entry.{Entry}
-use Rattle.fleet.specs.Changes.{join_refusal, list_refusal, with_collector, with_listing, without_collector}
+use Rattle.fleet.specs.Changes.{join_refusal, list_refusal, with_collector, with_draining, with_limits, with_listing, without_collector}
 use Rattle.fleet.specs.Fleet.{FleetState, first_fleet}
 use Rattle.fleet.specs.IsFleet.{IsFleet}
 use Rattle.fleet.specs.declared.collector.Collector.{Collector}
 use Rattle.fleet.specs.declared.job.JobSpec.{JobSpec}
 use Rattle.fleet.specs.declared.outcome.JoinRefusal.{JoinRefusal}
 use Rattle.fleet.specs.declared.outcome.ListRefusal.{ListRefusal}
-use Rattle.fleet.proofs.ChangeLemmas.{collector_kept, listing_kept}
+use Rattle.fleet.proofs.ChangeLemmas.{collector_kept, draining_kept, limits_kept, listing_kept}
 use Rattle.fleet.proofs.KeptLemmas.{first_kept as fleet_first_kept, leave_kept}
 use Rattle.fleet_events.specs.declared.answer.Answer.TheVariants.{Published}
 use Rattle.fleet_events.specs.declared.event.Event.{Event}
-use Rattle.fleet_events.specs.declared.event.Event.TheVariants.{Discover, Join, Leave, Install, NextRound, Take, Report}
+use Rattle.fleet_events.specs.declared.event.Event.TheVariants.{Discover, Join, Leave, Drain, SetLimits, Install, NextRound, Take, Report}
 use Rattle.fleet_events.specs.declared.refusal.Refusal.{Refusal}
 use Rattle.fleet_events.specs.declared.refusal.Refusal.TheVariants.{Unchanged, NumbersSpent}
 use Rattle.allocation_core.specs.State.{State, allocation_at, current_of, current_pairs, first_state, instance_at}
 use Rattle.allocation_core.specs.Steps.{answer_by, answer_of, changed, entry_of, number_refusal, plan_refusal, refusal_of, same_pairs, state_after, unjoined, unlisted}
+use Rattle.allocation_core.specs.declared.limits.TheConstants.{LAST_ALLOCATION}
 use Rattle.allocation_core.specs.Runs.{state_of}
 use Rattle.allocation_core.specs.Kept.{IsKept}
 use Rattle.allocation_core.proofs.Admission.{admitted}
@@ -45,10 +46,10 @@ plan_by m plan (Some fault) e = cc
 
 install_kept : (m : State) (plan : Plan) → IsKept m → refusal_of m (Install plan) ≡ None → IsKept (changed m (Install plan))
 install_kept m plan kept e =
-    let free = number_by (same_pairs (allocation_at m plan.pairs) (current_pairs m)) (nat_lt (current_of m) 4294967295) (Unchanged (current_of m)) (plan_by m plan (fault_of (instance_at m) plan.pairs plan.item_prices plan.bin_prices) e).1 in
+    let free = number_by (same_pairs (allocation_at m plan.pairs) (current_pairs m)) (nat_lt (current_of m) LAST_ALLOCATION) (Unchanged (current_of m)) (plan_by m plan (fault_of (instance_at m) plan.pairs plan.item_prices plan.bin_prices) e).1 in
     record {
       fleet = kept.fleet;
-      few_published = omega (arith, length-append m.published (allocation_at m plan.pairs ∷ []), ltb-true (current_of m) 4294967295 free);
+      few_published = omega (arith, length-append m.published (allocation_at m plan.pairs ∷ []), ltb-true (current_of m) LAST_ALLOCATION free);
       opened = kept.opened;
       past_rounds = kept.past_rounds;
     }
@@ -77,8 +78,10 @@ kept_with m taken round booked kept opened past =
 
 changed_kept : (m : State) (e : Event) → IsKept m → refusal_of m e ≡ None → IsKept (changed m e)
 changed_kept m (Discover name source targets) kept free = fleet_kept m (with_listing m.fleet name source targets) kept (listing_kept m.fleet name source targets kept.fleet (not_mapped (list_refusal m.fleet name source targets) free))
-changed_kept m (Join name reach) kept free = fleet_kept m (with_collector m.fleet name reach) kept (collector_kept m.fleet name reach kept.fleet (not_joined (join_refusal m.fleet name) free))
+changed_kept m (Join name reach limits) kept free = fleet_kept m (with_collector m.fleet name reach limits) kept (collector_kept m.fleet name reach limits kept.fleet (not_joined (join_refusal m.fleet name limits) free))
 changed_kept m (Leave id) kept free = fleet_kept m (without_collector m.fleet id) kept (leave_kept m.fleet (λ (c : Collector). _) kept.fleet)
+changed_kept m (Drain id) kept free = fleet_kept m (with_draining m.fleet id) kept (draining_kept m.fleet id kept.fleet)
+changed_kept m (SetLimits id limits) kept free = fleet_kept m (with_limits m.fleet id limits) kept (limits_kept m.fleet id limits kept.fleet)
 changed_kept m (Install plan) kept free = install_kept m plan kept free
 changed_kept m NextRound kept free = kept_with m m.taken (m.round + 1) m.booked kept (omega arith) (λ k d l. omega (arith, kept.past_rounds k d l))
 changed_kept m (Take id) kept free = kept_with m (with_taken m.taken id (current_of m)) m.round m.booked kept kept.opened kept.past_rounds
@@ -126,8 +129,10 @@ install_by m plan (Some r) fine = inl refl
 pub publishes : (m : State) (e : Event) → ((state_after m e).published ≡ m.published) ⊎ Publishes m e
 unfolding state_after answer_of
 publishes m (Discover name source targets) = inl (same_by m _ (refusal_of m (Discover name source targets)) refl)
-publishes m (Join name reach) = inl (same_by m _ (refusal_of m (Join name reach)) refl)
+publishes m (Join name reach limits) = inl (same_by m _ (refusal_of m (Join name reach limits)) refl)
 publishes m (Leave id) = inl (same_by m _ (refusal_of m (Leave id)) refl)
+publishes m (Drain id) = inl (same_by m _ (refusal_of m (Drain id)) refl)
+publishes m (SetLimits id limits) = inl (same_by m _ (refusal_of m (SetLimits id limits)) refl)
 publishes m NextRound = inl (same_by m _ (refusal_of m NextRound) refl)
 publishes m (Take id) = inl (same_by m _ (refusal_of m (Take id)) refl)
 publishes m (Report report) = inl (same_by m _ (refusal_of m (Report report)) refl)

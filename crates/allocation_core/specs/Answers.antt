@@ -1,10 +1,10 @@
 -- Which answers an event can have.
 use Rattle.std.specs.Prelude.{Bool, true, false, IsTrue}
 use Rattle.fleet_events.specs.declared.event.Event.{Event}
-use Rattle.fleet_events.specs.declared.event.Event.TheVariants.{Discover, Join, Leave, Install, NextRound, Take, Report}
+use Rattle.fleet_events.specs.declared.event.Event.TheVariants.{Discover, Join, Leave, Drain, SetLimits, Install, NextRound, Take, Report}
 use Rattle.fleet_events.specs.declared.answer.Answer.{Answer}
-use Rattle.fleet_events.specs.declared.answer.Answer.TheVariants.{Discovered, Joined, Left, Published, RoundOpen, Taken, Booked, Not}
-use Rattle.fleet_events.specs.declared.refusal.Refusal.TheVariants.{UnknownJob, UnknownSource, TooManyLive, TooManyKnown, AlreadyJoined, TooManyCollectors, IdsSpent, UnknownCollector, Refused, Unchanged, NumbersSpent, RoundsSpent, NotTaken, UnknownTarget, NotHolder, RoundClosed, RoundNotOpen, AlreadyBooked}
+use Rattle.fleet_events.specs.declared.answer.Answer.TheVariants.{Discovered, Joined, Left, Draining, LimitsSet, Published, RoundOpen, Taken, Booked, Not}
+use Rattle.fleet_events.specs.declared.refusal.Refusal.TheVariants.{UnknownJob, UnknownSource, TooManyLive, TooManyKnown, AlreadyJoined, TooManyCollectors, IdsSpent, UnknownCollector, AlreadyDraining, Refused, Unchanged, NumbersSpent, RoundsSpent, NotTaken, UnknownTarget, NotHolder, RoundClosed, RoundNotOpen, AlreadyBooked}
 
 abbrev pub is_discover_answer : Answer → Bool
 is_discover_answer (Discovered added removed) = true
@@ -16,6 +16,7 @@ is_discover_answer _ = false
 
 abbrev pub is_join_answer : Answer → Bool
 is_join_answer (Joined id) = true
+is_join_answer (Not UnknownJob) = true
 is_join_answer (Not (AlreadyJoined id)) = true
 is_join_answer (Not TooManyCollectors) = true
 is_join_answer (Not IdsSpent) = true
@@ -25,6 +26,18 @@ abbrev pub is_leave_answer : Answer → Bool
 is_leave_answer Left = true
 is_leave_answer (Not UnknownCollector) = true
 is_leave_answer _ = false
+
+abbrev pub is_drain_answer : Answer → Bool
+is_drain_answer Draining = true
+is_drain_answer (Not UnknownCollector) = true
+is_drain_answer (Not AlreadyDraining) = true
+is_drain_answer _ = false
+
+abbrev pub is_limits_answer : Answer → Bool
+is_limits_answer LimitsSet = true
+is_limits_answer (Not UnknownCollector) = true
+is_limits_answer (Not UnknownJob) = true
+is_limits_answer _ = false
 
 abbrev pub is_install_answer : Answer → Bool
 is_install_answer (Published number) = true
@@ -56,8 +69,10 @@ is_report_answer _ = false
 
 abbrev pub IsAnswerTo : Event → Answer → Type 0
 IsAnswerTo (Discover job source targets) answer = IsTrue (is_discover_answer answer)
-IsAnswerTo (Join name reach) answer = IsTrue (is_join_answer answer)
+IsAnswerTo (Join name reach limits) answer = IsTrue (is_join_answer answer)
 IsAnswerTo (Leave id) answer = IsTrue (is_leave_answer answer)
+IsAnswerTo (Drain id) answer = IsTrue (is_drain_answer answer)
+IsAnswerTo (SetLimits id limits) answer = IsTrue (is_limits_answer answer)
 IsAnswerTo (Install plan) answer = IsTrue (is_install_answer answer)
 IsAnswerTo NextRound answer = IsTrue (is_round_answer answer)
 IsAnswerTo (Take id) answer = IsTrue (is_take_answer answer)
@@ -66,12 +81,14 @@ IsAnswerTo (Report report) answer = IsTrue (is_report_answer answer)
 -- the events that take no memory
 abbrev pub needs_no_memory : Event → Bool
 needs_no_memory (Leave id) = true
+needs_no_memory (Drain id) = true
+needs_no_memory (SetLimits id limits) = true
 needs_no_memory NextRound = true
 needs_no_memory _ = false
 
 -- the events that want memory only where nothing is against them
 abbrev pub checks_first : Event → Bool
-checks_first (Join name reach) = true
+checks_first (Join name reach limits) = true
 checks_first (Take id) = true
 checks_first (Report report) = true
 checks_first _ = false

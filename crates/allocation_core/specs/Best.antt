@@ -1,9 +1,9 @@
 -- What every published allocation is: the best of its moment.
 use Rattle.std.specs.Prelude.{◌≡◌, ◌<◌, ◌+◌, ℕ, List, [], ◌∷◌, ◌++◌, AllPairs, length, slice_index_or}
-use Rattle.price_certificate.specs.Assignment.{IsOptimal, moved}
+use Rattle.price_certificate.specs.Assignment.{IsOptimal, left, moved}
 use Rattle.price_certificate.specs.declared.plan.Plan.{Plan}
 use Rattle.fleet.specs.declared.job.JobSpec.{JobSpec}
-use Rattle.fleet_assignment.specs.Best.{IsBest, moved_by}
+use Rattle.fleet_assignment.specs.Best.{IsBest, left_by, moved_by}
 use Rattle.fleet_events.specs.declared.answer.Answer.TheVariants.{Published}
 use Rattle.fleet_events.specs.declared.event.Event.{Event}
 use Rattle.fleet_events.specs.declared.event.Event.TheVariants.{Install}
@@ -25,7 +25,8 @@ pub record WasBest (first : State) (events : List Event) (place : ℕ) (pairs : 
   pub ascending : AllPairs (λ (a b : ℕ × ℕ). a.0 < b.0) pairs
   pub published : pairs ≡ allocation_at (state_of first earlier) plan.pairs
   pub optimal : IsOptimal (instance_at (state_of first earlier)) plan.pairs
-  -- what the certificate's checker counts as moved is what this allocation moves
+  -- what the certificate's checker counts as left and as moved is what this allocation leaves at draining collectors and moves
+  pub leaves : left (instance_at (state_of first earlier)) plan.pairs ≡ left_by (state_of first earlier).fleet pairs
   pub moves : moved (instance_at (state_of first earlier)) plan.pairs ≡ moved_by (state_of first earlier).fleet (current_pairs (state_of first earlier)) pairs
 
 -- each allocation of the state was published by these events, and was the best of its moment

@@ -2,6 +2,7 @@
 use Rattle.std.specs.Prelude.{ℕ, List, [], length}
 use Rattle.price_certificate.specs.Problem.{Problem}
 use Rattle.price_certificate.specs.declared.plan.Plan.{Plan}
+use Rattle.price_certificate.specs.declared.version.Version.TheVariants.{Two}
 use Rattle.handover.specs.Handover.{last_of, held_in}
 use Rattle.scrape_books.specs.declared.report.Entry.{Entry}
 use Rattle.fleet.specs.Fleet.{FleetState, first_fleet}
@@ -30,7 +31,7 @@ first_state jobs =
     record {
       fleet = first_fleet jobs;
       published = [];
-      problem = record { limits = []; rows = []; before = [] };
+      problem = record { version = Two; limits = []; draining = []; rows = []; before = [] };
       plan = record { pairs = []; item_prices = []; bin_prices = [] };
       taken = [];
       round = 1;

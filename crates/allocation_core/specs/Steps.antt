@@ -11,7 +11,7 @@ use Rattle.scrape_books.specs.Books.{samples_of}
 use Rattle.scrape_books.specs.declared.report.Entry.{Entry}
 use Rattle.scrape_books.specs.declared.report.Outcome.{Outcome}
 use Rattle.fleet.specs.Fleet.{is_joined}
-use Rattle.fleet.specs.Changes.{difference, join_refusal, list_refusal, with_collector, with_listing, without_collector}
+use Rattle.fleet.specs.Changes.{difference, drain_refusal, join_refusal, limits_refusal, list_refusal, with_collector, with_draining, with_limits, with_listing, without_collector}
 use Rattle.fleet.specs.declared.outcome.Listing.{Listing}
 use Rattle.fleet.specs.declared.outcome.Listing.TheVariants.{Changed, Refused as NotListed}
 use Rattle.fleet.specs.declared.outcome.ListRefusal.{ListRefusal}
@@ -19,14 +19,23 @@ use Rattle.fleet.specs.declared.outcome.ListRefusal.TheVariants.{UnknownJob as N
 use Rattle.fleet.specs.declared.outcome.Joining.{Joining}
 use Rattle.fleet.specs.declared.outcome.Joining.TheVariants.{Joined as HasJoined, Refused as HasNot}
 use Rattle.fleet.specs.declared.outcome.JoinRefusal.{JoinRefusal}
-use Rattle.fleet.specs.declared.outcome.JoinRefusal.TheVariants.{AlreadyJoined as NameTaken, TooManyCollectors as NoRoom, IdsSpent as NoId}
+use Rattle.fleet.specs.declared.outcome.JoinRefusal.TheVariants.{UnknownJob as NoJobOfName, AlreadyJoined as NameTaken, TooManyCollectors as NoRoom, IdsSpent as NoId}
+use Rattle.fleet.specs.declared.outcome.Draining.{Draining as Drained}
+use Rattle.fleet.specs.declared.outcome.Draining.TheVariants.{Drains, Refused as NotDrained}
+use Rattle.fleet.specs.declared.outcome.DrainRefusal.{DrainRefusal}
+use Rattle.fleet.specs.declared.outcome.DrainRefusal.TheVariants.{UnknownCollector as NobodyDrains, AlreadyDraining as DrainsAlready}
+use Rattle.fleet.specs.declared.outcome.Limiting.{Limiting}
+use Rattle.fleet.specs.declared.outcome.Limiting.TheVariants.{LimitsSet as IsLimited, Refused as NotLimited}
+use Rattle.fleet.specs.declared.outcome.LimitsRefusal.{LimitsRefusal}
+use Rattle.fleet.specs.declared.outcome.LimitsRefusal.TheVariants.{UnknownCollector as NobodyLimited, UnknownJob as NoJobLimited}
+use Rattle.allocation_core.specs.declared.limits.TheConstants.{LAST_ALLOCATION, LAST_ROUND}
 use Rattle.allocation_core.specs.State.{State, allocation_at, current_of, current_pairs, held_by, instance_at}
 use Rattle.fleet_events.specs.declared.event.Event.{Event}
-use Rattle.fleet_events.specs.declared.event.Event.TheVariants.{Discover, Join, Leave, Install, NextRound, Take, Report}
+use Rattle.fleet_events.specs.declared.event.Event.TheVariants.{Discover, Join, Leave, Drain, SetLimits, Install, NextRound, Take, Report}
 use Rattle.fleet_events.specs.declared.answer.Answer.{Answer}
-use Rattle.fleet_events.specs.declared.answer.Answer.TheVariants.{Discovered, Joined, Left, Published, RoundOpen, Taken, Booked, Not}
+use Rattle.fleet_events.specs.declared.answer.Answer.TheVariants.{Discovered, Joined, Left, Draining, LimitsSet, Published, RoundOpen, Taken, Booked, Not}
 use Rattle.fleet_events.specs.declared.refusal.Refusal.{Refusal}
-use Rattle.fleet_events.specs.declared.refusal.Refusal.TheVariants.{UnknownJob, UnknownSource, TooManyLive, TooManyKnown, AlreadyJoined, TooManyCollectors, IdsSpent, UnknownCollector, Refused, Unchanged, NumbersSpent, RoundsSpent, NotTaken, UnknownTarget, NotHolder, RoundClosed, RoundNotOpen, AlreadyBooked}
+use Rattle.fleet_events.specs.declared.refusal.Refusal.TheVariants.{UnknownJob, UnknownSource, TooManyLive, TooManyKnown, AlreadyJoined, TooManyCollectors, IdsSpent, UnknownCollector, AlreadyDraining, Refused, Unchanged, NumbersSpent, RoundsSpent, NotTaken, UnknownTarget, NotHolder, RoundClosed, RoundNotOpen, AlreadyBooked}
 
 -- why a source does not list targets, as a refusal
 abbrev pub unlisted : ListRefusal → Refusal
@@ -42,6 +51,7 @@ listing_answer (NotListed refusal) = Not (unlisted refusal)
 
 -- why a collector does not join, as a refusal
 abbrev pub unjoined : JoinRefusal → Refusal
+unjoined NoJobOfName = UnknownJob
 unjoined (NameTaken id) = AlreadyJoined id
 unjoined NoRoom = TooManyCollectors
 unjoined NoId = IdsSpent
@@ -51,6 +61,26 @@ abbrev pub joining_answer : Joining → Answer
 joining_answer (HasJoined id) = Joined id
 joining_answer (HasNot refusal) = Not (unjoined refusal)
 
+-- why a collector does not begin to drain, as a refusal
+abbrev pub undrained : DrainRefusal → Refusal
+undrained NobodyDrains = UnknownCollector
+undrained DrainsAlready = AlreadyDraining
+
+-- what becomes of a collector that is to drain, as an answer
+abbrev pub draining_answer : Drained → Answer
+draining_answer Drains = Draining
+draining_answer (NotDrained refusal) = Not (undrained refusal)
+
+-- why a collector does not get other limits, as a refusal
+abbrev pub unlimited : LimitsRefusal → Refusal
+unlimited NobodyLimited = UnknownCollector
+unlimited NoJobLimited = UnknownJob
+
+-- what becomes of a collector that gets other limits, as an answer
+abbrev pub limiting_answer : Limiting → Answer
+limiting_answer IsLimited = LimitsSet
+limiting_answer (NotLimited refusal) = Not (unlimited refusal)
+
 -- two lists of pairs are equal
 abbrev pub same_pairs : List (ℕ × ℕ) → List (ℕ × ℕ) → Bool
 same_pairs = pointwise (λ (x y : ℕ × ℕ). (x.0 == y.0) && (x.1 == y.1))
@@ -58,7 +88,7 @@ same_pairs = pointwise (λ (x y : ℕ × ℕ). (x.0 == y.0) && (x.1 == y.1))
 -- an allocation is the current one, or has no number
 abbrev pub number_refusal : State → List (ℕ × ℕ) → Option Refusal
 number_refusal m pairs =
-    if same_pairs pairs (current_pairs m) then Some (Unchanged (current_of m)) else if nat_lt (current_of m) 4294967295 then None else Some NumbersSpent
+    if same_pairs pairs (current_pairs m) then Some (Unchanged (current_of m)) else if nat_lt (current_of m) LAST_ALLOCATION then None else Some NumbersSpent
 
 abbrev pub plan_refusal : State → Plan → Option Fault → Option Refusal
 plan_refusal m plan (Some fault) = Some (Refused fault)
@@ -93,10 +123,12 @@ report_refusal m collector number target round =
 -- the first reason against an event
 abbrev pub refusal_of : State → Event → Option Refusal
 refusal_of m (Discover name source targets) = option_map unlisted (list_refusal m.fleet name source targets)
-refusal_of m (Join name reach) = option_map unjoined (join_refusal m.fleet name)
+refusal_of m (Join name reach limits) = option_map unjoined (join_refusal m.fleet name limits)
 refusal_of m (Leave id) = unless_unknown m id None
+refusal_of m (Drain id) = option_map undrained (drain_refusal m.fleet id)
+refusal_of m (SetLimits id limits) = option_map unlimited (limits_refusal m.fleet id limits)
 refusal_of m (Install plan) = plan_refusal m plan (fault_of (instance_at m) plan.pairs plan.item_prices plan.bin_prices)
-refusal_of m NextRound = if nat_lt m.round 4294967295 then None else Some RoundsSpent
+refusal_of m NextRound = if nat_lt m.round LAST_ROUND then None else Some RoundsSpent
 refusal_of m (Take id) = unless_unknown m id None
 refusal_of m (Report report) = unless_unknown m report.collector (report_refusal m report.collector report.allocation report.target report.round)
 
@@ -107,8 +139,10 @@ entry_of collector number round outcome = record { round = round; number = numbe
 -- the state after an event that nothing is against
 abbrev pub changed : State → Event → State
 changed m (Discover name source targets) = record m { fleet = with_listing m.fleet name source targets }
-changed m (Join name reach) = record m { fleet = with_collector m.fleet name reach }
+changed m (Join name reach limits) = record m { fleet = with_collector m.fleet name reach limits }
 changed m (Leave id) = record m { fleet = without_collector m.fleet id }
+changed m (Drain id) = record m { fleet = with_draining m.fleet id }
+changed m (SetLimits id limits) = record m { fleet = with_limits m.fleet id limits }
 changed m (Install plan) = record m { published = m.published ++ allocation_at m plan.pairs ∷ []; problem = instance_at m; plan = plan }
 changed m NextRound = record m { round = m.round + 1 }
 changed m (Take id) = record m { taken = with_taken m.taken id (current_of m) }
@@ -117,8 +151,10 @@ changed m (Report report) = record m { booked = m.booked ++ (report.target, entr
 -- the answer to it
 abbrev pub granted : State → Event → Answer
 granted m (Discover name source targets) = listing_answer (difference m.fleet (with_listing m.fleet name source targets))
-granted m (Join name reach) = Joined (m.fleet.last_collector + 1)
+granted m (Join name reach limits) = Joined (m.fleet.last_collector + 1)
 granted m (Leave id) = Left
+granted m (Drain id) = Draining
+granted m (SetLimits id limits) = LimitsSet
 granted m (Install plan) = Published (current_of m + 1)
 granted m NextRound = RoundOpen (m.round + 1)
 granted m (Take id) = Taken (current_of m) m.round (held_by m id)

@@ -1,3 +1,4 @@
+//! The event machine: one step for each event, and readers of the state.
 ghost use Rattle.std.specs.Prelude.{◌≡◌, ◌↔◌, ◌+◌, Some, None, Ok, Err, true, false, slice_get, MatchOption, IfOk, IsOk, OnOk, OnErr};
 ghost use Rattle.scrape_books.specs.Books.{total_of};
 ghost use Rattle.allocation_core.specs.State.{current_of, first_state, held_by};
@@ -67,8 +68,8 @@ impl Core {
         })
     }
 
-    /// One step. Without memory nothing changes, and Leave and NextRound take none. Join, Take and Report want it only after
-    /// all their checks.
+    /// One step. Without memory nothing changes, and Leave, Drain, SetLimits and NextRound take none. Join, Take and Report
+    /// want it only after all their checks.
     #[tactic(auto, using(crate::proofs::BookedLemmas::total_rises))]
     pub fn apply(&mut self, event: Event) -> Result<Answer, AllocError>
         ensures answer { IfOk result (λ a. a ≡ answer_of self.old event) }
@@ -85,8 +86,14 @@ impl Core {
                 source,
                 targets,
             } => self.discover(job, source, targets),
-            Event::Join { name, reach } => self.join(name, reach),
+            Event::Join {
+                name,
+                reach,
+                limits,
+            } => self.join(name, reach, limits),
             Event::Leave(collector) => Ok(self.leave(collector)),
+            Event::Drain(collector) => Ok(self.drain(collector)),
+            Event::SetLimits { collector, limits } => Ok(self.set_limits(collector, limits)),
             Event::Install(plan) => self.install(plan),
             Event::NextRound => Ok(self.next_round()),
             Event::Take(collector) => self.take(collector),

@@ -4,11 +4,9 @@ ghost use Rattle.allocation_core.specs.Steps.{answer_of, refusal_of, state_after
 ghost use Rattle.fleet_events.specs.declared.event.Event.TheVariants.{NextRound, Take};
 
 use super::Core;
+use crate::limits::LAST_ROUND;
 use fleet_events::{Answer, CollectorId, Refusal};
 use std::alloc::AllocError;
-
-/// The last round.
-const LAST_ROUND: u32 = 4_294_967_295;
 
 impl Core {
     /// The next round opens. It takes no memory.

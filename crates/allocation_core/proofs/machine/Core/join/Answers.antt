@@ -18,7 +18,7 @@ invariant_of-self-2 c =
       round = c.self.inside.round;
       booked = c.self.inside.books;
     } in
-    subst IsKept (sym (join_state s s c.join.new.self c.args.name c.args.reach refl c.in_ok-joining.ensures.state)) (step_kept s (Join c.args.name c.args.reach) c.self.invariant)
+    subst IsKept (sym (join_state s s c.join.new.self c.args.name c.args.reach c.args.limits refl c.in_ok-joining.ensures.state)) (step_kept s (Join c.args.name c.args.reach c.args.limits) c.self.invariant)
 
 pub returns-clause-answer : goal.returns-clause-answer
 returns-clause-answer c =
@@ -32,7 +32,7 @@ returns-clause-answer c =
       round = c.self.inside.round;
       booked = c.self.inside.books;
     } in
-    join_answer s c.args.self.now c.answer_to_joining.result c.in_ok-joining.joining c.args.name c.args.reach c.self.view_is c.in_ok-joining.ensures.joining c.answer_to_joining.ensures
+    join_answer s c.args.self.now c.answer_to_joining.result c.in_ok-joining.joining c.args.name c.args.reach c.args.limits c.self.view_is c.in_ok-joining.ensures.joining c.answer_to_joining.ensures
 
 pub returns-clause-state : goal.returns-clause-state
 returns-clause-state c =
@@ -46,4 +46,4 @@ returns-clause-state c =
       round = c.self.inside.round;
       booked = c.self.inside.books;
     } in
-    join_state s c.args.self.now c.join.new.self c.args.name c.args.reach c.self.view_is c.in_ok-joining.ensures.state
+    join_state s c.args.self.now c.join.new.self c.args.name c.args.reach c.args.limits c.self.view_is c.in_ok-joining.ensures.state
