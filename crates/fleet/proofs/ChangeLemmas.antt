@@ -49,7 +49,7 @@ collector_kept fleet name reach kept free =
     let fine = name_by fleet (id_named fleet.collectors name) free in
     let tests = room_by (nat_lt MOST_COLLECTORS (length fleet.collectors + 1) || nat_lt MOST_BINS (length fleet.jobs * (length fleet.collectors + 1))) (nat_lt fleet.last_collector LAST_COLLECTOR) fine.1 in
     let limits = or_false (nat_lt MOST_COLLECTORS (length fleet.collectors + 1)) (nat_lt MOST_BINS (length fleet.jobs * (length fleet.collectors + 1))) tests.0 in
-    let c : Collector = record { id = fleet.last_collector + 1; name = name; reach = reach } in
+    let c : Collector = record { id = fleet.last_collector + 1; name = name; reach = reach; draining = false } in
     joined_kept fleet c (fleet.collectors ++ c ∷ []) kept fine.0 refl (ltb-false MOST_COLLECTORS (length fleet.collectors + 1) limits.0) (ltb-false MOST_BINS (length fleet.jobs * (length fleet.collectors + 1)) limits.1)
     (ltb-true fleet.last_collector LAST_COLLECTOR tests.1) refl
 

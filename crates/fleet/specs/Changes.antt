@@ -1,10 +1,10 @@
--- How a fleet changes: by a source that lists targets, by a collector that joins or leaves. The first refusal is told, and then
--- the fleet stays.
-use Rattle.std.specs.Prelude.{ℕ, ◌+◌, ◌*◌, ◌==◌, ◌&&◌, ◌||◌, not, Bool, if◌then◌else◌, nat_lt, List, [], ◌∷◌, ◌++◌, length, filter, Option, Some, None, is_some, Result, Ok, Err, ◌≡◌}
+-- How a fleet changes: by a source that lists targets, by a collector that joins, drains or leaves. The first refusal is told, and
+-- then the fleet stays.
+use Rattle.std.specs.Prelude.{ℕ, ◌+◌, ◌*◌, ◌==◌, ◌&&◌, ◌||◌, not, Bool, false, if◌then◌else◌, nat_lt, List, [], ◌∷◌, ◌++◌, length, filter, map, Option, Some, None, is_some, Result, Ok, Err, ◌≡◌}
 use Rattle.std.specs.Option.{option_map_or}
 use Rattle.label_sets.specs.Target.{FinalTarget}
 use Rattle.reach_rules.specs.declared.rule.ReachRule.{ReachRule}
-use Rattle.fleet.specs.Fleet.{FleetState, id_named, is_joined}
+use Rattle.fleet.specs.Fleet.{FleetState, id_named, is_draining, is_joined}
 use Rattle.fleet.specs.Live.{chosen_below, count_below, is_in, is_listed, listed_only, with_list}
 use Rattle.fleet.specs.KnownTarget.{known_with, numbers_of}
 use Rattle.fleet.specs.Jobs.{job_named, sources_at}
@@ -18,6 +18,10 @@ use Rattle.fleet.specs.declared.outcome.Joining.{Joining}
 use Rattle.fleet.specs.declared.outcome.Joining.TheVariants.{Joined, Refused as Turned}
 use Rattle.fleet.specs.declared.outcome.JoinRefusal.{JoinRefusal}
 use Rattle.fleet.specs.declared.outcome.JoinRefusal.TheVariants.{AlreadyJoined, TooManyCollectors, IdsSpent}
+use Rattle.fleet.specs.declared.outcome.Draining.{Draining}
+use Rattle.fleet.specs.declared.outcome.Draining.TheVariants.{Drains, Refused as NotDrained}
+use Rattle.fleet.specs.declared.outcome.DrainRefusal.{DrainRefusal}
+use Rattle.fleet.specs.declared.outcome.DrainRefusal.TheVariants.{UnknownCollector, AlreadyDraining}
 
 -- the fleet where a source of a job lists these targets, in place of those that it listed before
 abbrev pub relisted : FleetState → ℕ → ℕ → List FinalTarget → FleetState
@@ -73,7 +77,7 @@ join_refusal fleet name = name_refusal fleet (id_named fleet.collectors name)
 
 -- the fleet after a collector joined
 abbrev pub with_collector : FleetState → List ℕ → List ReachRule → FleetState
-with_collector fleet name reach = record fleet { collectors = fleet.collectors ++ record { id = fleet.last_collector + 1; name = name; reach = reach } ∷ []; last_collector = fleet.last_collector + 1 }
+with_collector fleet name reach = record fleet { collectors = fleet.collectors ++ record { id = fleet.last_collector + 1; name = name; reach = reach; draining = false } ∷ []; last_collector = fleet.last_collector + 1 }
 
 abbrev pub joining_by : Option JoinRefusal → ℕ → Joining
 joining_by None id = Joined id
@@ -92,6 +96,29 @@ without_collector fleet id = record fleet { collectors = filter (λ (c : Collect
 
 unfoldable pub fleet_after_leave : FleetState → ℕ → FleetState
 fleet_after_leave fleet id = if is_joined fleet id then without_collector fleet id else fleet
+
+-- the first reason against draining a collector
+abbrev pub drain_refusal : FleetState → ℕ → Option DrainRefusal
+drain_refusal fleet id = if is_joined fleet id then (if is_draining fleet id then Some AlreadyDraining else None) else Some UnknownCollector
+
+-- the collector, draining from now on if it has the number
+abbrev pub with_draining_at : ℕ → Collector → Collector
+with_draining_at id c = record c { draining = c.draining || (c.id == id) }
+
+-- the fleet after a collector began to drain
+abbrev pub with_draining : FleetState → ℕ → FleetState
+with_draining fleet id = record fleet { collectors = map (with_draining_at id) fleet.collectors }
+
+abbrev pub draining_by : Option DrainRefusal → Draining
+draining_by None = Drains
+draining_by (Some refusal) = NotDrained refusal
+
+-- what becomes of a collector that is to drain
+unfoldable pub draining_of : FleetState → ℕ → Draining
+draining_of fleet id = draining_by (drain_refusal fleet id)
+
+unfoldable pub fleet_after_drain : FleetState → ℕ → FleetState
+fleet_after_drain fleet id = if is_some (drain_refusal fleet id) then fleet else with_draining fleet id
 
 -- what a change of the lists comes to: how many targets of so many known ones became live and are live no longer, or what is against it
 abbrev pub IsChange : List (List (List ℕ)) → List (List (List ℕ)) → ℕ → Result (ℕ × ℕ) ListRefusal → Type 0

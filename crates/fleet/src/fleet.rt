@@ -3,9 +3,9 @@ ghost use Rattle.std.specs.Prelude.{◌≡◌, ◌<◌, ◌↔◌, Some, None, O
 ghost use Rattle.fleet.specs.Fleet.{first_fleet, id_named, is_joined, live_of};
 ghost use Rattle.fleet.specs.IsFleet.{IsFleet};
 ghost use Rattle.fleet.specs.Jobs.{are_jobs, sources_at};
-ghost use Rattle.fleet.specs.Changes.{listing_of, fleet_after_list, joining_of, join_refusal, fleet_after_join, fleet_after_leave, relisted, IsChange, state_unless};
+ghost use Rattle.fleet.specs.Changes.{listing_of, fleet_after_list, joining_of, join_refusal, fleet_after_join, fleet_after_leave, draining_of, fleet_after_drain, relisted, IsChange, state_unless};
 
-use crate::collector::{Collector, has_id, id_named, take_out};
+use crate::collector::{Collector, begin_draining, has_id, id_named, is_draining, take_out};
 use crate::error::OpenError;
 use crate::job::JobSpec;
 use crate::jobs::{are_jobs, job_named, nothing_listed, sources_at};
@@ -13,7 +13,7 @@ use crate::known_target::KnownTarget;
 use crate::limits::{LAST_COLLECTOR, MOST_BINS, MOST_COLLECTORS};
 use crate::listing::list;
 use crate::live::live_numbers;
-use crate::outcome::{JoinRefusal, Joining, ListRefusal, Listing};
+use crate::outcome::{DrainRefusal, Draining, JoinRefusal, Joining, ListRefusal, Listing};
 use indexmap::IndexSet;
 use label_sets::Target;
 use lists::List;
@@ -142,7 +142,12 @@ impl Fleet {
             return Ok(Joining::Refused(JoinRefusal::IdsSpent));
         }
         let id = self.last_collector + 1;
-        self.collectors.push(Collector { id, name, reach })?;
+        self.collectors.push(Collector {
+            id,
+            name,
+            reach,
+            draining: false,
+        })?;
         self.last_collector = id;
         Ok(Joining::Joined(id))
     }
@@ -158,6 +163,22 @@ impl Fleet {
         }
         take_out(&mut self.collectors, id);
         true
+    }
+
+    /// A live collector drains from now on. It takes no memory.
+    #[tactic(auto, unfolding(crate::specs::Changes::draining_of, crate::specs::Changes::fleet_after_drain))]
+    pub fn drain(&mut self, id: u32) -> Draining
+        ensures draining { result ≡ draining_of self.old id }
+        ensures state { self.new ≡ fleet_after_drain self.old id }
+    {
+        if !has_id(self.collectors.as_slice(), id) {
+            return Draining::Refused(DrainRefusal::UnknownCollector);
+        }
+        if is_draining(self.collectors.as_slice(), id) {
+            return Draining::Refused(DrainRefusal::AlreadyDraining);
+        }
+        begin_draining(self.collectors.as_mut_slice(), id);
+        Draining::Drains
     }
 
     /// The live targets in order of number.

@@ -27,4 +27,4 @@ pub use laws::targets_are_entered;
 pub use limits::{
     LAST_COLLECTOR, MOST_BINS, MOST_COLLECTORS, MOST_JOBS, MOST_KNOWN_TARGETS, MOST_LIVE_TARGETS,
 };
-pub use outcome::{JoinRefusal, Joining, ListRefusal, Listing};
+pub use outcome::{DrainRefusal, Draining, JoinRefusal, Joining, ListRefusal, Listing};

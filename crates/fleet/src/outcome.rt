@@ -1,4 +1,4 @@
-//! What becomes of a list and of a collector that wants to join.
+//! What becomes of a list, of a collector that wants to join, and of one that is to drain.
 
 /// What becomes of a list.
 #[derive(Clone, Copy, Debug, PartialEq, Eq)]
@@ -32,4 +32,19 @@ pub enum JoinRefusal {
     AlreadyJoined(u32),
     TooManyCollectors,
     IdsSpent,
+}
+
+/// What becomes of a collector that is to drain.
+#[derive(Clone, Copy, Debug, PartialEq, Eq)]
+pub enum Draining {
+    /// It drains from now on.
+    Drains,
+    Refused(DrainRefusal),
+}
+
+/// Why a collector does not begin to drain.
+#[derive(Clone, Copy, Debug, PartialEq, Eq)]
+pub enum DrainRefusal {
+    UnknownCollector,
+    AlreadyDraining,
 }
