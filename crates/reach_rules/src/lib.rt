@@ -5,6 +5,7 @@
 
 mod error;
 mod name;
+mod own_limits;
 mod reach;
 mod read;
 mod rule;
@@ -14,5 +15,6 @@ mod tests;
 
 pub use error::{NameError, ReachError};
 pub use name::CollectorName;
+pub use own_limits::OwnLimits;
 pub use reach::Reach;
 pub use rule::{ReachRule, ReachTest};
