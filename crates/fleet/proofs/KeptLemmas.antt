@@ -1,6 +1,7 @@
 -- What every fleet keeps holds in the beginning, and after each change.
-use Rattle.std.proofs.Common.{◌≡◌, ℕ, zero, suc, ◌+◌, ◌*◌, ◌<◌, ◌≤◌, List, [], ◌∷◌, ◌++◌, Bool, true, false, None, All, length, map, refl, sym, ap, subst, arith, cond, length-append}
+use Rattle.std.proofs.Common.{◌≡◌, ℕ, zero, suc, ◌+◌, ◌*◌, ◌<◌, ◌≤◌, List, [], ◌∷◌, ◌++◌, Bool, true, false, None, All, drop, length, map, take, refl, sym, ap, subst, arith, cond, length-append}
 use Rattle.std.specs.Prelude.{AllPairs, filter, replicate, slice_index_or}
+use Rattle.std.proofs.Math.Seq.{take-append_seam}
 use Rattle.std.proofs.lemmas.List.{length-map, length-replicate}
 use Rattle.std.proofs.lemmas.List.Elements.{All-filter, All-map, All-push, All-weaker}
 use Rattle.std.proofs.lemmas.List.Kept.{AllPairs-filter}
@@ -96,3 +97,11 @@ changed_kept fleet f id name kept =
       were_given = All-map (λ (c : Collector). c.id ≤ fleet.last_collector) f fleet.collectors (All-weaker (λ (c : Collector). c.id ≤ fleet.last_collector) (λ (c : Collector). (f c).id ≤ fleet.last_collector) (λ c most. rw (id c) most) fleet.collectors kept.were_given);
       numbered = kept.numbered;
     }
+
+-- the same, where they were written over in place
+pub written_kept :
+    (fleet : FleetState) (f : Collector → Collector) (count : ℕ) (written : List Collector) → ((c : Collector) → (f c).id ≡ c.id) → ((c : Collector) → (f c).name ≡ c.name) → IsFleet fleet → count ≡ length fleet.collectors → written ≡ map f fleet.collectors
+    → IsFleet (record fleet { collectors = take count (written ++ drop (length written) fleet.collectors) })
+written_kept fleet f count written id name kept all is =
+    let whole : count ≡ length (map f fleet.collectors) = omega (arith, all, length-map fleet.collectors f) in
+    rw (is, whole, take-append_seam) (changed_kept fleet f id name kept)

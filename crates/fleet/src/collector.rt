@@ -1,11 +1,11 @@
 //! Collectors that joined and did not leave.
-ghost use Rattle.std.specs.Prelude.{◌≡◌, ◌==◌, ◌&&◌, not, filter, map};
+ghost use Rattle.std.specs.Prelude.{◌≡◌, ◌==◌, ◌&&◌, ◌<◌, not, filter, map, AllPairs};
 ghost use Rattle.std.specs.List.{list_any};
 ghost use Rattle.fleet.specs.Fleet.{id_named};
-ghost use Rattle.fleet.specs.Changes.{with_draining_at};
+ghost use Rattle.fleet.specs.Changes.{with_draining_at, with_limits_at};
 ghost use Rattle.fleet.specs.declared.collector.Collector.{Collector};
 
-use reach_rules::{CollectorName, Reach};
+use reach_rules::{CollectorName, OwnLimits, Reach};
 
 /// A collector that joined and did not leave.
 #[derive(Debug, Drop)]
@@ -15,6 +15,8 @@ pub struct Collector {
     pub reach: Reach,
     /// Whether it is being emptied before it stops.
     pub draining: bool,
+    /// How many targets of a job it takes at most, by the name of the job.
+    pub limits: OwnLimits,
 }
 
 /// The number of the collector of a name.
@@ -52,6 +54,19 @@ pub(crate) fn begin_draining(collectors: &mut [Collector], id: u32)
     for collector in collectors.iter_mut() {
         if collector.id == id {
             collector.draining = true;
+        }
+    }
+}
+
+/// The collector of a number has these limits, in place of all that it had. It takes no memory.
+pub(crate) fn replace_limits(collectors: &mut [Collector], id: u32, limits: OwnLimits)
+    requires { AllPairs (λ (a b : Collector). a.id < b.id) collectors.old }
+    ensures { collectors.new ≡ map (with_limits_at id limits) collectors.old }
+{
+    for collector in collectors.iter_mut() {
+        if collector.id == id {
+            collector.limits = limits;
+            return;
         }
     }
 }

@@ -1,4 +1,4 @@
-//! What becomes of a list, of a collector that wants to join, and of one that is to drain.
+//! What becomes of a list, of a collector that wants to join, and of one that is to drain or gets other limits.
 
 /// What becomes of a list.
 #[derive(Clone, Copy, Debug, PartialEq, Eq)]
@@ -28,6 +28,8 @@ pub enum Joining {
 /// Why a collector does not join.
 #[derive(Clone, Copy, Debug, PartialEq, Eq)]
 pub enum JoinRefusal {
+    /// A limit of its own is for no job.
+    UnknownJob,
     /// A live collector of this number has the name.
     AlreadyJoined(u32),
     TooManyCollectors,
@@ -47,4 +49,19 @@ pub enum Draining {
 pub enum DrainRefusal {
     UnknownCollector,
     AlreadyDraining,
+}
+
+/// What becomes of a collector that gets other limits of its own.
+#[derive(Clone, Copy, Debug, PartialEq, Eq)]
+pub enum Limiting {
+    LimitsSet,
+    Refused(LimitsRefusal),
+}
+
+/// Why a collector does not get other limits.
+#[derive(Clone, Copy, Debug, PartialEq, Eq)]
+pub enum LimitsRefusal {
+    UnknownCollector,
+    /// A limit is for no job.
+    UnknownJob,
 }

@@ -1,11 +1,13 @@
 //! A fleet at its limits, and collectors that come, drain and go.
+mod own_limits;
+
 use crate::{
     DrainRefusal, Draining, Fleet, JobSpec, JoinRefusal, Joining, ListRefusal, Listing,
     MOST_LIVE_TARGETS,
 };
 use label_sets::{Finished, Labels, Target, finish};
 use lists::{List, Text};
-use reach_rules::{CollectorName, Reach};
+use reach_rules::{CollectorName, OwnLimits, Reach};
 use std::alloc::Global;
 use std::collections::BTreeMap;
 use std::test::Fail;
@@ -47,8 +49,17 @@ fn everything(alloc: Global) -> Result<Reach, Fail> {
 }
 
 fn join(alloc: Global, fleet: &mut Fleet, name: &str) -> Result<Joining, Fail> {
+    join_with(alloc, fleet, name, OwnLimits::none(alloc))
+}
+
+fn join_with(
+    alloc: Global,
+    fleet: &mut Fleet,
+    name: &str,
+    limits: OwnLimits,
+) -> Result<Joining, Fail> {
     let reach = everything(alloc)?;
-    Ok(fleet.join(CollectorName::read(alloc, name)?, reach)?)
+    Ok(fleet.join(CollectorName::read(alloc, name)?, reach, limits)?)
 }
 
 #[test]
