@@ -1,11 +1,11 @@
 -- The parts of the instance of a moment are those of an instance.
-use Rattle.std.proofs.Common.{◌≡◌, ◌≢◌, ℕ, zero, suc, ◌+◌, ◌*◌, ◌<◌, ◌≤◌, List, [], ◌∷◌, ◌++◌, Bool, true, false, Option, Some, None, All, length, get_or, cond, eqb, count_by, refl, sym, ap, subst, ◌∙◌, inl, inr, arith, add-one, length-append}
+use Rattle.std.proofs.Common.{◌≡◌, ◌≢◌, ℕ, zero, suc, ◌+◌, ◌*◌, ◌<◌, ◌≤◌, List, [], ◌∷◌, ◌++◌, Bool, true, false, Option, Some, None, All, length, get_or, cond, eqb, count_by, refl, sym, ap, subst, ◌∙◌, inl, inr, drop, arith, add-one, append_assoc, length-append}
 use Rattle.std.specs.Prelude.{map, replicate, sum_by, option_and_then, slice_get}
 use Rattle.std.specs.List.{list_any}
 use Rattle.std.specs.List.Sorted.{IsStrictlyIncreasing}
 use Rattle.std.specs.Option.{option_map, option_map_or, option_to_list}
 use Rattle.std.proofs.Math.Nat.{mul-le-mul_left}
-use Rattle.std.proofs.lemmas.List.{length-map, length-replicate, get_or-map, ext_get_or}
+use Rattle.std.proofs.lemmas.List.{append-nil, at_drop_more, drop_all, length-map, length-replicate, get_or-map, ext_get_or}
 use Rattle.std.proofs.lemmas.List.Elements.{All-nil, All-head, All-tail}
 use Rattle.std.proofs.lemmas.List.Sums.{sum_by-cons}
 use Rattle.std.proofs.lemmas.Bool.{cases_eq, eq-eqb, ne_eqb}
@@ -30,6 +30,19 @@ length-limits jobs (c ∷ cs) =
 pub length-draining : (jobs : ℕ) (cs : List Collector) → length (draining_for jobs cs) ≡ jobs * length cs
 length-draining jobs [] = omega arith
 length-draining jobs (c ∷ cs) = omega (arith, length-append (replicate jobs c.draining) (draining_for jobs cs), length-replicate jobs c.draining, length-draining jobs cs)
+
+-- one collector more, and the limits of its shares
+pub limits_more :
+    (jobs : List JobSpec) (cs : List Collector) (i : ℕ) (one : Collector) (old new : List ℕ) → i < length cs → get_or cs i one ≡ one → old ++ limits_for jobs (drop i cs) ≡ limits_for jobs cs → new ≡ old ++ map (λ (j : JobSpec). share_limit j one) jobs
+    → new ++ limits_for jobs (drop (i + 1) cs) ≡ limits_for jobs cs
+limits_more jobs cs i one old new l read before is =
+    let rest = limits_for jobs (drop (i + 1) cs) in
+    let split : limits_for jobs (drop i cs) ≡ map (λ (j : JobSpec). share_limit j one) jobs ++ rest = at_drop_more (limits_for jobs) cs i one l ∙ ap (λ (c : Collector). map (λ (j : JobSpec). share_limit j c) jobs ++ rest) read in
+    ap (λ (xs : List ℕ). xs ++ rest) is ∙ append_assoc old (map (λ (j : JobSpec). share_limit j one) jobs) rest ∙ ap (λ (xs : List ℕ). old ++ xs) (sym split) ∙ before
+
+-- all bins, and those of them that drain
+pub all_marked : (jobs : ℕ) (cs : List Collector) (bin : ℕ) (found : List ℕ) → jobs * length cs ≤ bin → found ++ marked_from bin (drop bin (draining_for jobs cs)) ≡ marked_from 0 (draining_for jobs cs) → found ≡ marked_from 0 (draining_for jobs cs)
+all_marked jobs cs bin found l is = sym (append-nil found) ∙ sym (ap (λ (marks : List Bool). found ++ marked_from bin marks) (drop_all bin (draining_for jobs cs) (omega (arith, length-draining jobs cs)))) ∙ is
 
 -- the numbers ascend from one on, below another
 abbrev Ascends : ℕ → ℕ → List ℕ → Type 0

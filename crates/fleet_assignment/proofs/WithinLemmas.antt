@@ -1,9 +1,9 @@
 -- An allocation of a feasible plan gives no collector more of a job's targets than the job's limit.
-use Rattle.std.proofs.Common.{◌≡◌, ◌≢◌, ℕ, zero, suc, ◌+◌, ◌*◌, ◌/◌, ◌<◌, ◌≤◌, ◌&&◌, ◌||◌, ◌⊎◌, List, [], ◌∷◌, ◌++◌, Bool, true, false, Option, Some, None, All, length, get_or, cond, eqb, refl, sym, ap, subst, ◌∙◌, inl, inr, arith}
+use Rattle.std.proofs.Common.{◌≡◌, ◌≢◌, ℕ, zero, suc, ◌+◌, ◌*◌, ◌/◌, ◌%◌, ◌<◌, ◌≤◌, ◌&&◌, ◌||◌, ◌⊎◌, List, [], ◌∷◌, ◌++◌, Bool, true, false, Option, Some, None, All, length, get_or, cond, eqb, refl, sym, ap, subst, ◌∙◌, inl, inr, arith}
 use Rattle.std.specs.Prelude.{AllPairs, Contains, find, map, replicate, slice_get, slice_index}
 use Rattle.std.specs.List.{list_any}
 use Rattle.std.specs.Option.{option_map, option_map_or, option_to_list}
-use Rattle.std.proofs.lemmas.Nat.{div-mul-add}
+use Rattle.std.proofs.lemmas.Nat.{div-add-mod', div-mul-add, div_below, mod_below}
 use Rattle.std.proofs.lemmas.List.{length-map, length-replicate, get_or-replicate}
 use Rattle.std.proofs.lemmas.List.Sums.{sum_by-cons}
 use Rattle.std.proofs.lemmas.Bool.{cases_eq, cases_lt, eq-eqb, ne_eqb}
@@ -364,3 +364,19 @@ draining_one (x ∷ cs) (suc place) one rises found =
     or_swap : (a b c : Bool) → a ≡ false → b ≡ c → (a || b) ≡ c
     or_swap true b c e f = cc
     or_swap false b c e f = f
+
+some_at : (cs : List Collector) (k : ℕ) (d : Collector) → k < length cs → slice_get cs k ≡ Some (get_or cs k d)
+some_at [] k d l = absurd (omega arith)
+some_at (x ∷ cs) zero d l = refl
+some_at (x ∷ cs) (suc k) d l = some_at cs k d (omega arith)
+
+some_jobs : (jobs n bin : ℕ) → bin < jobs * n → 0 < jobs
+some_jobs zero n bin l = absurd (omega (arith, l))
+some_jobs (suc jobs) n bin l = omega arith
+
+-- a bin drains if the collector of its place does
+pub drains_here : (jobs : ℕ) (cs : List Collector) (bin : ℕ) (d : Collector) → bin < jobs * length cs → (get_or cs (bin / jobs) d).draining ≡ get_or (draining_for jobs cs) bin false
+drains_here jobs cs bin d l =
+    let some = some_jobs jobs (length cs) bin l in
+    let below : bin / jobs < length cs = div_below bin jobs (length cs) some (omega (arith, l)) in
+    sym (draining_at jobs cs (bin / jobs) (bin % jobs) bin (get_or cs (bin / jobs) d) (some_at cs (bin / jobs) d below) (mod_below bin jobs some) (sym (div-add-mod' bin jobs)))
