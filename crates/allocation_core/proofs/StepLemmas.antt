@@ -9,15 +9,15 @@ use Rattle.price_certificate.specs.declared.plan.Plan.{Plan}
 use Rattle.price_certificate.specs.declared.verdict.Fault.{Fault}
 use Rattle.handover.specs.Handover.{with_taken}
 use Rattle.scrape_books.specs.declared.report.Entry.{Entry}
-use Rattle.fleet.specs.Changes.{join_refusal, list_refusal, with_collector, with_draining, with_limits, with_listing, without_collector}
+use Rattle.fleet.specs.Changes.{join_refusal, list_refusal, with_collector, with_draining, with_draining_at, with_limits, with_limits_at, with_listing, without_collector}
 use Rattle.fleet.specs.Fleet.{FleetState, first_fleet}
 use Rattle.fleet.specs.IsFleet.{IsFleet}
 use Rattle.fleet.specs.declared.collector.Collector.{Collector}
 use Rattle.fleet.specs.declared.job.JobSpec.{JobSpec}
 use Rattle.fleet.specs.declared.outcome.JoinRefusal.{JoinRefusal}
 use Rattle.fleet.specs.declared.outcome.ListRefusal.{ListRefusal}
-use Rattle.fleet.proofs.ChangeLemmas.{collector_kept, draining_kept, limits_kept, listing_kept}
-use Rattle.fleet.proofs.KeptLemmas.{first_kept as fleet_first_kept, leave_kept}
+use Rattle.fleet.proofs.ChangeLemmas.{collector_kept, listing_kept}
+use Rattle.fleet.proofs.KeptLemmas.{changed_kept as fleet_changed_kept, first_kept as fleet_first_kept, leave_kept}
 use Rattle.fleet_events.specs.declared.answer.Answer.TheVariants.{Published}
 use Rattle.fleet_events.specs.declared.event.Event.{Event}
 use Rattle.fleet_events.specs.declared.event.Event.TheVariants.{Discover, Join, Leave, Drain, SetLimits, Install, NextRound, Take, Report}
@@ -80,8 +80,8 @@ changed_kept : (m : State) (e : Event) → IsKept m → refusal_of m e ≡ None 
 changed_kept m (Discover name source targets) kept free = fleet_kept m (with_listing m.fleet name source targets) kept (listing_kept m.fleet name source targets kept.fleet (not_mapped (list_refusal m.fleet name source targets) free))
 changed_kept m (Join name reach limits) kept free = fleet_kept m (with_collector m.fleet name reach limits) kept (collector_kept m.fleet name reach limits kept.fleet (not_joined (join_refusal m.fleet name limits) free))
 changed_kept m (Leave id) kept free = fleet_kept m (without_collector m.fleet id) kept (leave_kept m.fleet (λ (c : Collector). _) kept.fleet)
-changed_kept m (Drain id) kept free = fleet_kept m (with_draining m.fleet id) kept (draining_kept m.fleet id kept.fleet)
-changed_kept m (SetLimits id limits) kept free = fleet_kept m (with_limits m.fleet id limits) kept (limits_kept m.fleet id limits kept.fleet)
+changed_kept m (Drain id) kept free = fleet_kept m (with_draining m.fleet id) kept (fleet_changed_kept m.fleet (with_draining_at id) (λ c. refl) (λ c. refl) kept.fleet)
+changed_kept m (SetLimits id limits) kept free = fleet_kept m (with_limits m.fleet id limits) kept (fleet_changed_kept m.fleet (with_limits_at id limits) (λ c. refl) (λ c. refl) kept.fleet)
 changed_kept m (Install plan) kept free = install_kept m plan kept free
 changed_kept m NextRound kept free = kept_with m m.taken (m.round + 1) m.booked kept (omega arith) (λ k d l. omega (arith, kept.past_rounds k d l))
 changed_kept m (Take id) kept free = kept_with m (with_taken m.taken id (current_of m)) m.round m.booked kept kept.opened kept.past_rounds

@@ -18,7 +18,7 @@ invariant_of-self c =
       round = c.self.inside.round;
       booked = c.self.inside.books;
     } in
-    subst IsKept (sym (drain_state s s c.drain.new.self c.args.id refl c.drain.ensures.state)) (step_kept s (Drain c.args.id) c.self.invariant)
+    subst IsKept (sym (drain_state s s c.drain-draining.new.self c.args.id refl c.drain-draining.ensures.state)) (step_kept s (Drain c.args.id) c.self.invariant)
 
 pub returns-clause-answer : goal.returns-clause-answer
 returns-clause-answer c =
@@ -32,7 +32,7 @@ returns-clause-answer c =
       round = c.self.inside.round;
       booked = c.self.inside.books;
     } in
-    drain_answer s c.args.self.now c.answer_to_draining.result c.drain.result c.args.id c.self.view_is c.drain.ensures.draining c.answer_to_draining.ensures
+    drain_answer s c.args.self.now c.answer_to_draining.result c.drain-draining.result c.args.id c.self.view_is c.drain-draining.ensures.draining c.answer_to_draining.ensures
 
 pub returns-clause-state : goal.returns-clause-state
 returns-clause-state c =
@@ -46,4 +46,4 @@ returns-clause-state c =
       round = c.self.inside.round;
       booked = c.self.inside.books;
     } in
-    drain_state s c.args.self.now c.drain.new.self c.args.id c.self.view_is c.drain.ensures.state
+    drain_state s c.args.self.now c.drain-draining.new.self c.args.id c.self.view_is c.drain-draining.ensures.state

@@ -18,7 +18,7 @@ invariant_of-self c =
       round = c.self.inside.round;
       booked = c.self.inside.books;
     } in
-    subst IsKept (sym (limits_state s s c.set_limits.new.self c.args.id c.args.limits refl c.set_limits.ensures.state)) (step_kept s (SetLimits c.args.id c.args.limits) c.self.invariant)
+    subst IsKept (sym (limits_state s s c.set_limits-limiting.new.self c.args.id c.args.limits refl c.set_limits-limiting.ensures.state)) (step_kept s (SetLimits c.args.id c.args.limits) c.self.invariant)
 
 pub returns-clause-answer : goal.returns-clause-answer
 returns-clause-answer c =
@@ -32,7 +32,7 @@ returns-clause-answer c =
       round = c.self.inside.round;
       booked = c.self.inside.books;
     } in
-    limits_answer s c.args.self.now c.answer_to_limiting.result c.set_limits.result c.args.id c.args.limits c.self.view_is c.set_limits.ensures.limiting c.answer_to_limiting.ensures
+    limits_answer s c.args.self.now c.answer_to_limiting.result c.set_limits-limiting.result c.args.id c.args.limits c.self.view_is c.set_limits-limiting.ensures.limiting c.answer_to_limiting.ensures
 
 pub returns-clause-state : goal.returns-clause-state
 returns-clause-state c =
@@ -46,4 +46,4 @@ returns-clause-state c =
       round = c.self.inside.round;
       booked = c.self.inside.books;
     } in
-    limits_state s c.args.self.now c.set_limits.new.self c.args.id c.args.limits c.self.view_is c.set_limits.ensures.state
+    limits_state s c.args.self.now c.set_limits-limiting.new.self c.args.id c.args.limits c.self.view_is c.set_limits-limiting.ensures.state
