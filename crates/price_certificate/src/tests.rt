@@ -1,4 +1,6 @@
 //! The checker judges plans; copies are the same.
+mod draining;
+
 use crate::{Fault, Instance, Plan, Verdict, check};
 use lists::{List, Plain};
 use std::alloc::{AllocError, Global};

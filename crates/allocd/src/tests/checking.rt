@@ -171,6 +171,77 @@ fn refuses_pairs(rt: HostRuntime) -> Result<(), Fail> {
     judges(&rt, rt.alloc(), &rows, Status::Refused)
 }
 
+/// A certificate of version 2: what it says after its version, and the line on it.
+fn judges_second(
+    rt: &impl Abort,
+    alloc: Global,
+    members: &str,
+    line: &str,
+    status: Status,
+) -> Result<(), Fail> {
+    let text = format!(in alloc; "{{\"version\":2,{members}}}")?;
+    answers(rt, alloc, "check", text.as_str(), line, status)
+}
+
+#[test]
+fn judges_plans_that_leave_draining_bins(rt: HostRuntime) -> Result<(), Fail> {
+    let leaves =
+        "\"bins\":[1,1],\"draining\":[0],\"reach\":[[0,1]],\"before\":[[0,0]],\"pairs\":[[0,1]],\"item_prices\":[6],\"bin_prices\":[0,0]";
+    judges_second(
+        &rt,
+        rt.alloc(),
+        leaves,
+        "best covered=1 left=0 moved=1\n",
+        Status::Done,
+    )?;
+    let covers =
+        "\"bins\":[1,1],\"draining\":[0],\"reach\":[[0,1],[0]],\"before\":[],\"pairs\":[[0,1],[1,0]],\"item_prices\":[12,9],\"bin_prices\":[0,0]";
+    judges_second(
+        &rt,
+        rt.alloc(),
+        covers,
+        "best covered=2 left=1 moved=0\n",
+        Status::Done,
+    )
+}
+
+#[test]
+fn refuses_plans_that_keep_draining_bins(rt: HostRuntime) -> Result<(), Fail> {
+    let keeps =
+        "\"bins\":[1,1],\"draining\":[0],\"reach\":[[0,1]],\"before\":[[0,0]],\"pairs\":[[0,0]],\"item_prices\":[6],\"bin_prices\":[0,0]";
+    judges_second(
+        &rt,
+        rt.alloc(),
+        keeps,
+        "refused SumsDiffer 6 5\n",
+        Status::Refused,
+    )
+}
+
+#[test]
+fn reads_version_2_with_its_draining_bins(rt: HostRuntime) -> Result<(), Fail> {
+    for draining in [
+        "",
+        "\"draining\":null,",
+        "\"draining\":[0.0],",
+        "\"draining\":[1,0],",
+        "\"draining\":[0,0],",
+        "\"draining\":[2],",
+    ] {
+        let members = format!(in rt.alloc();
+            "{draining}\"bins\":[1,1],\"reach\":[],\"before\":[],\"pairs\":[],\"item_prices\":[],\"bin_prices\":[0,0]"
+        )?;
+        judges_second(
+            &rt,
+            rt.alloc(),
+            members.as_str(),
+            "unreadable Shape\n",
+            Status::Unreadable,
+        )?;
+    }
+    Ok(())
+}
+
 #[test]
 fn reads_no_other_prices(rt: HostRuntime) -> Result<(), Fail> {
     for prices in [
@@ -211,7 +282,7 @@ fn names_what_it_cannot_read(rt: HostRuntime) -> Result<(), Fail> {
             Status::Unreadable,
         )?;
     }
-    for text in ["{}", "[]", "null", "{\"version\":2}", "{\"version\":1.0}"] {
+    for text in ["{}", "[]", "null", "{\"version\":3}", "{\"version\":1.0}"] {
         answers(
             &rt,
             rt.alloc(),

@@ -29,6 +29,27 @@ fn plans_what_check_calls_best(rt: HostRuntime) -> Result<(), Fail> {
 }
 
 #[test]
+fn plans_to_leave_draining_bins(rt: HostRuntime) -> Result<(), Fail> {
+    let alloc = rt.alloc();
+    let leaves =
+        "{\"version\":2,\"bins\":[1,1],\"draining\":[0],\"reach\":[[0,1]],\"before\":[[0,0]]}";
+    plans(&rt, alloc, leaves, "best covered=1 left=0 moved=1\n")?;
+    let covers =
+        "{\"version\":2,\"bins\":[1,1],\"draining\":[0],\"reach\":[[0,1],[0]],\"before\":[]}";
+    plans(&rt, alloc, covers, "best covered=2 left=1 moved=0\n")?;
+    let nothing = "{\"version\":2,\"bins\":[],\"draining\":[],\"reach\":[],\"before\":[]}";
+    plans(&rt, alloc, nothing, "best covered=0 left=0 moved=0\n")
+}
+
+#[test]
+fn plans_in_version_1_whatever_drains(rt: HostRuntime) -> Result<(), Fail> {
+    let alloc = rt.alloc();
+    let old =
+        "{\"version\":1,\"bins\":[1,1],\"draining\":[0],\"reach\":[[0,1]],\"before\":[[0,0]]}";
+    plans(&rt, alloc, old, "best covered=1 moved=0\n")
+}
+
+#[test]
 fn plans_for_no_other_document(rt: HostRuntime) -> Result<(), Fail> {
     answers(
         &rt,

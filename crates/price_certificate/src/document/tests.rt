@@ -1,3 +1,6 @@
+//! Documents that are read, that are written, and that are refused.
+mod draining;
+
 use crate::{DocumentError, Instance, Plan, read_document, read_instance, write_document};
 use json_values::{Spelled, text_of};
 use lists::{List, Plain};
@@ -112,9 +115,6 @@ fn names_what_is_no_document(rt: HostRuntime) -> Result<(), Fail> {
         )?;
         assert!(rt; is_shape(&rt, rt.alloc(), text.as_str())?, "{number}");
     }
-    let second =
-        "{\"before\":[],\"bin_prices\":[],\"bins\":[],\"item_prices\":[],\"pairs\":[],\"reach\":[],\"version\":2}";
-    assert!(rt; is_shape(&rt, rt.alloc(), second)?);
     let triple =
         "{\"before\":[],\"bin_prices\":[],\"bins\":[],\"item_prices\":[],\"pairs\":[[0,0,0]],\"reach\":[],\"version\":1}";
     assert!(rt; is_shape(&rt, rt.alloc(), triple)?);
