@@ -4,6 +4,7 @@ Every collector reaches every target, so 4,194,304 pairs are allowed; a collecto
 
 usage: full_fleet.py replay         the lines for `allocd replay`
        full_fleet.py certificate    the document of the same instance and plan, for `allocd check`
+       full_fleet.py certificate-1  the same in version 1
        full_fleet.py rounds         the replay's lines, a take by each collector, and then as many rounds of reports, one for
                                     each target by the collector that holds it, as `allocd replay` reads
 """
@@ -24,9 +25,14 @@ def holder(t):
     return t % EACH % COLLECTORS
 
 
-def plan():
+# what a pair is worth where nothing drains and nothing was before
+def worth(version):
+    return TARGETS + 1 if version == 1 else (TARGETS + 1) ** 2 + TARGETS + 1
+
+
+def plan(version):
     pairs = [[t, holder(t) * JOBS + t // EACH] for t in range(TARGETS)]
-    return {"pairs": pairs, "item_prices": [TARGETS + 1] * TARGETS, "bin_prices": [0] * (COLLECTORS * JOBS)}
+    return {"pairs": pairs, "item_prices": [worth(version)] * TARGETS, "bin_prices": [0] * (COLLECTORS * JOBS)}
 
 
 def replay():
@@ -36,7 +42,7 @@ def replay():
     for j in range(JOBS):
         targets = [{"labels": {"zone": f"z{t % 4}"}, "targets": [f"10.{j}.{t // 256}.{t % 256}:9100"]} for t in range(EACH)]
         yield {"event": "discover", "job": f"job-{j}", "source": 0, "targets": targets}
-    yield {"event": "install", **plan()}
+    yield {"event": "install", **plan(2)}
 
 
 def report(t, round_number):
@@ -59,10 +65,11 @@ def rounds():
         round_number += 1
 
 
-def certificate():
+def certificate(version):
     rows = [[c * JOBS + j for c in range(COLLECTORS)] for j in range(JOBS)]
     reach = [rows[t // EACH] for t in range(TARGETS)]
-    return {"version": 1, "bins": [LIMIT] * (COLLECTORS * JOBS), "reach": reach, "before": [], **plan()}
+    draining = {} if version == 1 else {"draining": []}
+    return {"version": version, "bins": [LIMIT] * (COLLECTORS * JOBS), **draining, "reach": reach, "before": [], **plan(version)}
 
 
 def main():
@@ -71,7 +78,9 @@ def main():
         for line in replay():
             print(compact(line))
     elif which == "certificate":
-        print(compact(certificate()))
+        print(compact(certificate(2)))
+    elif which == "certificate-1":
+        print(compact(certificate(1)))
     elif which == "rounds":
         sys.stdout.writelines(rounds())
     else:

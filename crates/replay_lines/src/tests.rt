@@ -1,4 +1,7 @@
+//! Whole texts of events, and the texts of their answers.
+mod draining;
 mod limits;
+mod own_limits;
 mod rounds;
 
 use crate::{Ended, replay};
@@ -34,7 +37,7 @@ const DISCOVER_NONE: &str = "{\"event\":\"discover\",\"job\":\"j\",\"source\":0,
 const LEAVE_1: &str = "{\"collector\":1,\"event\":\"leave\"}";
 
 const INSTALL_ONE: &str =
-    "{\"bin_prices\":[0],\"event\":\"install\",\"item_prices\":[2],\"pairs\":[[0,0]]}";
+    "{\"bin_prices\":[0],\"event\":\"install\",\"item_prices\":[6],\"pairs\":[[0,0]]}";
 
 /// The lines, each with its line feed.
 fn joined(alloc: Global, lines: &[&str]) -> Option<Vec<u8>> {
@@ -74,10 +77,10 @@ fn answers_events(rt: HostRuntime) -> Result<(), &'static str> {
         DISCOVER_PLAIN,
         "{\"event\":\"install\",\"pairs\":[[0,1]],\"item_prices\":[2],\"bin_prices\":[0,0]}",
         DISCOVER_BOTH,
-        "{\"event\":\"install\",\"pairs\":[[0,0],[1,1]],\"item_prices\":[3,3],\"bin_prices\":[0,0]}",
+        "{\"event\":\"install\",\"pairs\":[[0,0],[1,1]],\"item_prices\":[12,12],\"bin_prices\":[0,0]}",
         LEAVE_1,
-        "{\"event\":\"install\",\"pairs\":[[1,0]],\"item_prices\":[0,4],\"bin_prices\":[0]}",
-        "{\"event\":\"install\",\"pairs\":[[1,0]],\"item_prices\":[0,4],\"bin_prices\":[0]}",
+        "{\"event\":\"install\",\"pairs\":[[1,0]],\"item_prices\":[0,13],\"bin_prices\":[0]}",
+        "{\"event\":\"install\",\"pairs\":[[1,0]],\"item_prices\":[0,13],\"bin_prices\":[0]}",
     ];
     let wanted = [
         "Joined 1",
@@ -133,7 +136,7 @@ fn knows_the_last_allocation(rt: HostRuntime) -> Result<(), &'static str> {
         DISCOVER_ZONE,
         INSTALL_ONE,
         INSTALL_ONE,
-        "{\"event\":\"install\",\"pairs\":[[0,0]],\"item_prices\":[3],\"bin_prices\":[0]}",
+        "{\"event\":\"install\",\"pairs\":[[0,0]],\"item_prices\":[7],\"bin_prices\":[0]}",
         DISCOVER_NONE,
         "{\"event\":\"install\",\"pairs\":[],\"item_prices\":[],\"bin_prices\":[0]}",
     ];
