@@ -1,3 +1,5 @@
+mod own_limits;
+
 use crate::{CollectorName, NameError, Reach, ReachError};
 use json_values::{Spelled, text_of};
 use label_sets::{Finished, Labels, Target, finish};
