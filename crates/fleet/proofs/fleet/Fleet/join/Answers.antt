@@ -1,4 +1,4 @@
-use Rattle.std.proofs.Common.{◌≡◌, ℕ, ◌+◌, List, None, ap, arith, false, refl, sym, ◌∙◌}
+use Rattle.std.proofs.Common.{◌≡◌, ℕ, List, None, ap, arith, refl, sym, ◌∙◌}
 use Rattle.std.proofs.lemmas.Grind.{common_steps}
 use Rattle.fleet.specs.Fleet.{id_named}
 use Rattle.fleet.specs.declared.collector.Collector.{Collector}
@@ -9,4 +9,4 @@ pub invariant_of-self-2 : goal.invariant_of-self-2
 invariant_of-self-2 c =
     let none : id_named c.self.inside.collectors.items c.args.name ≡ None =
     ap (λ (cs : List Collector). id_named cs c.args.name) (sym c.as_slice-2.ensures.value) ∙ ap (λ (name : List ℕ). id_named c.as_slice-2.result.now name) (sym c.as_str.ensures.text) ∙ sym c.in_default.ensures in
-    joined_kept _ (record { id = c.self.inside.last_collector + 1; name = c.args.name; reach = c.args.reach; draining = false; limits = c.args.limits }) c.push.new.self.items c.self.invariant none refl (omega arith) (grind (arith, common_steps)) (omega arith) c.in_ok-push.ensures.items
+    joined_kept _ _ c.push.new.self.items c.self.invariant none refl (omega arith) (grind (arith, common_steps)) (omega arith) c.in_ok-push.ensures.items
