@@ -6,7 +6,8 @@ use crate::{
 use fleet::{Fleet, JobSpec};
 use label_sets::{Finished, Labels, finish};
 use lists::{List, Text};
-use reach_rules::{CollectorName, Reach};
+use price_certificate::Version;
+use reach_rules::{CollectorName, OwnLimits, Reach};
 use std::alloc::Global;
 use std::collections::BTreeMap;
 use std::test::Fail;
@@ -26,9 +27,15 @@ fn fleet(alloc: Global) -> Result<Fleet, Fail> {
         targets.push(target)?;
     }
     let _listing = fleet.list("j", 0, targets)?;
-    let _first = fleet.join(CollectorName::read(alloc, "a")?, everything(alloc)?)?;
-    let _second = fleet.join(CollectorName::read(alloc, "b")?, everything(alloc)?)?;
+    join(alloc, &mut fleet, "a")?;
+    join(alloc, &mut fleet, "b")?;
     Ok(fleet)
+}
+
+fn join(alloc: Global, fleet: &mut Fleet, name: &str) -> Result<(), Fail> {
+    let name = CollectorName::read(alloc, name)?;
+    let _joining = fleet.join(name, everything(alloc)?, OwnLimits::none(alloc))?;
+    Ok(())
 }
 
 fn everything(alloc: Global) -> Result<Reach, Fail> {
@@ -55,5 +62,32 @@ fn a_plan_is_carried_over(rt: HostRuntime) -> Result<(), Fail> {
     assert_eq!(rt; instance.before(0), Some(1));
     let pairs = build_allocation(alloc, &fleet, live.as_slice(), &[(0, 1)])?;
     assert_eq!(rt; pairs.as_slice(), [(0, 2)].as_slice());
+    Ok(())
+}
+
+#[test]
+fn the_bins_of_a_draining_collector_drain(rt: HostRuntime) -> Result<(), Fail> {
+    let alloc = rt.alloc();
+    let mut fleet = fleet(alloc)?;
+    let _draining = fleet.drain(2);
+    let live = fleet.live()?;
+    let instance = build_instance(alloc, &fleet, live.as_slice(), &[])?;
+    assert_eq!(rt; instance.version(), Version::Two);
+    assert!(rt; !instance.drains(0));
+    assert!(rt; instance.drains(1));
+    Ok(())
+}
+
+#[test]
+fn a_bin_has_the_lower_limit(rt: HostRuntime) -> Result<(), Fail> {
+    let alloc = rt.alloc();
+    let mut fleet = fleet(alloc)?;
+    let mut limits = OwnLimits::none(alloc);
+    limits.set("j", 2)?;
+    let _limiting = fleet.set_limits(1, limits);
+    let live = fleet.live()?;
+    let instance = build_instance(alloc, &fleet, live.as_slice(), &[])?;
+    assert_eq!(rt; instance.limit(0), 2);
+    assert_eq!(rt; instance.limit(1), 3);
     Ok(())
 }

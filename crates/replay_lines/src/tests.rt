@@ -247,7 +247,8 @@ fn refuses_what_says_no_event(rt: HostRuntime) -> Result<(), &'static str> {
         "\"event\":\"discover\",\"job\":\"j\",\"source\":4294967296,\"targets\":[]",
         "\"event\":\"join\",\"name\":\"\",\"reach\":[]",
         "\"event\":\"join\",\"name\":\"a\",\"reach\":[{\"test\":\"any\"}]",
-        "\"event\":\"drain\",\"collector\":1",
+        "\"event\":\"pause\",\"collector\":1",
+        "\"event\":\"limits\",\"collector\":1,\"limits\":null",
         "\"event\":1",
         "\"collector\":1",
     ] {

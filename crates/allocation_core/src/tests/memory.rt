@@ -22,14 +22,18 @@ fn everything(alloc: Global) -> Result<Reach, Fail> {
 fn join(alloc: Global) -> Result<Event, Fail> {
     let name = CollectorName::read(alloc, "a")?;
     let reach = everything(alloc)?;
-    Ok(Event::Join { name, reach })
+    Ok(Event::Join {
+        name,
+        reach,
+        limits: OwnLimits::none(alloc),
+    })
 }
 
 /// The best plan of one target and one collector that reaches it.
 fn install(alloc: Global) -> Result<Event, AllocError> {
     Ok(Event::Install(Plan {
         pairs: List::from_vec(vec![in alloc; (0, 0)]?),
-        item_prices: List::from_vec(vec![in alloc; 2]?),
+        item_prices: List::from_vec(vec![in alloc; 6]?),
         bin_prices: List::from_vec(vec![in alloc; 0]?),
     }))
 }
