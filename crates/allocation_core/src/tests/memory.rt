@@ -3,7 +3,7 @@ use super::{core, discover};
 use crate::{Core, Event, Outcome, Report};
 use lists::List;
 use price_certificate::Plan;
-use reach_rules::{CollectorName, Reach};
+use reach_rules::{CollectorName, OwnLimits, Reach};
 use std::alloc::{AllocError, Global};
 use std::collections::BTreeMap;
 use std::process::Abort;
