@@ -1,1 +1,3 @@
+pub mod BitLemmas
 pub mod Firsts
+pub mod TableLemmas

@@ -1,3 +1,5 @@
+pub mod Bits
 pub mod Name
 pub mod Rules
 pub mod Spelling
+pub mod Table

@@ -3,16 +3,22 @@
 //! Contracts see a collector's name as its bytes, and a reach as the list of its rules.
 #![tactic(auto)]
 
+mod bits;
 mod error;
+mod has_target;
 mod name;
 mod reach;
 mod read;
+mod row;
 mod rule;
 mod spelled;
+mod table;
 #[cfg(test)]
 mod tests;
 
 pub use error::{NameError, ReachError};
+pub use has_target::HasTarget;
 pub use name::CollectorName;
 pub use reach::Reach;
 pub use rule::{ReachRule, ReachTest};
+pub use table::ReachTable;

@@ -1,3 +1,5 @@
+mod table;
+
 use crate::{CollectorName, NameError, Reach, ReachError};
 use json_values::{Spelled, text_of};
 use label_sets::{Finished, Labels, Target, finish};
