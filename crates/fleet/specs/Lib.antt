@@ -5,3 +5,4 @@ pub mod Jobs
 pub mod KnownTarget
 pub mod Live
 pub mod Orderly
+pub mod Reached
