@@ -9,3 +9,4 @@ pub mod SoundLemmas
 pub mod TransferLemmas
 pub mod WithinLemmas
 pub mod ProblemLemmas
+pub mod RowLemmas
