@@ -5,3 +5,4 @@ pub mod KeptLemmas
 pub mod LiveLemmas
 pub mod Marks
 pub mod OrderLemmas
+pub mod ReachedLemmas

@@ -153,8 +153,8 @@ abbrev pub IsChange : List (List (List ℕ)) → List (List (List ℕ)) → ℕ 
 IsChange old new known (Ok d) = (crowd_in new known ≡ None) × (d.0 ≡ listed_only new old known) × (d.1 ≡ listed_only old new known)
 IsChange old new known (Err refusal) = crowd_in new known ≡ Some refusal
 
--- the lists where the change is made, and where it is refused
-abbrev pub kept_unless : Result (ℕ × ℕ) ListRefusal → List (List (List ℕ)) → List (List (List ℕ)) → List (List (List ℕ))
+-- what is there where the change is made, and where it is refused
+abbrev pub kept_unless : {X : Type 0} → Result (ℕ × ℕ) ListRefusal → X → X → X
 kept_unless (Ok d) old new = new
 kept_unless (Err refusal) old new = old
 
@@ -163,7 +163,3 @@ abbrev pub IsChangeFrom : (ℕ → Bool) → List (List (List ℕ)) → ℕ → 
 IsChangeFrom before new known (Ok d) =
     (crowd_in new known ≡ None) × (d.0 ≡ count_below (λ target. is_listed new target && not (before target)) known) × (d.1 ≡ count_below (λ target. before target && not (is_listed new target)) known)
 IsChangeFrom before new known (Err refusal) = crowd_in new known ≡ Some refusal
-
-abbrev pub state_unless : Result (ℕ × ℕ) ListRefusal → FleetState → FleetState → FleetState
-state_unless (Ok d) old new = new
-state_unless (Err refusal) old new = old

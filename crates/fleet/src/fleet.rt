@@ -3,7 +3,8 @@ ghost use Rattle.std.specs.Prelude.{◌≡◌, ◌<◌, ◌↔◌, Some, None, O
 ghost use Rattle.fleet.specs.Fleet.{first_fleet, id_named, is_joined, live_of};
 ghost use Rattle.fleet.specs.IsFleet.{IsFleet};
 ghost use Rattle.fleet.specs.Jobs.{are_jobs, sources_at};
-ghost use Rattle.fleet.specs.Changes.{listing_of, fleet_after_list, joining_of, join_refusal, fleet_after_join, fleet_after_leave, draining_of, fleet_after_drain, limiting_of, fleet_after_limits, relisted, IsChange, state_unless};
+ghost use Rattle.fleet.specs.Changes.{listing_of, fleet_after_list, joining_of, join_refusal, fleet_after_join, fleet_after_leave, draining_of, fleet_after_drain, limiting_of, fleet_after_limits, kept_unless, relisted, IsChange};
+ghost use Rattle.fleet.specs.Reached.{reaches_at};
 
 use crate::collector::{
     Collector, begin_draining, has_id, id_named, is_draining, replace_limits, take_out,
@@ -21,7 +22,7 @@ use crate::outcome::{
 use indexmap::IndexSet;
 use label_sets::Target;
 use lists::List;
-use reach_rules::{CollectorName, OwnLimits, Reach};
+use reach_rules::{CollectorName, OwnLimits, Reach, ReachTable};
 use std::alloc::{AllocError, Global};
 use std::marker::Model;
 
@@ -34,17 +35,20 @@ pub struct Fleet {
     known: IndexSet<KnownTarget>,
     collectors: Vec<Collector>,
     last_collector: u32,
+    table: ReachTable,
 }
 
 impl Model for Fleet {
+    ghost use Rattle.std.specs.Prelude.{◌≡◌};
     ghost use Rattle.fleet.specs.Fleet.{FleetState};
     ghost use Rattle.fleet.specs.IsFleet.{IsFleet};
+    ghost use Rattle.fleet.specs.Reached.{reach_rows};
 
     ghost Value = { FleetState };
 
     ghost view = { λ f. record { jobs = f.jobs; listed = f.listed.items; known = f.known.keys; collectors = f.collectors.items; last_collector = f.last_collector } };
 
-    ghost invariant = { λ f. IsFleet (record { jobs = f.jobs; listed = f.listed.items; known = f.known.keys; collectors = f.collectors.items; last_collector = f.last_collector }) };
+    ghost invariant = { λ f. IsFleet (record { jobs = f.jobs; listed = f.listed.items; known = f.known.keys; collectors = f.collectors.items; last_collector = f.last_collector }) × (f.table.rows ≡ reach_rows f.collectors.items f.known.keys) };
 }
 
 impl Fleet {
@@ -64,6 +68,7 @@ impl Fleet {
             known: IndexSet::new(alloc),
             collectors: Vec::new(alloc),
             last_collector: 0,
+            table: ReachTable::open(alloc),
         })
     }
 
@@ -103,7 +108,7 @@ impl Fleet {
         requires job { job < length self.old.jobs }
         requires source { source < sources_at self.old.jobs job }
         ensures change { IfOk result (λ r. IsChange self.old.listed (relisted self.old job source targets).listed (length (relisted self.old job source targets).known) r) }
-        ensures state { IfOk result (λ r. self.new ≡ state_unless r self.old (relisted self.old job source targets)) }
+        ensures state { IfOk result (λ r. self.new ≡ kept_unless r self.old (relisted self.old job source targets)) }
         ensures err { OnErr result (self.new ≡ self.old) }
     {
         let count = self.known.len();
@@ -111,6 +116,7 @@ impl Fleet {
             self.alloc,
             &mut self.known,
             &mut self.listed,
+            &mut self.table,
             job,
             source as usize,
             targets,
@@ -154,13 +160,15 @@ impl Fleet {
             return Ok(Joining::Refused(JoinRefusal::IdsSpent));
         }
         let id = self.last_collector + 1;
-        self.collectors.push(Collector {
+        self.collectors.reserve(1)?;
+        self.table.join(id, &reach, self.known.as_slice())?;
+        self.collectors.push_reserved(Collector {
             id,
             name,
             reach,
             draining: false,
             limits,
-        })?;
+        });
         self.last_collector = id;
         Ok(Joining::Joined(id))
     }
@@ -175,6 +183,7 @@ impl Fleet {
             return false;
         }
         take_out(&mut self.collectors, id);
+        self.table.leave(id);
         true
     }
 
@@ -251,6 +260,14 @@ impl Fleet {
         ensures { result ≡ is_joined self.now id }
     {
         has_id(self.collectors.as_slice(), id)
+    }
+
+    /// Whether the live collector at a place in order of number reaches the known target of a number. False where either is not
+    /// there. No rule is asked.
+    pub fn reaches(&self, place: usize, number: usize) -> bool
+        ensures { result ≡ reaches_at self.now place number }
+    {
+        self.table.reaches_at(place, number)
     }
 
     /// The index of a known target's job, and the target.

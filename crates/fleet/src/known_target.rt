@@ -1,5 +1,6 @@
 //! Targets that were listed once. Two are the same where they have one text in one job.
 use label_sets::Target;
+use reach_rules::HasTarget;
 use std::hash::{Hash, Hasher};
 
 /// A target that some source listed once.
@@ -8,6 +9,14 @@ pub struct KnownTarget {
     /// The index of the job.
     pub job: usize,
     pub target: Target,
+}
+
+impl HasTarget for KnownTarget {
+    ghost final_target = { λ known. known.target };
+
+    fn target(&self) -> &Target {
+        &self.target
+    }
 }
 
 impl PartialEq for KnownTarget {

@@ -1,8 +1,9 @@
 //! What a source lists, and what a change of it comes to.
-ghost use Rattle.std.specs.Prelude.{◌≡◌, ◌<◌, [], Ok, Err, take, length, slice_index_or, IfOk, OnOk, OnErr};
+ghost use Rattle.std.specs.Prelude.{◌≡◌, ◌<◌, ◌≤◌, [], Ok, Err, drop, take, length, slice_index_or, IfOk, OnOk, OnErr};
 ghost use Rattle.fleet.specs.KnownTarget.{known_with, numbers_of};
 ghost use Rattle.fleet.specs.Live.{chosen_below, is_in, mark_at, with_list};
 ghost use Rattle.fleet.specs.Changes.{IsChange, IsChangeFrom, kept_unless};
+ghost use Rattle.fleet.specs.Reached.{rows_with};
 
 use crate::known_target::KnownTarget;
 use crate::limits::{MOST_KNOWN_TARGETS, MOST_LIVE_TARGETS};
@@ -11,15 +12,17 @@ use crate::outcome::ListRefusal;
 use indexmap::IndexSet;
 use label_sets::Target;
 use lists::List;
+use reach_rules::ReachTable;
 use std::alloc::{AllocError, Global};
 use std::mem;
 
 /// A source of a job lists these targets, in place of those that it listed before. Where it fails or is refused, the
-/// lists stay, and the known targets gained some.
+/// lists and the table stay, and the known targets gained some.
 pub(crate) fn list(
     alloc: Global,
     known: &mut IndexSet<KnownTarget>,
     listed: &mut Vec<List<List<usize>>>,
+    table: &mut ReachTable,
     job: usize,
     source: usize,
     targets: List<Target>,
@@ -30,11 +33,28 @@ pub(crate) fn list(
     ensures before { take (length known.old.keys) known.new.keys ≡ known.old.keys }
     ensures change { IfOk result (IsChange listed.old.items (with_list listed.old.items job source (chosen_below (is_in (numbers_of known.old.keys job targets)) (length (known_with known.old.keys job targets)))) (length (known_with known.old.keys job targets))) }
     ensures listed { IfOk result (λ r. listed.new.items ≡ kept_unless r listed.old.items (with_list listed.old.items job source (chosen_below (is_in (numbers_of known.old.keys job targets)) (length (known_with known.old.keys job targets))))) }
+    ensures rows { IfOk result (λ r. table.new.rows ≡ kept_unless r table.old.rows (rows_with table.old.rows (drop (length known.old.keys) known.new.keys))) }
     ensures err { OnErr result (listed.new.items ≡ listed.old.items) }
+    ensures rows_err { OnErr result (table.new.rows ≡ table.old.rows) }
 {
+    let count = known.len();
     let numbers = enter(alloc, known, job, targets)?;
+    table.room(known.len() - count)?;
     let change = relist(alloc, listed, known.len(), job, source, numbers.as_slice())?;
+    if change.is_ok() {
+        appear(table, &known.as_slice()[count..]);
+    }
     Ok(change)
+}
+
+/// Targets appear in the table, which has room for them.
+fn appear(table: &mut ReachTable, more: &[KnownTarget])
+    requires { length more.now ≤ table.old.spare }
+    ensures { table.new.rows ≡ rows_with table.old.rows more.now }
+{
+    if table.appear(more).is_err() {
+        unreachable!();
+    }
 }
 
 /// Enters the targets of a job's list, and gives their numbers.

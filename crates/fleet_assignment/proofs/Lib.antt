@@ -10,3 +10,4 @@ pub mod SoundLemmas
 pub mod TransferLemmas
 pub mod WithinLemmas
 pub mod ProblemLemmas
+pub mod RowLemmas

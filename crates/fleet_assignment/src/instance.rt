@@ -1,6 +1,6 @@
 //! The assignment problem of a fleet: items are its live targets, bins each collector's share of each job. The way back, from a
 //! plan to an allocation, is in `allocation.rt`.
-ghost use Rattle.std.specs.Prelude.{◌≡◌, ◌<◌, ◌≤◌, ◌*◌, ◌+◌, ◌++◌, ℕ, None, false, All, length, map, option_and_then, slice_index_or, IfOk, IfSome, OnOk};
+ghost use Rattle.std.specs.Prelude.{◌≡◌, ◌<◌, ◌≤◌, ◌*◌, ◌+◌, ◌++◌, ℕ, None, Some, false, All, length, map, option_and_then, slice_get, slice_index_or, IfOk, IfSome, OnOk};
 ghost use Rattle.price_certificate.specs.Problem.{IsShaped, IsProblemOf};
 ghost use Rattle.price_certificate.specs.Document.{marked_from};
 ghost use Rattle.price_certificate.specs.declared.version.Version.TheVariants.{Two};
@@ -8,7 +8,7 @@ ghost use Rattle.fleet.specs.Fleet.{live_of};
 ghost use Rattle.fleet.specs.ShareLimit.{share_limit};
 ghost use Rattle.fleet.specs.declared.job.JobSpec.{JobSpec};
 ghost use Rattle.fleet.specs.declared.known_target.KnownTarget.{KnownTarget};
-ghost use Rattle.fleet_assignment.specs.Instance.{instance_of, limits_for, draining_for, row_from, row_in, place_of, bin_in, problem_of};
+ghost use Rattle.fleet_assignment.specs.Instance.{instance_of, limits_for, draining_for, row_for, row_from, row_in, place_of, bin_in, problem_of};
 ghost use Rattle.fleet_assignment.specs.Tables.{preceding_from};
 
 use crate::table::placed;
@@ -30,23 +30,26 @@ pub fn build_instance(
     requires { live.now ≡ live_of fleet.now }
     ensures { IfOk result (λ i. i ≡ instance_of fleet.now before.now) }
 {
+    let rows = rows(alloc, fleet, live)?;
     instance(
         alloc,
         fleet.jobs(),
         fleet.collectors(),
         fleet.known(),
         live,
+        rows,
         before,
     )
 }
 
-/// The instance of the live targets, with the pairs of an allocation before.
+/// The instance of the live targets and their rows, with the pairs of an allocation before.
 fn instance(
     alloc: Global,
     jobs: &[JobSpec],
     collectors: &[Collector],
     known: &[KnownTarget],
     live: &[usize],
+    rows: Vec<List<u32>>,
     pairs: &[(u32, u32)],
 ) -> Result<Instance, AllocError>
     requires homes { All (λ (k : KnownTarget). k.job < length jobs.now) known.now }
@@ -54,11 +57,11 @@ fn instance(
     requires collectors { length collectors.now ≤ MOST_COLLECTORS }
     requires live { length live.now ≤ MOST_LIVE_TARGETS }
     requires numbers { All (λ n. n < length known.now) live.now }
+    requires rows { rows.items ≡ map (row_in (length jobs.now) collectors.now known.now) live.now }
     ensures { IfOk result (λ i. i ≡ problem_of jobs.now collectors.now known.now live.now pairs.now) }
 {
     let limits = limits(alloc, jobs, collectors)?;
     let draining = draining(alloc, jobs.len(), collectors)?;
-    let rows = rows(alloc, jobs.len(), collectors, known, live)?;
     let holders = placed(alloc, known.len(), pairs)?;
     let before = preceding(
         alloc,
@@ -141,58 +144,43 @@ fn drains(jobs: usize, collectors: &[Collector], bin: usize) -> bool
     collectors[bin / jobs].draining
 }
 
-/// For each live target the bins that it may use.
-fn rows(
-    alloc: Global,
-    jobs: usize,
-    collectors: &[Collector],
-    known: &[KnownTarget],
-    live: &[usize],
-) -> Result<Vec<List<u32>>, AllocError>
-    requires homes { All (λ (k : KnownTarget). k.job < jobs) known.now }
-    requires bins { jobs * length collectors.now ≤ MOST_BINS }
-    ensures { IfOk result (λ v. v.items ≡ map (row_in jobs collectors.now known.now) live.now) }
+/// For each of these targets the bins that it may use.
+fn rows(alloc: Global, fleet: &Fleet, live: &[usize]) -> Result<Vec<List<u32>>, AllocError>
+    ensures { IfOk result (λ v. v.items ≡ map (row_for fleet.now) live.now) }
 {
     let mut rows = Vec::with_capacity(alloc, live.len())?;
     for number in live {
-        let row = row_at(alloc, jobs, collectors, known, *number)?;
+        let row = row_at(alloc, fleet, *number)?;
         rows.push(List::from_vec(row))?;
     }
     Ok(rows)
 }
 
-fn row_at(
-    alloc: Global,
-    jobs: usize,
-    collectors: &[Collector],
-    known: &[KnownTarget],
-    number: usize,
-) -> Result<Vec<u32>, AllocError>
-    requires homes { All (λ (k : KnownTarget). k.job < jobs) known.now }
-    requires bins { jobs * length collectors.now ≤ MOST_BINS }
-    ensures { IfOk result (λ v. v.items ≡ row_in jobs collectors.now known.now number) }
+fn row_at(alloc: Global, fleet: &Fleet, number: usize) -> Result<Vec<u32>, AllocError>
+    ensures { IfOk result (λ v. v.items ≡ row_for fleet.now number) }
 {
-    if number >= known.len() {
-        return Ok(Vec::new(alloc));
+    match fleet.known().get(number) {
+        Some(known) => row(alloc, fleet, number, known),
+        None => Ok(Vec::new(alloc)),
     }
-    row(alloc, jobs, collectors, &known[number])
 }
 
 /// The bins of the target's job at the collectors that reach it.
 fn row(
     alloc: Global,
-    jobs: usize,
-    collectors: &[Collector],
+    fleet: &Fleet,
+    number: usize,
     known: &KnownTarget,
 ) -> Result<Vec<u32>, AllocError>
-    requires home { known.now.job < jobs }
-    requires bins { jobs * length collectors.now ≤ MOST_BINS }
-    ensures { IfOk result (λ v. v.items ≡ row_from jobs 0 collectors.now known.now) }
+    requires { slice_get fleet.now.known number ≡ Some known.now }
+    ensures { IfOk result (λ v. v.items ≡ row_from (length fleet.now.jobs) 0 fleet.now.collectors known.now) }
 {
+    let jobs = fleet.jobs().len();
+    let collectors = fleet.collectors().len();
     let mut row = Vec::new(alloc);
-    for place in 0..collectors.len() {
-        let bin = bin_of(jobs, collectors.len(), place, known.job);
-        if collectors[place].reach.reaches(&known.target) {
+    for place in 0..collectors {
+        let bin = bin_of(jobs, collectors, place, known.job);
+        if fleet.reaches(place, number) {
             row.push(bin)?;
         }
     }

@@ -3,18 +3,24 @@
 //! Contracts see a collector's name as its bytes, and a reach as the list of its rules.
 #![tactic(auto)]
 
+mod bits;
 mod error;
+mod has_target;
 mod name;
 mod own_limits;
 mod reach;
 mod read;
+mod row;
 mod rule;
 mod spelled;
+mod table;
 #[cfg(test)]
 mod tests;
 
 pub use error::{NameError, ReachError};
+pub use has_target::HasTarget;
 pub use name::CollectorName;
 pub use own_limits::OwnLimits;
 pub use reach::Reach;
 pub use rule::{ReachRule, ReachTest};
+pub use table::ReachTable;

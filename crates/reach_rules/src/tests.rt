@@ -1,4 +1,5 @@
 mod own_limits;
+mod table;
 
 use crate::{CollectorName, NameError, Reach, ReachError};
 use json_values::{Spelled, text_of};
