@@ -1,7 +1,7 @@
 #!/usr/bin/env python3
 """Writes an instance document of a family, the same for the same name and seed.
 
-usage: instances.py FAMILY [SEED]
+usage: instances.py FAMILY [SEED [VERSION]]      (seed 1 and version 1 where left out)
 
   ring          16,384 items, 256 bins; item t reaches bins t and t + 1 (mod 256), was at the latter; limits just enough
   ring-less     the same with limits one less
@@ -23,6 +23,12 @@ Families that are hard for one search after another:
   ladder        170 full chains of 1 to 170 bins, each with a new item at its foot, so no two ways out are of one length
   sparse-before sparse where each item was in one of its bins
   sparse-long   the same with some 256 random bins an item, nothing before; sparse-long-before: with
+
+Families of version 2 alone, in which a quarter of the bins drain:
+
+  draining        4 zones, everything before and spread evenly; what drains can be emptied
+  draining-dense  the same with all of 16,384 * 256 pairs allowed
+  draining-tight  draining where the other bins have no room, so that a quarter stays
 """
 import random
 import sys
@@ -45,6 +51,12 @@ def fleet():
     rows = [[b for b in range(BINS - 1) if b % 4 == t % 4] for t in range(ITEMS)]
     held = [(t, t % BINS) for t in range(ITEMS) if t % BINS != BINS - 1]
     return [66] * (BINS - 1), rows, held
+
+
+# every collector has its share of the targets of its zone, or of all, and the first quarter of the collectors drains
+def draining(zones, limit):
+    rows = [[b for b in range(BINS) if b % zones == t % zones] for t in range(ITEMS)]
+    return [limit] * BINS, rows, [(t, t % BINS) for t in range(ITEMS)], list(range(BINS // 4))
 
 
 def sparse(reach, has_before, seed):
@@ -107,6 +119,7 @@ def stuck_bins(first, count, turn, reach):
 def main():
     family = sys.argv[1] if len(sys.argv) > 1 else ""
     seed = int(sys.argv[2]) if len(sys.argv) > 2 else 1
+    version = int(sys.argv[3]) if len(sys.argv) > 3 else 1
     families = {
         "ring": lambda: ring(64),
         "ring-less": lambda: ring(63),
@@ -126,14 +139,22 @@ def main():
         "sparse-before": lambda: sparse(8, True, seed),
         "sparse-long": lambda: sparse(256, False, seed),
         "sparse-long-before": lambda: sparse(256, True, seed),
+        "draining": lambda: draining(4, 86),
+        "draining-dense": lambda: draining(1, 86),
+        "draining-tight": lambda: draining(4, 64),
     }
     if family not in families:
         sys.exit(__doc__)
-    limits, rows, before = families[family]()
+    limits, rows, before, *drained = families[family]()
+    if drained or version == 2:
+        draining_member = f'"draining":[{",".join(map(str, drained[0] if drained else []))}],'
+        version = 2
+    else:
+        draining_member = ""
     numbers = lambda xs: "[" + ",".join(map(str, xs)) + "]"
     pairs = "[" + ",".join(f"[{t},{b}]" for t, b in before) + "]"
     reach = "[" + ",".join(map(numbers, rows)) + "]"
-    sys.stdout.write(f'{{"before":{pairs},"bins":{numbers(limits)},"reach":{reach},"version":1}}\n')
+    sys.stdout.write(f'{{"before":{pairs},"bins":{numbers(limits)},{draining_member}"reach":{reach},"version":{version}}}\n')
 
 
 main()

@@ -1,5 +1,5 @@
 // Solves an instance document, on standard input, by LEMON's network simplex or its cost scaling, and writes how many items are
-// covered and moved and then the pairs.
+// covered, in version 2 left at bins that drain, and moved, and then the pairs.
 // usage: lemon simplex|scaling
 // build: c++ -O3 -o lemon lemon.cpp -llemon      (Debian: liblemon-dev)
 #include <cstdio>
@@ -18,7 +18,9 @@ using Numbers = std::vector<int>;
 using Graph = lemon::StaticDigraph;
 
 struct Instance {
+    int version;
     Numbers limits;
+    std::vector<bool> drains;
     std::vector<Numbers> rows;
     Numbers before;
 };
@@ -82,8 +84,15 @@ private:
 Instance read_instance(const std::string &text) {
     Instance instance;
     Reader reader(text);
+    reader.go_to_member("version");
+    instance.version = reader.read_number();
     reader.go_to_member("bins");
     instance.limits = reader.read_numbers();
+    instance.drains.assign(instance.limits.size(), false);
+    if (instance.version == 2) {
+        reader.go_to_member("draining");
+        reader.read_list([&] { instance.drains[reader.read_number()] = true; });
+    }
     reader.go_to_member("reach");
     reader.read_list([&] { instance.rows.push_back(reader.read_numbers()); });
     instance.before.assign(instance.rows.size(), -1);
@@ -109,8 +118,13 @@ struct Network {
         graph.build(items + bins + 1, arcs.begin(), arcs.end());
     }
 
-    // what an arc earns: a kept pair more than another, and any pair more than all that could be kept
-    int weight(int item, int bin) const { return items + 1 + (instance.before[item] == bin); }
+    // what an arc earns: a kept pair more than another, in version 2 a bin that does not drain more than all that could be kept,
+    // and any pair more than all of that
+    int weight(int item, int bin) const {
+        int more = items + 1;
+        int place = instance.version == 1 ? more : more * more + (instance.drains[bin] ? 0 : more);
+        return place + (instance.before[item] == bin);
+    }
 
     int capacity(int bin) const {
         int limit = instance.limits[bin];
@@ -118,7 +132,8 @@ struct Network {
     }
 
     template <typename Solver> void solve() {
-        Graph::ArcMap<int> capacities(graph), costs(graph);
+        Graph::ArcMap<int> capacities(graph);
+        Graph::ArcMap<typename Solver::Cost> costs(graph);
         Graph::NodeMap<int> supplies(graph, 0);
         for (int arc = 0; arc < graph.arcNum(); ++arc) {
             int from = graph.id(graph.source(graph.arc(arc)));
@@ -135,19 +150,22 @@ struct Network {
     }
 
     template <typename Solver> void write(const Solver &solver) const {
-        int covered = 0, kept = 0;
+        int covered = 0, left = 0, kept = 0;
         std::string pairs;
         for (int arc = 0; arc < graph.arcNum(); ++arc) {
             int item = graph.id(graph.source(graph.arc(arc)));
             int bin = graph.id(graph.target(graph.arc(arc))) - items;
             if (item >= items || bin >= bins || solver.flow(graph.arc(arc)) == 0) continue;
             ++covered;
+            left += instance.drains[bin];
             kept += instance.before[item] == bin;
             pairs += "[" + std::to_string(item) + "," + std::to_string(bin) + "]";
         }
         int placed = 0;
         for (int bin : instance.before) placed += bin >= 0;
-        std::printf("covered=%d moved=%d\n%s\n", covered, placed - kept, pairs.c_str());
+        std::printf("covered=%d ", covered);
+        if (instance.version == 2) std::printf("left=%d ", left);
+        std::printf("moved=%d\n%s\n", placed - kept, pairs.c_str());
     }
 
     const Instance &instance;
@@ -160,7 +178,15 @@ int main(int count, char **arguments) {
     std::string text = read_input();
     Instance instance = read_instance(text);
     Network network(instance);
-    if (std::strcmp(arguments[1], "simplex") == 0) network.solve<lemon::NetworkSimplex<Graph>>();
-    else if (std::strcmp(arguments[1], "scaling") == 0) network.solve<lemon::CostScaling<Graph>>();
-    else fail("usage: lemon simplex|scaling");
+    bool simplex = std::strcmp(arguments[1], "simplex") == 0;
+    if (!simplex && std::strcmp(arguments[1], "scaling") != 0) fail("usage: lemon simplex|scaling");
+    // the weights of version 2 are too large for sums of 32 bits
+    using Wide = long long;
+    if (instance.version == 1) {
+        if (simplex) network.solve<lemon::NetworkSimplex<Graph>>();
+        else network.solve<lemon::CostScaling<Graph>>();
+    } else {
+        if (simplex) network.solve<lemon::NetworkSimplex<Graph, int, Wide>>();
+        else network.solve<lemon::CostScaling<Graph, int, Wide>>();
+    }
 }

@@ -2,7 +2,7 @@
 # Processor time and peak memory of `allocd plan` for each family of bench/instances.py, the work that the engine had, the time of
 # `allocd check` on the result, and that of LEMON's network simplex and cost scaling on the same file (bench/lemon.cpp; Debian's
 # liblemon-dev). Times are of whole programs, reading and writing included, the least of some runs.
-# usage: bench/plan.sh [FAMILY..]      (RUNS=3 in the environment says how many runs)
+# usage: bench/plan.sh [FAMILY..]      (RUNS=3 in the environment says how many runs, VERSION=2 writes all families in version 2)
 set -eu
 root=$(cd "$(dirname "$0")/.." && pwd)
 . "$root/bench/programs.sh"
@@ -14,7 +14,7 @@ patience=20
 c++ -O3 -o "$folder/lemon" "$root/bench/lemon.cpp" -llemon
 families=("$@")
 [ $# -gt 0 ] || families=(ring ring-less dense dense-before dense-one fleet sparse sparse-before sparse-long sparse-long-before
-    chain crowd gate gate-few stairs stairs-steps flat ladder)
+    chain crowd gate gate-few stairs stairs-steps flat ladder draining draining-dense draining-tight)
 
 # least seconds and most megabytes of the runs of a command on a file
 measure() {
@@ -41,7 +41,7 @@ ratio() {
 echo "| family | plan, seconds | MB at the most | work | check, seconds | plan / check | LEMON simplex | LEMON scaling | plan / LEMON | verdict |"
 echo "|---|---|---|---|---|---|---|---|---|---|"
 for family in "${families[@]}"; do
-    python3 "$root/bench/instances.py" "$family" > "$folder/instance"
+    python3 "$root/bench/instances.py" "$family" 1 "${VERSION:-1}" > "$folder/instance"
     "$allocd" plan < "$folder/instance" > "$folder/plan"
     verdict=$("$allocd" check < "$folder/plan")
     work=$("$programs" plan < "$folder/instance")
