@@ -20,7 +20,8 @@ use Rattle.fleet_events.specs.declared.event.Event.{Event}
 use Rattle.fleet_events.specs.declared.event.Event.TheVariants.{Discover, Join, Leave, Drain, SetLimits, Install, NextRound, Take, Report}
 use Rattle.fleet_events.specs.declared.answer.Answer.TheVariants.{Discovered, Joined, Left, Draining, LimitsSet, Published, RoundOpen, Taken, Booked}
 use Rattle.fleet_events.specs.declared.refusal.Refusal.TheVariants.{UnknownCollector, Unchanged, NumbersSpent, RoundsSpent, NotTaken, UnknownTarget, NotHolder, RoundClosed, RoundNotOpen, AlreadyBooked}
-use Rattle.allocation_core.specs.declared.limits.TheConstants.{LAST_ALLOCATION, LAST_ROUND}
+use Rattle.handover.specs.declared.holders.TheConstants.{LAST_NUMBER}
+use Rattle.allocation_core.specs.declared.limits.TheConstants.{LAST_ROUND}
 use Rattle.allocation_core.specs.State.{State, allocation_at, current_of, current_pairs, held_by, instance_at}
 use Rattle.allocation_core.specs.Steps.{answer_by, answer_of, is_booked, is_holder, plan_refusal, same_pairs, undrained, unjoined, unlimited, unlisted}
 use Rattle.allocation_core.specs.Answers.{IsAnswerTo, is_discover_answer, is_join_answer, is_leave_answer, is_drain_answer, is_limits_answer, is_install_answer, is_round_answer, is_take_answer, is_report_answer}
@@ -60,7 +61,7 @@ number_answer false false n x = refl
 
 install_answer : (m : State) (plan : Plan) (f : Option Fault) (x : ℕ) → IsTrue (is_install_answer (answer_by (plan_refusal m plan f) (Published x)))
 install_answer m plan (Some fault) x = refl
-install_answer m plan None x = number_answer (same_pairs (allocation_at m plan.pairs) (current_pairs m)) (nat_lt (current_of m) LAST_ALLOCATION) (current_of m) x
+install_answer m plan None x = number_answer (same_pairs (allocation_at m plan.pairs) (current_pairs m)) (nat_lt (current_of m) LAST_NUMBER) (current_of m) x
 
 round_answer : (b : Bool) (r : ℕ) → IsTrue (is_round_answer (answer_by (cond b None (Some RoundsSpent)) (RoundOpen r)))
 round_answer true r = refl

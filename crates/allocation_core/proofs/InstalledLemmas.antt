@@ -4,7 +4,7 @@ use Rattle.std.specs.Prelude.{if◌then◌else◌, nat_lt}
 use Rattle.price_certificate.specs.Faults.{NoFaultIsCertified, fault_of}
 use Rattle.price_certificate.specs.declared.plan.Plan.{Plan}
 use Rattle.price_certificate.specs.declared.verdict.Fault.{Fault}
-use Rattle.allocation_core.specs.declared.limits.TheConstants.{LAST_ALLOCATION}
+use Rattle.handover.specs.declared.holders.TheConstants.{LAST_NUMBER}
 use Rattle.allocation_core.specs.State.{State, allocation_at, current_of, current_pairs, first_state, instance_at}
 use Rattle.allocation_core.specs.Steps.{answer_of, answer_by, plan_refusal, same_pairs}
 use Rattle.allocation_core.specs.Runs.{state_of}
@@ -22,7 +22,7 @@ numbered m false true = inl refl
 numbered m false false = inr (inr refl)
 
 faultless : (m : State) (plan : Plan) (fault : Option Fault) → fault ≡ None → IsInstalled m (answer_by (plan_refusal m plan fault) (Published (current_of m + 1)))
-faultless m plan None e = numbered m (same_pairs (allocation_at m plan.pairs) (current_pairs m)) (nat_lt (current_of m) LAST_ALLOCATION)
+faultless m plan None e = numbered m (same_pairs (allocation_at m plan.pairs) (current_pairs m)) (nat_lt (current_of m) LAST_NUMBER)
 faultless m plan (Some fault) e = cc
 
 pub installed : NoFaultIsCertified → InstancesAreProblems → (m : State) (plan : Plan) → IsKept m → IsCertifiedNow m plan → IsInstalled m (answer_of m (Install plan))

@@ -25,7 +25,7 @@ use Rattle.fleet_events.specs.declared.refusal.Refusal.{Refusal}
 use Rattle.fleet_events.specs.declared.refusal.Refusal.TheVariants.{Unchanged, NumbersSpent}
 use Rattle.allocation_core.specs.State.{State, allocation_at, current_of, current_pairs, first_state, instance_at}
 use Rattle.allocation_core.specs.Steps.{answer_by, answer_of, changed, entry_of, number_refusal, plan_refusal, refusal_of, same_pairs, state_after, unjoined, unlisted}
-use Rattle.allocation_core.specs.declared.limits.TheConstants.{LAST_ALLOCATION}
+use Rattle.handover.specs.declared.holders.TheConstants.{LAST_NUMBER}
 use Rattle.allocation_core.specs.Runs.{state_of}
 use Rattle.allocation_core.specs.Kept.{IsKept}
 use Rattle.allocation_core.proofs.Admission.{admitted}
@@ -46,10 +46,10 @@ plan_by m plan (Some fault) e = cc
 
 install_kept : (m : State) (plan : Plan) → IsKept m → refusal_of m (Install plan) ≡ None → IsKept (changed m (Install plan))
 install_kept m plan kept e =
-    let free = number_by (same_pairs (allocation_at m plan.pairs) (current_pairs m)) (nat_lt (current_of m) LAST_ALLOCATION) (Unchanged (current_of m)) (plan_by m plan (fault_of (instance_at m) plan.pairs plan.item_prices plan.bin_prices) e).1 in
+    let free = number_by (same_pairs (allocation_at m plan.pairs) (current_pairs m)) (nat_lt (current_of m) LAST_NUMBER) (Unchanged (current_of m)) (plan_by m plan (fault_of (instance_at m) plan.pairs plan.item_prices plan.bin_prices) e).1 in
     record {
       fleet = kept.fleet;
-      few_published = omega (arith, length-append m.published (allocation_at m plan.pairs ∷ []), ltb-true (current_of m) LAST_ALLOCATION free);
+      few_published = omega (arith, length-append m.published (allocation_at m plan.pairs ∷ []), ltb-true (current_of m) LAST_NUMBER free);
       opened = kept.opened;
       past_rounds = kept.past_rounds;
     }

@@ -4,13 +4,13 @@ use Rattle.scrape_books.specs.declared.report.Entry.{Entry}
 use Rattle.fleet.specs.IsFleet.{IsFleet}
 use Rattle.fleet.specs.declared.job.JobSpec.{JobSpec}
 use Rattle.fleet_events.specs.declared.event.Event.{Event}
-use Rattle.allocation_core.specs.declared.limits.TheConstants.{LAST_ALLOCATION}
+use Rattle.handover.specs.declared.holders.TheConstants.{LAST_NUMBER}
 use Rattle.allocation_core.specs.State.{State, first_state}
 use Rattle.allocation_core.specs.Runs.{state_of}
 
 pub record IsKept (m : State) : Type 0 where
   pub fleet : IsFleet m.fleet
-  pub few_published : length m.published ≤ LAST_ALLOCATION
+  pub few_published : length m.published ≤ LAST_NUMBER
   pub opened : 1 ≤ m.round
   -- no round past the open one is booked
   pub past_rounds : All (λ (b : ℕ × Entry). b.1.round ≤ m.round) m.booked

@@ -28,7 +28,8 @@ use Rattle.fleet.specs.declared.outcome.Limiting.{Limiting}
 use Rattle.fleet.specs.declared.outcome.Limiting.TheVariants.{LimitsSet as IsLimited, Refused as NotLimited}
 use Rattle.fleet.specs.declared.outcome.LimitsRefusal.{LimitsRefusal}
 use Rattle.fleet.specs.declared.outcome.LimitsRefusal.TheVariants.{UnknownCollector as NobodyLimited, UnknownJob as NoJobLimited}
-use Rattle.allocation_core.specs.declared.limits.TheConstants.{LAST_ALLOCATION, LAST_ROUND}
+use Rattle.handover.specs.declared.holders.TheConstants.{LAST_NUMBER}
+use Rattle.allocation_core.specs.declared.limits.TheConstants.{LAST_ROUND}
 use Rattle.allocation_core.specs.State.{State, allocation_at, current_of, current_pairs, held_by, instance_at}
 use Rattle.fleet_events.specs.declared.event.Event.{Event}
 use Rattle.fleet_events.specs.declared.event.Event.TheVariants.{Discover, Join, Leave, Drain, SetLimits, Install, NextRound, Take, Report}
@@ -88,7 +89,7 @@ same_pairs = pointwise (λ (x y : ℕ × ℕ). (x.0 == y.0) && (x.1 == y.1))
 -- an allocation is the current one, or has no number
 abbrev pub number_refusal : State → List (ℕ × ℕ) → Option Refusal
 number_refusal m pairs =
-    if same_pairs pairs (current_pairs m) then Some (Unchanged (current_of m)) else if nat_lt (current_of m) LAST_ALLOCATION then None else Some NumbersSpent
+    if same_pairs pairs (current_pairs m) then Some (Unchanged (current_of m)) else if nat_lt (current_of m) LAST_NUMBER then None else Some NumbersSpent
 
 abbrev pub plan_refusal : State → Plan → Option Fault → Option Refusal
 plan_refusal m plan (Some fault) = Some (Refused fault)

@@ -18,6 +18,6 @@ pub use fleet_events::{Answer, CollectorId, Event, Outcome, Refusal, Report, Tar
 pub use laws::{
     answers_fit, booked_by_holders, certified_are_installed, published_are_best, states_are_kept,
 };
-pub use limits::{LAST_ALLOCATION, LAST_ROUND};
+pub use limits::LAST_ROUND;
 pub use machine::Core;
 pub use runs::{Stopped, run};

@@ -1,3 +1,4 @@
+//! A core takes events one by one, and answers what its contract says.
 mod memory;
 
 use crate::{Core, Event, JobSpec, answers_fit, published_are_best, run};

@@ -1,3 +1,4 @@
+//! Events read and written as JSON, and the texts of answers.
 use crate::{Answer, Event, Outcome, Refusal, Report, read_event};
 use lists::{List, Plain, Text};
 use price_certificate::Fault;

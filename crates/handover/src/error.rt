@@ -1,3 +1,4 @@
+//! Why a call on the holders changed nothing.
 use std::alloc::AllocError;
 use thiserror::Error;
 

@@ -1,3 +1,4 @@
+//! The published allocations, and who took which.
 ghost use Rattle.std.specs.Prelude.{◌≡◌, ◌↔◌, ◌+◌, ◌<◌, ◌≤◌, ◌≢◌, ℕ, [], ◌∷◌, ◌++◌, Ok, Err, length, AllPairs, IfOk, OnOk, OnErr, nat_eq};
 ghost use Rattle.handover.specs.Handover.{nothing_published, last_of, holder_in, held_in, taken_by, with_taken};
 
@@ -11,7 +12,7 @@ use std::alloc::{AllocError, Global};
 use std::marker::Model;
 
 /// The last number of an allocation.
-const LAST_NUMBER: u32 = 4_294_967_295;
+pub const LAST_NUMBER: u32 = 4_294_967_295;
 
 /// All published allocations, and the last number that each collector took. Contracts see a `Handover`.
 #[derive(Drop)]
@@ -53,7 +54,7 @@ impl Holders {
         requires ascending { AllPairs (λ (a b : ℕ × ℕ). a.0 < b.0) pairs }
         ensures number { IfOk result (λ n. n ≡ length self.old.published + 1) }
         ensures published { OnOk result (self.new ≡ record self.old { published = self.old.published ++ pairs ∷ [] }) }
-        ensures spent { (result ≡ Err HoldersError.NumbersSpent) ↔ (length self.old.published ≡ 4294967295) }
+        ensures spent { (result ≡ Err HoldersError.NumbersSpent) ↔ (length self.old.published ≡ LAST_NUMBER) }
         ensures not_unknown { result ≢ Err HoldersError.UnknownNumber }
         ensures err { OnErr result (self.new ≡ self.old) }
     {

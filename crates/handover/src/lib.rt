@@ -13,7 +13,7 @@ mod spans;
 mod tests;
 
 pub use error::HoldersError;
-pub use holders::Holders;
+pub use holders::{Holders, LAST_NUMBER};
 
 /// A target's number. Numbers are given densely from 0: the memory for spans grows with the greatest.
 pub type TargetId = u32;

@@ -1,3 +1,4 @@
+//! Searching in rows that ascend by target.
 ghost use Rattle.std.specs.Prelude.{◌≡◌, ◌==◌, if◌then◌else◌, ◌<◌, ◌≤◌, ◌+◌, ◌++◌, ◌∷◌, [], ℕ, All, AllPairs, IfOk, OnOk, OnErr, length, max, slice_index_or};
 ghost use Rattle.handover.specs.Handover.{targets_of};
 ghost use Rattle.handover.specs.Spans.{holder_at, spans_of, room_of, pairs_from, lists_of, closed, opened, changed, is_beside, without, AreRows, IsKept};

@@ -1,3 +1,4 @@
+//! Spans: from which allocation to which a collector held a target.
 ghost use Rattle.std.specs.Prelude.{◌≡◌, ◌<◌, ◌≤◌, ◌++◌, ◌∷◌, [], OnOk, ℕ, nat_le, true, false, length};
 ghost use Rattle.std.specs.List.Sorted.{IsPartitionPoint};
 ghost use Rattle.handover.specs.Spans.{holder_at, closed, opened, AreSpans};

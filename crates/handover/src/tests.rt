@@ -1,3 +1,4 @@
+//! Holders of many allocations, beside the plain program of whole lists.
 ghost use Rattle.std.specs.Prelude.{◌≡◌, ◌<◌, ◌≤◌, ℕ, AllPairs, IfOk, length};
 
 mod whole_lists;

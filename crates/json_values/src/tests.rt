@@ -1,3 +1,4 @@
+//! Values that are read and written.
 use crate::{Spelled, member, parse, text_of};
 use lists::{List, Plain, Text};
 use std::alloc::{AllocError, Global};

@@ -1,3 +1,4 @@
+//! The list of every public type.
 ghost use Rattle.std.specs.Prelude.{◌≡◌, ◌↔◌, ◌++◌, ◌∷◌, [], ◌==◌, length, IfOk, OnOk, OnErr, IsTrue};
 
 use crate::plain::Plain;

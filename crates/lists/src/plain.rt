@@ -1,3 +1,4 @@
+//! Copies and equality of plain data.
 ghost use Rattle.std.specs.Prelude.{◌≡◌, ◌↔◌, IfOk, IsTrue};
 
 use std::alloc::AllocError;

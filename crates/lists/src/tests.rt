@@ -1,3 +1,4 @@
+//! Lists and texts are made, copied and compared.
 use crate::{List, Plain, Text};
 use std::test::Fail;
 

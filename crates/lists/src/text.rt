@@ -1,3 +1,4 @@
+//! The text of every public type.
 ghost use Rattle.std.specs.Prelude.{◌≡◌, ◌↔◌, IfOk, IsTrue, string_bytes};
 
 use crate::plain::Plain;

@@ -1,3 +1,4 @@
+//! Why a name, a reach or limits are refused.
 use std::alloc::AllocError;
 
 /// Why a collector's name is refused.

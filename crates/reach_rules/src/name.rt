@@ -1,3 +1,4 @@
+//! The names of collectors.
 ghost use Rattle.std.specs.Prelude.{◌≡◌, ◌↔◌, IfOk, IsTrue, false};
 ghost use Rattle.reach_rules.specs.Name.{is_collector_name};
 

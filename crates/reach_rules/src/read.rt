@@ -1,3 +1,4 @@
+//! Reading the rules of a reach.
 ghost use Rattle.std.specs.Prelude.{◌≡◌, ◌≢◌, IfOk, IfErr, codes};
 ghost use Rattle.serde_json.specs.View.{view, items_view};
 ghost use Rattle.reach_rules.specs.Spelling.{label_member, test_spelled, rule_spelled, rules_spelled, reach_spelled, text_member, Gives};

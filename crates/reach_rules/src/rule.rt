@@ -1,3 +1,4 @@
+//! A rule of a reach, and what it asks of a target.
 use label_sets::LabelName;
 use lists::{Plain, Text};
 use std::alloc::AllocError;

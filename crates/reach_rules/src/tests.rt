@@ -1,3 +1,4 @@
+//! Names and reaches are read, and targets reached.
 mod own_limits;
 mod table;
 

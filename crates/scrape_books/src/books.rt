@@ -1,3 +1,4 @@
+//! The booked reports of each target, and their sums.
 ghost use Rattle.std.specs.Prelude.{◌≡◌, ◌↔◌, ◌<◌, ◌≤◌, ◌++◌, ◌∷◌, [], ℕ, OnOk, OnErr, Err};
 ghost use Rattle.scrape_books.specs.Books.{last_round_of, page_of, total_of};
 ghost use Rattle.scrape_books.specs.Kept.{RoundsRise};

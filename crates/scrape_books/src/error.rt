@@ -1,3 +1,4 @@
+//! Why an entry was not booked.
 use std::alloc::AllocError;
 use thiserror::Error;
 

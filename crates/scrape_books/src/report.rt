@@ -1,3 +1,4 @@
+//! What a collector reports, and the entry that is booked of it.
 ghost use Rattle.std.specs.Prelude.{◌≡◌};
 ghost use Rattle.scrape_books.specs.Books.{samples_of};
 

@@ -1,3 +1,4 @@
+//! Counting the samples of a scraped body.
 ghost use Rattle.std.specs.Prelude.{◌≡◌, ◌+◌, if◌then◌else◌};
 ghost use Rattle.scrape_books.specs.Samples.{first_mark, is_sample_line, sample_count, saturated};
 

@@ -1,3 +1,4 @@
+//! What the books keep of a target beside its entries.
 ghost use Rattle.std.specs.Prelude.{◌≡◌, ◌<◌, ℕ, slice_index_or, vec_len, OnOk};
 ghost use Rattle.scrape_books.specs.Standings.{no_standing, with_entry, IsBounded};
 

@@ -1,2 +1,3 @@
+//! Books and samples.
 mod books;
 mod samples;

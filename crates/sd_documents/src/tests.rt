@@ -1,3 +1,4 @@
+//! Configurations and target groups are read, and labels made.
 mod configs;
 mod discovery;
 

@@ -1,3 +1,4 @@
+//! The plain program that the spans are compared with.
 ghost use Rattle.std.specs.Prelude.{◌≡◌, ◌++◌, ◌∷◌, [], IfOk, OnOk};
 ghost use Rattle.handover.specs.Handover.{allocation_at, beside, holder_in, held_in};
 

@@ -1,3 +1,4 @@
+//! Own limits are set, read and written.
 use crate::{OwnLimits, ReachError};
 use json_values::{Spelled, text_of};
 use lists::{List, Plain, Text};

@@ -1,3 +1,4 @@
+//! Entries are booked, refused and summed.
 use crate::{Books, BooksError, Entry, Outcome, Page, rounds_rise};
 use lists::Plain;
 use std::test::Fail;

@@ -1,3 +1,4 @@
+//! The samples of bodies are counted.
 ghost use Rattle.std.specs.Prelude.{◌≢◌};
 
 use crate::count_samples;

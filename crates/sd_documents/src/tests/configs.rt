@@ -1,3 +1,4 @@
+//! Configurations that are read and that are refused.
 use super::{config_told, repeated};
 use crate::{Job, read_config, scrape_configs_text};
 use std::alloc::{AllocError, Global};

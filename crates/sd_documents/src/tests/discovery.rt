@@ -1,3 +1,4 @@
+//! Target groups, and the first labels of their targets.
 use super::groups_told;
 use crate::{Config, Group, first_labels, is_json_media, read_config, read_groups, write_groups};
 use lists::{List, Plain};
