@@ -75,27 +75,34 @@ fn is_no_event(alloc: Global, text: &str) -> Result<bool, Fail> {
     Ok(read_event(alloc, text.as_bytes())?.is_none())
 }
 
-/// What a member `limits` must not be, in both lines that have one.
 #[test]
-fn refuses_what_is_no_object_of_limits(rt: HostRuntime) -> Result<(), Fail> {
-    let alloc = rt.alloc();
-    for limits in [
-        "null",
-        "[]",
-        "1",
-        "{\"j\":-1}",
-        "{\"j\":1.0}",
-        "{\"j\":4294967296}",
-        "{\"j\":null}",
+fn refuses_joins_with_limits_of_another_shape(rt: HostRuntime) -> Result<(), Fail> {
+    for text in [
+        "{\"event\":\"join\",\"name\":\"a\",\"reach\":[],\"limits\":null}",
+        "{\"event\":\"join\",\"name\":\"a\",\"reach\":[],\"limits\":[]}",
+        "{\"event\":\"join\",\"name\":\"a\",\"reach\":[],\"limits\":1}",
+        "{\"event\":\"join\",\"name\":\"a\",\"reach\":[],\"limits\":{\"j\":-1}}",
+        "{\"event\":\"join\",\"name\":\"a\",\"reach\":[],\"limits\":{\"j\":1.0}}",
+        "{\"event\":\"join\",\"name\":\"a\",\"reach\":[],\"limits\":{\"j\":4294967296}}",
+        "{\"event\":\"join\",\"name\":\"a\",\"reach\":[],\"limits\":{\"j\":null}}",
     ] {
-        let join = format!(in alloc;
-            "{{\"event\":\"join\",\"name\":\"a\",\"reach\":[],\"limits\":{limits}}}"
-        )?;
-        assert!(rt; is_no_event(alloc, join.as_str())?, "{limits}");
-        let set = format!(in alloc;
-            "{{\"event\":\"limits\",\"collector\":1,\"limits\":{limits}}}"
-        )?;
-        assert!(rt; is_no_event(alloc, set.as_str())?, "{limits}");
+        assert!(rt; is_no_event(rt.alloc(), text)?, "{text}");
+    }
+    Ok(())
+}
+
+#[test]
+fn refuses_limits_of_another_shape(rt: HostRuntime) -> Result<(), Fail> {
+    for text in [
+        "{\"event\":\"limits\",\"collector\":1,\"limits\":null}",
+        "{\"event\":\"limits\",\"collector\":1,\"limits\":[]}",
+        "{\"event\":\"limits\",\"collector\":1,\"limits\":1}",
+        "{\"event\":\"limits\",\"collector\":1,\"limits\":{\"j\":-1}}",
+        "{\"event\":\"limits\",\"collector\":1,\"limits\":{\"j\":1.0}}",
+        "{\"event\":\"limits\",\"collector\":1,\"limits\":{\"j\":4294967296}}",
+        "{\"event\":\"limits\",\"collector\":1,\"limits\":{\"j\":null}}",
+    ] {
+        assert!(rt; is_no_event(rt.alloc(), text)?, "{text}");
     }
     Ok(())
 }
@@ -114,34 +121,32 @@ fn refuses_lines_that_lack_a_member(rt: HostRuntime) -> Result<(), Fail> {
     Ok(())
 }
 
-/// The text of a join of the same collector with these limits.
-fn join_with(alloc: Global, limits: &str) -> Result<Event, Fail> {
-    let text = format!(in alloc;
-        "{{\"event\":\"join\",\"name\":\"a\",\"reach\":[],\"limits\":{limits}}}"
-    )?;
-    event_in(alloc, text.as_str())
+/// Whether the event of a text is that of another text.
+fn are_the_same(alloc: Global, text: &str, other: &str) -> Result<bool, Fail> {
+    let event = event_in(alloc, text)?;
+    let copy = event.copy()?;
+    Ok(copy.same(&event_in(alloc, other)?))
 }
 
 #[test]
-fn compares_limits(rt: HostRuntime) -> Result<(), Fail> {
-    let alloc = rt.alloc();
-    let join = join_with(alloc, "{\"j\":1}")?;
-    assert!(rt; join.same(&join.copy()?));
-    assert!(rt; !join.same(&join_with(alloc, "{\"j\":2}")?));
-    let set = event_in(
-        alloc,
-        "{\"event\":\"limits\",\"collector\":1,\"limits\":{\"j\":1}}",
-    )?;
-    assert!(rt; set.same(&set.copy()?));
-    assert!(rt;
-        !set.same(&event_in(
-            alloc,
-            "{\"event\":\"limits\",\"collector\":2,\"limits\":{\"j\":1}}"
-        )?)
-    );
-    let drain = Event::Drain(1);
-    assert!(rt; drain.same(&drain.copy()?));
-    assert!(rt; !drain.same(&Event::Leave(1)));
+fn compares_drains_and_limits(rt: HostRuntime) -> Result<(), Fail> {
+    for (text, other) in [
+        (
+            "{\"event\":\"join\",\"name\":\"a\",\"reach\":[],\"limits\":{\"j\":1}}",
+            "{\"event\":\"join\",\"name\":\"a\",\"reach\":[],\"limits\":{\"j\":2}}",
+        ),
+        (
+            "{\"event\":\"limits\",\"collector\":1,\"limits\":{\"j\":1}}",
+            "{\"event\":\"limits\",\"collector\":2,\"limits\":{\"j\":1}}",
+        ),
+        (
+            "{\"event\":\"drain\",\"collector\":1}",
+            "{\"event\":\"leave\",\"collector\":1}",
+        ),
+    ] {
+        assert!(rt; are_the_same(rt.alloc(), text, text)?, "{text}");
+        assert!(rt; !are_the_same(rt.alloc(), text, other)?, "{text}");
+    }
     Ok(())
 }
 

@@ -10,10 +10,10 @@ pub enum NameError {
     Memory,
 }
 
-/// Why a reach is refused.
+/// Why a reach is refused, or why own limits are.
 #[derive(Debug, Clone, Copy, PartialEq, Eq)]
 pub enum ReachError {
-    /// The value is no list of rules.
+    /// The value is no list of rules, or no object of limits.
     Shape,
     /// There are more than 32 rules.
     TooManyRules,

@@ -1,6 +1,6 @@
-//! Who reaches what: the names of collectors, and the rules by which a collector reaches a target.
+//! Who reaches what: the names of collectors, the rules by which a collector reaches a target, and the limits of its own.
 //!
-//! Contracts see a collector's name as its bytes, and a reach as the list of its rules.
+//! Contracts see a collector's name as its bytes, a reach as the list of its rules, and own limits as the list of their entries.
 #![tactic(auto)]
 
 mod bits;
