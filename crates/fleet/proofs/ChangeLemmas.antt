@@ -6,16 +6,17 @@ use Rattle.std.specs.Option.{option_map_or}
 use Rattle.std.specs.Str.{bytes_eq}
 use borrow.Author.Tests.{ltb-true, ltb-false}
 use Rattle.label_sets.specs.Target.{FinalTarget}
+use Rattle.reach_rules.specs.OwnLimits.{LimitList}
 use Rattle.reach_rules.specs.declared.rule.ReachRule.{ReachRule}
 use Rattle.fleet.specs.Changes.{join_refusal, list_refusal, name_refusal, relisted, room_refusal, source_refusal, with_collector, with_listing}
 use Rattle.fleet.specs.Fleet.{FleetState, id_named}
 use Rattle.fleet.specs.IsFleet.{IsFleet}
-use Rattle.fleet.specs.Jobs.{job_named, sources_at}
+use Rattle.fleet.specs.Jobs.{are_for_jobs, job_named, sources_at}
 use Rattle.fleet.specs.declared.collector.Collector.{Collector}
 use Rattle.fleet.specs.declared.job.JobSpec.{JobSpec}
 use Rattle.fleet.specs.declared.limits.TheConstants.{LAST_COLLECTOR, MOST_BINS, MOST_COLLECTORS}
 use Rattle.fleet.specs.declared.outcome.JoinRefusal.{JoinRefusal}
-use Rattle.fleet.specs.declared.outcome.JoinRefusal.TheVariants.{TooManyCollectors, IdsSpent}
+use Rattle.fleet.specs.declared.outcome.JoinRefusal.TheVariants.{TooManyCollectors, IdsSpent, UnknownJob as JobMissing}
 use Rattle.fleet.specs.declared.outcome.ListRefusal.{ListRefusal}
 use Rattle.fleet.specs.declared.outcome.ListRefusal.TheVariants.{UnknownJob, UnknownSource}
 use Rattle.fleet.proofs.KeptLemmas.{joined_kept}
@@ -43,14 +44,18 @@ name_by : (fleet : FleetState) (o : Option ℕ) → name_refusal fleet o ≡ Non
 name_by fleet None e = (refl, e)
 name_by fleet (Some id) e = cc
 
+limits_by : (b : Bool) (o : Option JoinRefusal) → cond b o (Some JobMissing) ≡ None → o ≡ None
+limits_by true o e = e
+limits_by false o e = cc
+
 -- after a collector joined
-pub collector_kept : (fleet : FleetState) (name : List ℕ) (reach : List ReachRule) → IsFleet fleet → join_refusal fleet name ≡ None → IsFleet (with_collector fleet name reach)
-collector_kept fleet name reach kept free =
-    let fine = name_by fleet (id_named fleet.collectors name) free in
+pub collector_kept : (fleet : FleetState) (name : List ℕ) (reach : List ReachRule) (limits : LimitList) → IsFleet fleet → join_refusal fleet name limits ≡ None → IsFleet (with_collector fleet name reach limits)
+collector_kept fleet name reach limits kept free =
+    let fine = name_by fleet (id_named fleet.collectors name) (limits_by (are_for_jobs fleet.jobs limits) (name_refusal fleet (id_named fleet.collectors name)) free) in
     let tests = room_by (nat_lt MOST_COLLECTORS (length fleet.collectors + 1) || nat_lt MOST_BINS (length fleet.jobs * (length fleet.collectors + 1))) (nat_lt fleet.last_collector LAST_COLLECTOR) fine.1 in
-    let limits = or_false (nat_lt MOST_COLLECTORS (length fleet.collectors + 1)) (nat_lt MOST_BINS (length fleet.jobs * (length fleet.collectors + 1))) tests.0 in
-    let c : Collector = record { id = fleet.last_collector + 1; name = name; reach = reach } in
-    joined_kept fleet c (fleet.collectors ++ c ∷ []) kept fine.0 refl (ltb-false MOST_COLLECTORS (length fleet.collectors + 1) limits.0) (ltb-false MOST_BINS (length fleet.jobs * (length fleet.collectors + 1)) limits.1)
+    let counts = or_false (nat_lt MOST_COLLECTORS (length fleet.collectors + 1)) (nat_lt MOST_BINS (length fleet.jobs * (length fleet.collectors + 1))) tests.0 in
+    let c : Collector = record { id = fleet.last_collector + 1; name = name; reach = reach; draining = false; limits = limits } in
+    joined_kept fleet c (fleet.collectors ++ c ∷ []) kept fine.0 refl (ltb-false MOST_COLLECTORS (length fleet.collectors + 1) counts.0) (ltb-false MOST_BINS (length fleet.jobs * (length fleet.collectors + 1)) counts.1)
     (ltb-true fleet.last_collector LAST_COLLECTOR tests.1) refl
 
 source_by : (b : Bool) (o : Option ListRefusal) → cond b o (Some UnknownSource) ≡ None → o ≡ None

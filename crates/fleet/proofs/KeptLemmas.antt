@@ -1,15 +1,16 @@
 -- What every fleet keeps holds in the beginning, and after each change.
-use Rattle.std.proofs.Common.{◌≡◌, ℕ, zero, suc, ◌+◌, ◌*◌, ◌<◌, ◌≤◌, List, [], ◌∷◌, ◌++◌, Bool, true, false, None, All, length, refl, sym, ap, subst, arith, cond, length-append}
+use Rattle.std.proofs.Common.{◌≡◌, ℕ, zero, suc, ◌+◌, ◌*◌, ◌<◌, ◌≤◌, List, [], ◌∷◌, ◌++◌, Bool, true, false, None, All, drop, length, map, take, refl, sym, ap, subst, arith, cond, length-append}
 use Rattle.std.specs.Prelude.{AllPairs, filter, replicate, slice_index_or}
+use Rattle.std.proofs.Math.Seq.{take-append_seam}
 use Rattle.std.proofs.lemmas.List.{length-map, length-replicate}
-use Rattle.std.proofs.lemmas.List.Elements.{All-filter, All-push}
+use Rattle.std.proofs.lemmas.List.Elements.{All-filter, All-map, All-push, All-weaker}
 use Rattle.std.proofs.lemmas.List.Kept.{AllPairs-filter}
 use Rattle.std.proofs.lemmas.List.Quantifiers.{all_pairs_push}
 use Rattle.fleet.specs.Jobs.{sources_at, nothing_listed}
 use Rattle.fleet.specs.Orderly.{IsOrderly}
 use Rattle.fleet.specs.Fleet.{FleetState, id_named}
 use Rattle.fleet.specs.IsFleet.{IsFleet}
-use Rattle.fleet.proofs.OrderLemmas.{orderly_first, orderly_joined, orderly_left}
+use Rattle.fleet.proofs.OrderLemmas.{orderly_changed, orderly_first, orderly_joined, orderly_left, pairs_map}
 use Rattle.fleet.specs.declared.job.JobSpec.{JobSpec}
 use Rattle.fleet.specs.declared.collector.Collector.{Collector}
 
@@ -78,3 +79,29 @@ joined_kept fleet c collectors kept none id few bins free is =
       were_given = subst (λ (cs : List Collector). All (λ (x : Collector). x.id ≤ fleet.last_collector + 1) cs) (sym is) (All-push (λ (x : Collector). x.id ≤ fleet.last_collector + 1) fleet.collectors c (λ k d l. omega (arith, kept.were_given k d l)) (omega (arith, id)));
       numbered = omega (arith, free);
     }
+
+-- some collectors changed, but for their numbers and names
+pub changed_kept : (fleet : FleetState) (f : Collector → Collector) → ((c : Collector) → (f c).id ≡ c.id) → ((c : Collector) → (f c).name ≡ c.name) → IsFleet fleet → IsFleet (record fleet { collectors = map f fleet.collectors })
+changed_kept fleet f id name kept =
+    let same : length (map f fleet.collectors) ≡ length fleet.collectors = length-map fleet.collectors f in
+    record {
+      each_job = kept.each_job;
+      each_source = kept.each_source;
+      few_known = kept.few_known;
+      homes = kept.homes;
+      few_live = kept.few_live;
+      few_collectors = rw same kept.few_collectors;
+      few_bins = rw same kept.few_bins;
+      orderly = orderly_changed fleet.listed fleet.known fleet.collectors f name kept.orderly;
+      ascending = pairs_map (λ (a b : Collector). a.id < b.id) f fleet.collectors (λ a b less. rw (id a, id b) less) kept.ascending;
+      were_given = All-map (λ (c : Collector). c.id ≤ fleet.last_collector) f fleet.collectors (All-weaker (λ (c : Collector). c.id ≤ fleet.last_collector) (λ (c : Collector). (f c).id ≤ fleet.last_collector) (λ c most. rw (id c) most) fleet.collectors kept.were_given);
+      numbered = kept.numbered;
+    }
+
+-- the same, where they were written over in place
+pub written_kept :
+    (fleet : FleetState) (f : Collector → Collector) (count : ℕ) (written : List Collector) → ((c : Collector) → (f c).id ≡ c.id) → ((c : Collector) → (f c).name ≡ c.name) → IsFleet fleet → count ≡ length fleet.collectors → written ≡ map f fleet.collectors
+    → IsFleet (record fleet { collectors = take count (written ++ drop (length written) fleet.collectors) })
+written_kept fleet f count written id name kept all is =
+    let whole : count ≡ length (map f fleet.collectors) = omega (arith, all, length-map fleet.collectors f) in
+    rw (is, whole, take-append_seam) (changed_kept fleet f id name kept)

@@ -1,12 +1,12 @@
 -- What is kept of the lists of a state: by a source that lists other targets, by a collector that joins or leaves.
-use Rattle.std.proofs.Common.{◌≡◌, ℕ, zero, suc, ◌+◌, ◌<◌, ◌&&◌, ◌||◌, List, [], ◌∷◌, ◌++◌, Bool, true, false, Some, None, All, length, get_or, cond, eqb, refl, sym, ap, subst, ◌∙◌, inl, inr, arith}
+use Rattle.std.proofs.Common.{◌≡◌, ℕ, zero, suc, ◌+◌, ◌<◌, ◌&&◌, ◌||◌, List, [], ◌∷◌, ◌++◌, Bool, true, false, Some, None, All, length, get_or, map, cond, eqb, refl, sym, ap, subst, ◌∙◌, inl, inr, arith}
 use Rattle.std.specs.Prelude.{AllPairs, filter, find, not, replicate}
 use Rattle.std.specs.List.{list_any, position_or_len}
 use Rattle.std.specs.Option.{option_map}
 use Rattle.std.specs.Str.{bytes_eq}
 use Rattle.std.proofs.Math.ListN.{set, length-set}
 use Rattle.std.proofs.lemmas.Bool.{cases_eq, cases_lt, eq-eqb, eqb-true}
-use Rattle.std.proofs.lemmas.List.{get_or-set_same, get_or-set_other, get_or_past}
+use Rattle.std.proofs.lemmas.List.{get_or-map, get_or-set_same, get_or-set_other, get_or_past, length-map}
 use Rattle.std.proofs.lemmas.List.Elements.{All-cons, All-nil, All-weaker}
 use Rattle.std.proofs.lemmas.List.Folds.{Any-from_list_any}
 use Rattle.std.proofs.lemmas.List.Kept.{AllPairs-filter}
@@ -21,6 +21,12 @@ use Rattle.fleet.proofs.Chosen.{chosen_ascend, chosen_pass}
 use Rattle.fleet.specs.declared.job.JobSpec.{JobSpec}
 use Rattle.fleet.specs.declared.known_target.KnownTarget.{KnownTarget}
 use Rattle.fleet.specs.declared.collector.Collector.{Collector}
+
+-- what holds of each two elements holds of them changed, where the change keeps it
+pub pairs_map : {X : Type 0} (R : X → X → Type 0) (f : X → X) (xs : List X) → ((a b : X) → R a b → R (f a) (f b)) → AllPairs R xs → AllPairs R (map f xs)
+pairs_map {X} R f xs keep all i j d less in_range =
+    let within : j < length xs = omega (arith, length-map xs f) in
+    rw (get_or-map f xs i d d (omega arith), get_or-map f xs j d d within) (keep (get_or xs i d) (get_or xs j d) (all i j d less within))
 
 either_false : (a b : Bool) → (a || b) ≡ false → (a ≡ false) × (b ≡ false)
 either_false true b e = cc
@@ -164,6 +170,17 @@ orderly_left listed known collectors p orderly =
       rising = orderly.rising;
       once = orderly.once;
       named = AllPairs-filter (λ (a b : Collector). bytes_eq a.name b.name ≡ false) p collectors orderly.named;
+    }
+
+-- after some changed, but for their names
+pub orderly_changed :
+    (listed : List (List (List ℕ))) (known : List KnownTarget) (collectors : List Collector) (f : Collector → Collector) → ((c : Collector) → (f c).name ≡ c.name) → IsOrderly listed known collectors → IsOrderly listed known (map f collectors)
+orderly_changed listed known collectors f name orderly =
+    record {
+      own = orderly.own;
+      rising = orderly.rising;
+      once = orderly.once;
+      named = pairs_map (λ (a b : Collector). bytes_eq a.name b.name ≡ false) f collectors (λ a b e. rw (name a, name b) e) orderly.named;
     }
 
 nothing_in : (n s : ℕ) → get_or (replicate n (let r : List ℕ = [] in r)) s [] ≡ []

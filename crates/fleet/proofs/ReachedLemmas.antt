@@ -1,8 +1,9 @@
 -- The rows of a fleet's collectors over its known targets: after a change, and what is read of them.
-use Rattle.std.proofs.Common.{◌≡◌, ℕ, zero, suc, List, [], ◌∷◌, ◌++◌, Bool, true, false, Option, Some, None, cond, drop, length, map, take, refl, sym, ap, ◌∙◌}
+use Rattle.std.proofs.Common.{◌≡◌, ℕ, zero, suc, List, [], ◌∷◌, ◌++◌, Bool, true, false, Option, Some, None, arith, cond, drop, length, map, take, refl, sym, ap, ◌∙◌}
 use Rattle.std.specs.Prelude.{◌==◌, filter, not, slice_get, slice_index_or}
 use Rattle.std.specs.Option.{option_map_or}
-use Rattle.std.proofs.lemmas.List.{map-append, take-append-drop}
+use Rattle.std.proofs.Math.Seq.{take-append_seam}
+use Rattle.std.proofs.lemmas.List.{length-map, map-append, take-append-drop}
 use Rattle.label_sets.specs.Target.{FinalTarget}
 use Rattle.reach_rules.specs.declared.rule.ReachRule.{ReachRule}
 use Rattle.reach_rules.specs.Rules.{reaches}
@@ -38,6 +39,18 @@ rows_left (c ∷ collectors) known id =
 -- where a collector joined
 pub rows_joined : (collectors : List Collector) (c : Collector) (known : List KnownTarget) → reach_rows collectors known ++ row_of c.id c.reach (targets_of known) ∷ [] ≡ reach_rows (collectors ++ c ∷ []) known
 rows_joined collectors c known = sym (map-append (λ (x : Collector). row_of x.id x.reach (targets_of known)) collectors (c ∷ []))
+
+rows_changed : (collectors : List Collector) (known : List KnownTarget) (f : Collector → Collector) → ((c : Collector) → (f c).id ≡ c.id) → ((c : Collector) → (f c).reach ≡ c.reach) → reach_rows collectors known ≡ reach_rows (map f collectors) known
+rows_changed [] known f id reach = refl
+rows_changed (c ∷ collectors) known f id reach = rw (id c, reach c, rows_changed collectors known f id reach) refl
+
+-- where collectors were written over in place, but for their numbers and rules
+pub rows_written :
+    (collectors : List Collector) (known : List KnownTarget) (f : Collector → Collector) (count : ℕ) (written : List Collector) → ((c : Collector) → (f c).id ≡ c.id) → ((c : Collector) → (f c).reach ≡ c.reach) → count ≡ length collectors → written ≡ map f collectors
+    → reach_rows collectors known ≡ reach_rows (take count (written ++ drop (length written) collectors)) known
+rows_written collectors known f count written id reach all is =
+    let whole : count ≡ length (map f collectors) = omega (arith, all, length-map collectors f) in
+    rw (is, whole, take-append_seam) (rows_changed collectors known f id reach)
 
 answer_at : (rules : List ReachRule) (known : List KnownTarget) (number : ℕ) → slice_index_or (answers rules (targets_of known)) number false ≡ option_map_or (λ (k : KnownTarget). reaches rules k.target) (slice_get known number) false
 answer_at rules [] number = refl

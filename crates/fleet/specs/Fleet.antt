@@ -1,5 +1,5 @@
 -- What contracts see of a `Fleet`, and look-ups.
-use Rattle.std.specs.Prelude.{ℕ, ◌==◌, Bool, List, [], Option, length, find}
+use Rattle.std.specs.Prelude.{ℕ, ◌==◌, ◌&&◌, Bool, List, [], Option, length, find}
 use Rattle.std.specs.List.{list_any}
 use Rattle.std.specs.Option.{option_map}
 use Rattle.std.specs.Str.{bytes_eq}
@@ -35,6 +35,10 @@ live_of fleet = chosen_below (is_live fleet) (length fleet.known)
 -- a live collector has the number
 abbrev pub is_joined : FleetState → ℕ → Bool
 is_joined fleet id = list_any (λ (c : Collector). c.id == id) fleet.collectors
+
+-- a live collector of the number drains
+abbrev pub is_draining : FleetState → ℕ → Bool
+is_draining fleet id = list_any (λ (c : Collector). (c.id == id) && c.draining) fleet.collectors
 
 -- the number of the live collector of a name
 abbrev pub id_named : List Collector → List ℕ → Option ℕ

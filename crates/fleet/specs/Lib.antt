@@ -6,3 +6,4 @@ pub mod KnownTarget
 pub mod Live
 pub mod Orderly
 pub mod Reached
+pub mod ShareLimit

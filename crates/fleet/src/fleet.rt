@@ -3,22 +3,26 @@ ghost use Rattle.std.specs.Prelude.{◌≡◌, ◌<◌, ◌↔◌, Some, None, O
 ghost use Rattle.fleet.specs.Fleet.{first_fleet, id_named, is_joined, live_of};
 ghost use Rattle.fleet.specs.IsFleet.{IsFleet};
 ghost use Rattle.fleet.specs.Jobs.{are_jobs, sources_at};
-ghost use Rattle.fleet.specs.Changes.{listing_of, fleet_after_list, joining_of, join_refusal, fleet_after_join, fleet_after_leave, kept_unless, relisted, IsChange};
+ghost use Rattle.fleet.specs.Changes.{listing_of, fleet_after_list, joining_of, join_refusal, fleet_after_join, fleet_after_leave, draining_of, fleet_after_drain, limiting_of, fleet_after_limits, kept_unless, relisted, IsChange};
 ghost use Rattle.fleet.specs.Reached.{reaches_at};
 
-use crate::collector::{Collector, has_id, id_named, take_out};
+use crate::collector::{
+    Collector, begin_draining, has_id, id_named, is_draining, replace_limits, take_out,
+};
 use crate::error::OpenError;
 use crate::job::JobSpec;
-use crate::jobs::{are_jobs, job_named, nothing_listed, sources_at};
+use crate::jobs::{are_for_jobs, are_jobs, job_named, nothing_listed, sources_at};
 use crate::known_target::KnownTarget;
 use crate::limits::{LAST_COLLECTOR, MOST_BINS, MOST_COLLECTORS};
 use crate::listing::list;
 use crate::live::live_numbers;
-use crate::outcome::{JoinRefusal, Joining, ListRefusal, Listing};
+use crate::outcome::{
+    DrainRefusal, Draining, JoinRefusal, Joining, Limiting, LimitsRefusal, ListRefusal, Listing,
+};
 use indexmap::IndexSet;
 use label_sets::Target;
 use lists::List;
-use reach_rules::{CollectorName, Reach, ReachTable};
+use reach_rules::{CollectorName, OwnLimits, Reach, ReachTable};
 use std::alloc::{AllocError, Global};
 use std::marker::Model;
 
@@ -131,12 +135,20 @@ impl Fleet {
 
     /// A collector joins. Memory is wanted only where nothing is against it.
     #[tactic(auto, unfolding(crate::specs::Changes::joining_of, crate::specs::Changes::fleet_after_join))]
-    pub fn join(&mut self, name: CollectorName, reach: Reach) -> Result<Joining, AllocError>
-        ensures joining { IfOk result (λ j. j ≡ joining_of self.old name) }
-        ensures state { OnOk result (self.new ≡ fleet_after_join self.old name reach) }
+    pub fn join(
+        &mut self,
+        name: CollectorName,
+        reach: Reach,
+        limits: OwnLimits,
+    ) -> Result<Joining, AllocError>
+        ensures joining { IfOk result (λ j. j ≡ joining_of self.old name limits) }
+        ensures state { OnOk result (self.new ≡ fleet_after_join self.old name reach limits) }
         ensures err { OnErr result (self.new ≡ self.old) }
-        ensures late { OnErr result (join_refusal self.old name ≡ None) }
+        ensures late { OnErr result (join_refusal self.old name limits ≡ None) }
     {
+        if !are_for_jobs(self.jobs.as_slice(), limits.entries()) {
+            return Ok(Joining::Refused(JoinRefusal::UnknownJob));
+        }
         if let Some(id) = id_named(self.collectors.as_slice(), name.as_str()) {
             return Ok(Joining::Refused(JoinRefusal::AlreadyJoined(id)));
         }
@@ -150,7 +162,13 @@ impl Fleet {
         let id = self.last_collector + 1;
         self.collectors.reserve(1)?;
         self.table.join(id, &reach, self.known.as_slice())?;
-        self.collectors.push_reserved(Collector { id, name, reach });
+        self.collectors.push_reserved(Collector {
+            id,
+            name,
+            reach,
+            draining: false,
+            limits,
+        });
         self.last_collector = id;
         Ok(Joining::Joined(id))
     }
@@ -167,6 +185,38 @@ impl Fleet {
         take_out(&mut self.collectors, id);
         self.table.leave(id);
         true
+    }
+
+    /// A live collector drains from now on. It takes no memory.
+    #[tactic(auto, unfolding(crate::specs::Changes::draining_of, crate::specs::Changes::fleet_after_drain))]
+    pub fn drain(&mut self, id: u32) -> Draining
+        ensures draining { result ≡ draining_of self.old id }
+        ensures state { self.new ≡ fleet_after_drain self.old id }
+    {
+        if !has_id(self.collectors.as_slice(), id) {
+            return Draining::Refused(DrainRefusal::UnknownCollector);
+        }
+        if is_draining(self.collectors.as_slice(), id) {
+            return Draining::Refused(DrainRefusal::AlreadyDraining);
+        }
+        begin_draining(self.collectors.as_mut_slice(), id);
+        Draining::Drains
+    }
+
+    /// A live collector has these limits of its own, in place of all that it had. It takes no memory.
+    #[tactic(auto, unfolding(crate::specs::Changes::limiting_of, crate::specs::Changes::fleet_after_limits))]
+    pub fn set_limits(&mut self, id: u32, limits: OwnLimits) -> Limiting
+        ensures limiting { result ≡ limiting_of self.old id limits }
+        ensures state { self.new ≡ fleet_after_limits self.old id limits }
+    {
+        if !has_id(self.collectors.as_slice(), id) {
+            return Limiting::Refused(LimitsRefusal::UnknownCollector);
+        }
+        if !are_for_jobs(self.jobs.as_slice(), limits.entries()) {
+            return Limiting::Refused(LimitsRefusal::UnknownJob);
+        }
+        replace_limits(self.collectors.as_mut_slice(), id, limits);
+        Limiting::LimitsSet
     }
 
     /// The live targets in order of number.

@@ -1,12 +1,11 @@
 //! Lists of jobs: which are good ones, and look-ups.
 ghost use Rattle.std.specs.Prelude.{◌≡◌, ◌&&◌, [], not, replicate, IfOk};
-ghost use Rattle.std.specs.List.{list_any};
 ghost use Rattle.std.specs.Str.{bytes_eq};
-ghost use Rattle.fleet.specs.Jobs.{are_jobs, job_named, nothing_listed, sources_at};
+ghost use Rattle.fleet.specs.Jobs.{are_for_jobs, are_jobs, is_job, job_named, nothing_listed, sources_at};
 
 use crate::job::JobSpec;
 use crate::limits::MOST_JOBS;
-use lists::List;
+use lists::{List, Text};
 use std::alloc::{AllocError, Global};
 
 /// Whether there are not too many jobs, each with a name of its own.
@@ -26,15 +25,22 @@ pub(crate) fn are_jobs(jobs: &[JobSpec]) -> bool
 
 /// Whether the name is one, and none of the jobs has it.
 fn is_new_name(before: &[JobSpec], name: &str) -> bool
-    ensures { result ≡ (not (bytes_eq name.now []) && not (list_any (λ (other : JobSpec). bytes_eq other.name name.now) before.now)) }
+    ensures { result ≡ (not (bytes_eq name.now []) && not (is_job before.now name.now)) }
 {
     !name.is_empty() && !has_name(before, name)
 }
 
 fn has_name(jobs: &[JobSpec], name: &str) -> bool
-    ensures { result ≡ list_any (λ (other : JobSpec). bytes_eq other.name name.now) jobs.now }
+    ensures { result ≡ is_job jobs.now name.now }
 {
     jobs.iter().any(|other| other.name.as_str() == name)
+}
+
+/// Whether each limit is for one of the jobs.
+pub(crate) fn are_for_jobs(jobs: &[JobSpec], limits: &[(Text, u32)]) -> bool
+    ensures { result ≡ are_for_jobs jobs.now limits.now }
+{
+    limits.iter().all(|limit| has_name(jobs, limit.0.as_str()))
 }
 
 /// The place of the job of a name.

@@ -15,6 +15,7 @@ mod limits;
 mod listing;
 mod live;
 mod outcome;
+mod share_limit;
 #[cfg(test)]
 mod tests;
 
@@ -27,4 +28,6 @@ pub use laws::targets_are_entered;
 pub use limits::{
     LAST_COLLECTOR, MOST_BINS, MOST_COLLECTORS, MOST_JOBS, MOST_KNOWN_TARGETS, MOST_LIVE_TARGETS,
 };
-pub use outcome::{JoinRefusal, Joining, ListRefusal, Listing};
+pub use outcome::{
+    DrainRefusal, Draining, JoinRefusal, Joining, Limiting, LimitsRefusal, ListRefusal, Listing,
+};

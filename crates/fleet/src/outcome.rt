@@ -1,4 +1,4 @@
-//! What becomes of a list and of a collector that wants to join.
+//! What becomes of a list, of a collector that wants to join, and of one that is to drain or gets other limits.
 
 /// What becomes of a list.
 #[derive(Clone, Copy, Debug, PartialEq, Eq)]
@@ -28,8 +28,40 @@ pub enum Joining {
 /// Why a collector does not join.
 #[derive(Clone, Copy, Debug, PartialEq, Eq)]
 pub enum JoinRefusal {
+    /// A limit of its own is for no job.
+    UnknownJob,
     /// A live collector of this number has the name.
     AlreadyJoined(u32),
     TooManyCollectors,
     IdsSpent,
+}
+
+/// What becomes of a collector that is to drain.
+#[derive(Clone, Copy, Debug, PartialEq, Eq)]
+pub enum Draining {
+    /// It drains from now on.
+    Drains,
+    Refused(DrainRefusal),
+}
+
+/// Why a collector does not begin to drain.
+#[derive(Clone, Copy, Debug, PartialEq, Eq)]
+pub enum DrainRefusal {
+    UnknownCollector,
+    AlreadyDraining,
+}
+
+/// What becomes of a collector that gets other limits of its own.
+#[derive(Clone, Copy, Debug, PartialEq, Eq)]
+pub enum Limiting {
+    LimitsSet,
+    Refused(LimitsRefusal),
+}
+
+/// Why a collector does not get other limits.
+#[derive(Clone, Copy, Debug, PartialEq, Eq)]
+pub enum LimitsRefusal {
+    UnknownCollector,
+    /// A limit is for no job.
+    UnknownJob,
 }

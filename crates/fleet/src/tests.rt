@@ -1,8 +1,13 @@
-//! A fleet at its limits, and collectors that come and go.
-use crate::{Fleet, JobSpec, JoinRefusal, Joining, ListRefusal, Listing, MOST_LIVE_TARGETS};
+//! A fleet at its limits, and collectors that come, drain and go.
+mod own_limits;
+
+use crate::{
+    DrainRefusal, Draining, Fleet, JobSpec, JoinRefusal, Joining, ListRefusal, Listing,
+    MOST_LIVE_TARGETS,
+};
 use label_sets::{Finished, Labels, Target, finish};
 use lists::{List, Text};
-use reach_rules::{CollectorName, Reach};
+use reach_rules::{CollectorName, OwnLimits, Reach};
 use std::alloc::Global;
 use std::collections::BTreeMap;
 use std::test::Fail;
@@ -44,8 +49,17 @@ fn everything(alloc: Global) -> Result<Reach, Fail> {
 }
 
 fn join(alloc: Global, fleet: &mut Fleet, name: &str) -> Result<Joining, Fail> {
+    join_with(alloc, fleet, name, OwnLimits::none(alloc))
+}
+
+fn join_with(
+    alloc: Global,
+    fleet: &mut Fleet,
+    name: &str,
+    limits: OwnLimits,
+) -> Result<Joining, Fail> {
     let reach = everything(alloc)?;
-    Ok(fleet.join(CollectorName::read(alloc, name)?, reach)?)
+    Ok(fleet.join(CollectorName::read(alloc, name)?, reach, limits)?)
 }
 
 #[test]
@@ -82,5 +96,69 @@ fn collectors_come_and_go(rt: HostRuntime) -> Result<(), Fail> {
     assert!(rt; fleet.is_joined(2));
     assert_eq!(rt; fleet.jobs().len(), 1);
     assert_eq!(rt; fleet.collectors().len(), 1);
+    Ok(())
+}
+
+/// Whether the collector of a number drains.
+fn drains(fleet: &Fleet, id: u32) -> Option<bool> {
+    for collector in fleet.collectors() {
+        if collector.id == id {
+            return Some(collector.draining);
+        }
+    }
+    None
+}
+
+#[test]
+fn a_collector_drains_once(rt: HostRuntime) -> Result<(), Fail> {
+    let alloc = rt.alloc();
+    let mut fleet = open(alloc)?;
+    join(alloc, &mut fleet, "a")?;
+    join(alloc, &mut fleet, "b")?;
+    assert_eq!(rt; fleet.drain(2), Draining::Drains);
+    assert_eq!(rt; drains(&fleet, 2), Some(true));
+    let twice = fleet.drain(2);
+    assert_eq!(rt; twice, Draining::Refused(DrainRefusal::AlreadyDraining));
+    assert_eq!(rt; drains(&fleet, 2), Some(true));
+    assert_eq!(rt; drains(&fleet, 1), Some(false));
+    Ok(())
+}
+
+#[test]
+fn a_collector_that_drains_leaves_the_others_be(rt: HostRuntime) -> Result<(), Fail> {
+    let alloc = rt.alloc();
+    let mut fleet = open(alloc)?;
+    join(alloc, &mut fleet, "a")?;
+    join(alloc, &mut fleet, "b")?;
+    assert_eq!(rt; fleet.drain(1), Draining::Drains);
+    assert_eq!(rt; fleet.drain(2), Draining::Drains);
+    assert_eq!(rt; fleet.collectors().len(), 2);
+    Ok(())
+}
+
+#[test]
+fn nobody_drains_for_a_stranger(rt: HostRuntime) -> Result<(), Fail> {
+    let alloc = rt.alloc();
+    let mut fleet = open(alloc)?;
+    join(alloc, &mut fleet, "a")?;
+    let refused = fleet.drain(2);
+    assert_eq!(rt; refused, Draining::Refused(DrainRefusal::UnknownCollector));
+    assert_eq!(rt; drains(&fleet, 1), Some(false));
+    assert_eq!(rt; drains(&fleet, 2), None);
+    Ok(())
+}
+
+#[test]
+fn a_collector_that_joins_again_does_not_drain(rt: HostRuntime) -> Result<(), Fail> {
+    let alloc = rt.alloc();
+    let mut fleet = open(alloc)?;
+    join(alloc, &mut fleet, "a")?;
+    assert_eq!(rt; fleet.drain(1), Draining::Drains);
+    assert!(rt; fleet.leave(1));
+    let left = fleet.drain(1);
+    assert_eq!(rt; left, Draining::Refused(DrainRefusal::UnknownCollector));
+    assert_eq!(rt; join(alloc, &mut fleet, "a")?, Joining::Joined(2));
+    assert_eq!(rt; drains(&fleet, 2), Some(false));
+    assert_eq!(rt; fleet.drain(2), Draining::Drains);
     Ok(())
 }

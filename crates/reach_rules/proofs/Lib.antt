@@ -1,3 +1,4 @@
 pub mod BitLemmas
 pub mod Firsts
+pub mod Limits
 pub mod TableLemmas
