@@ -1,5 +1,6 @@
 //! A fleet at its limits, and collectors that come, drain and go.
 mod own_limits;
+mod reached;
 
 use crate::{
     DrainRefusal, Draining, Fleet, JobSpec, JoinRefusal, Joining, ListRefusal, Listing,
@@ -40,9 +41,14 @@ fn targets(alloc: Global, first: usize, count: usize) -> Result<List<Target>, Fa
 }
 
 fn everything(alloc: Global) -> Result<Reach, Fail> {
+    any_target(alloc, true)
+}
+
+/// The one rule that any target is reached, or that none is.
+fn any_target(alloc: Global, allow: bool) -> Result<Reach, Fail> {
     let mut rule = BTreeMap::new(alloc);
     let any = String::from_str(alloc, "any")?;
-    drop(rule.insert(String::from_str(alloc, "allow")?, true.into())?);
+    drop(rule.insert(String::from_str(alloc, "allow")?, allow.into())?);
     drop(rule.insert(String::from_str(alloc, "test")?, any.into())?);
     let rules = vec![in alloc; rule.into()]?;
     Ok(Reach::read(alloc, &rules.into())?)

@@ -10,6 +10,7 @@ invariant_of-self c =
     let change : Collector → Collector = with_limits_at c.args.id c.args.limits in
     let lent = c.as_mut_slice.ensures.value in
     let count : c.self.inside.collectors.len ≡ length c.self.inside.collectors.items = omega (arith, c.as_mut_slice.ensures.len, ap (λ (cs : List Collector). length cs) lent) in
-    let written = c.replace_limits.ensures ∙ ap (λ (cs : List Collector). map change cs) lent in
-    (written_kept _ change c.self.inside.collectors.len c.replace_limits.new.collectors (λ x. refl) (λ x. refl) c.self.invariant.0 count written,
-    c.self.invariant.1 ∙ rows_written c.self.inside.collectors.items c.self.inside.known.keys change c.self.inside.collectors.len c.replace_limits.new.collectors (λ x. refl) (λ x. refl) count written)
+    let written = c.replace_limits.ensures ∙ ap (λ (cs : List Collector). map change cs) lent in (
+      written_kept _ change c.self.inside.collectors.len c.replace_limits.new.collectors (λ x. refl) (λ x. refl) c.self.invariant.0 count written,
+      c.self.invariant.1 ∙ rows_written c.self.inside.collectors.items c.self.inside.known.keys change c.self.inside.collectors.len c.replace_limits.new.collectors (λ x. refl) (λ x. refl) count written,
+    )
