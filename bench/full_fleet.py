@@ -6,6 +6,8 @@ usage: full_fleet.py replay         the lines for `allocd replay`
        full_fleet.py certificate    the document of the same instance and plan, for `allocd check`
        full_fleet.py rounds         the replay's lines, a take by each collector, and then as many rounds of reports, one for
                                     each target by the collector that holds it, as `allocd replay` reads
+       full_fleet.py installs N     the lines of a fleet of as many targets of one job in 16 zones, where each collector has three
+                                    rules and reaches three zones, and of N plans, each refused for its lengths
 """
 import json
 import sys
@@ -13,6 +15,7 @@ import sys
 COLLECTORS, JOBS, TARGETS = 256, 16, 16384
 EACH = TARGETS // JOBS
 LIMIT = EACH // COLLECTORS
+ZONES = 16
 INPUT_BYTES = 67_108_864
 
 
@@ -59,6 +62,17 @@ def rounds():
         round_number += 1
 
 
+def installs(count):
+    yield {"scrape_configs": [{"job_name": "job", "target_limit": 0}]}
+    for c in range(COLLECTORS):
+        reach = [{"allow": True, "test": "equals", "label": "zone", "value": f"z{(c + 5 * turn) % ZONES}"} for turn in range(3)]
+        yield {"event": "join", "name": f"collector-{c}", "reach": reach}
+    targets = [{"labels": {"zone": f"z{t % ZONES}"}, "targets": [f"10.0.{t // 256}.{t % 256}:9100"]} for t in range(TARGETS)]
+    yield {"event": "discover", "job": "job", "source": 0, "targets": targets}
+    for _ in range(count):
+        yield {"event": "install", "pairs": [], "item_prices": [], "bin_prices": []}
+
+
 def certificate():
     rows = [[c * JOBS + j for c in range(COLLECTORS)] for j in range(JOBS)]
     reach = [rows[t // EACH] for t in range(TARGETS)]
@@ -66,13 +80,16 @@ def certificate():
 
 
 def main():
-    which = sys.argv[1] if len(sys.argv) == 2 else ""
-    if which == "replay":
+    arguments = sys.argv[1:]
+    if arguments == ["replay"]:
         for line in replay():
             print(compact(line))
-    elif which == "certificate":
+    elif arguments[:1] == ["installs"] and len(arguments) == 2:
+        for line in installs(int(arguments[1])):
+            print(compact(line))
+    elif arguments == ["certificate"]:
         print(compact(certificate()))
-    elif which == "rounds":
+    elif arguments == ["rounds"]:
         sys.stdout.writelines(rounds())
     else:
         sys.exit(__doc__)
