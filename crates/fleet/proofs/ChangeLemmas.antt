@@ -16,7 +16,7 @@ use Rattle.fleet.specs.declared.collector.Collector.{Collector}
 use Rattle.fleet.specs.declared.job.JobSpec.{JobSpec}
 use Rattle.fleet.specs.declared.limits.TheConstants.{LAST_COLLECTOR, MOST_BINS, MOST_COLLECTORS}
 use Rattle.fleet.specs.declared.outcome.JoinRefusal.{JoinRefusal}
-use Rattle.fleet.specs.declared.outcome.JoinRefusal.TheVariants.{TooManyCollectors, IdsSpent, UnknownJob as JobMissing}
+use Rattle.fleet.specs.declared.outcome.JoinRefusal.TheVariants.{TooManyCollectors, IdsSpent, UnknownJob as JoinForNoJob}
 use Rattle.fleet.specs.declared.outcome.ListRefusal.{ListRefusal}
 use Rattle.fleet.specs.declared.outcome.ListRefusal.TheVariants.{UnknownJob, UnknownSource}
 use Rattle.fleet.proofs.KeptLemmas.{joined_kept}
@@ -44,7 +44,7 @@ name_by : (fleet : FleetState) (o : Option ℕ) → name_refusal fleet o ≡ Non
 name_by fleet None e = (refl, e)
 name_by fleet (Some id) e = cc
 
-limits_by : (b : Bool) (o : Option JoinRefusal) → cond b o (Some JobMissing) ≡ None → o ≡ None
+limits_by : (b : Bool) (o : Option JoinRefusal) → cond b o (Some JoinForNoJob) ≡ None → o ≡ None
 limits_by true o e = e
 limits_by false o e = cc
 

@@ -98,10 +98,11 @@ changed_kept fleet f id name kept =
       numbered = kept.numbered;
     }
 
--- the same, where they were written over in place
+-- the same, where a slice of all of them was written to
 pub written_kept :
-    (fleet : FleetState) (f : Collector → Collector) (count : ℕ) (written : List Collector) → ((c : Collector) → (f c).id ≡ c.id) → ((c : Collector) → (f c).name ≡ c.name) → IsFleet fleet → count ≡ length fleet.collectors → written ≡ map f fleet.collectors
+    (fleet : FleetState) (f : Collector → Collector) (count : ℕ) (lent written : List Collector) → lent ≡ fleet.collectors → length lent ≡ count → written ≡ map f lent → ((c : Collector) → (f c).id ≡ c.id) → ((c : Collector) → (f c).name ≡ c.name) → IsFleet fleet
     → IsFleet (record fleet { collectors = take count (written ++ drop (length written) fleet.collectors) })
-written_kept fleet f count written id name kept all is =
-    let whole : count ≡ length (map f fleet.collectors) = omega (arith, all, length-map fleet.collectors f) in
-    rw (is, whole, take-append_seam) (changed_kept fleet f id name kept)
+written_kept fleet f count lent written all many is id name kept =
+    let changed : written ≡ map f fleet.collectors = rw all at is in
+    let whole : count ≡ length (map f fleet.collectors) = omega (arith, many, ap (λ (cs : List Collector). length cs) all, length-map fleet.collectors f) in
+    rw (changed, whole, take-append_seam) (changed_kept fleet f id name kept)

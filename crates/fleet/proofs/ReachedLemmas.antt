@@ -36,21 +36,28 @@ rows_left [] known id = refl
 rows_left (c ∷ collectors) known id =
     left_by (not (c.id == id)) (row_of c.id c.reach (targets_of known)) c (rows_without (reach_rows collectors known) id) (filter (λ (c : Collector). not (c.id == id)) collectors) known refl (rows_left collectors known id)
 
+pub pushed : {X : Type 0} (old reserved new : List X) (x : X) → reserved ≡ old → new ≡ reserved ++ x ∷ [] → new ≡ old ++ x ∷ []
+pushed old reserved new x same is = is ∙ ap (λ (xs : List _). xs ++ x ∷ []) same
+
 -- where a collector joined
-pub rows_joined : (collectors : List Collector) (c : Collector) (known : List KnownTarget) → reach_rows collectors known ++ row_of c.id c.reach (targets_of known) ∷ [] ≡ reach_rows (collectors ++ c ∷ []) known
-rows_joined collectors c known = sym (map-append (λ (x : Collector). row_of x.id x.reach (targets_of known)) collectors (c ∷ []))
+pub rows_after_join :
+    (collectors joined : List Collector) (known targets : List KnownTarget) (rows new : List ReachRow) (c : Collector) (id : ℕ) (rules : List ReachRule) → rows ≡ reach_rows collectors known → targets ≡ known → new ≡ rows ++ row_of id rules (targets_of targets) ∷ []
+    → joined ≡ collectors ++ c ∷ [] → c.id ≡ id → c.reach ≡ rules → new ≡ reach_rows joined known
+rows_after_join collectors joined known targets rows new c id rules tied all is joins by asks =
+    rw (is, tied, all, joins, sym by, sym asks) (sym (map-append (λ (x : Collector). row_of x.id x.reach (targets_of known)) collectors (c ∷ [])))
 
 rows_changed : (collectors : List Collector) (known : List KnownTarget) (f : Collector → Collector) → ((c : Collector) → (f c).id ≡ c.id) → ((c : Collector) → (f c).reach ≡ c.reach) → reach_rows collectors known ≡ reach_rows (map f collectors) known
 rows_changed [] known f id reach = refl
 rows_changed (c ∷ collectors) known f id reach = rw (id c, reach c, rows_changed collectors known f id reach) refl
 
--- where collectors were written over in place, but for their numbers and rules
+-- where a slice of all collectors was written to, but for their numbers and rules
 pub rows_written :
-    (collectors : List Collector) (known : List KnownTarget) (f : Collector → Collector) (count : ℕ) (written : List Collector) → ((c : Collector) → (f c).id ≡ c.id) → ((c : Collector) → (f c).reach ≡ c.reach) → count ≡ length collectors → written ≡ map f collectors
+    (collectors : List Collector) (known : List KnownTarget) (f : Collector → Collector) (count : ℕ) (lent written : List Collector) → lent ≡ collectors → length lent ≡ count → written ≡ map f lent → ((c : Collector) → (f c).id ≡ c.id) → ((c : Collector) → (f c).reach ≡ c.reach)
     → reach_rows collectors known ≡ reach_rows (take count (written ++ drop (length written) collectors)) known
-rows_written collectors known f count written id reach all is =
-    let whole : count ≡ length (map f collectors) = omega (arith, all, length-map collectors f) in
-    rw (is, whole, take-append_seam) (rows_changed collectors known f id reach)
+rows_written collectors known f count lent written all many is id reach =
+    let changed : written ≡ map f collectors = rw all at is in
+    let whole : count ≡ length (map f collectors) = omega (arith, many, ap (λ (cs : List Collector). length cs) all, length-map collectors f) in
+    rw (changed, whole, take-append_seam) (rows_changed collectors known f id reach)
 
 answer_at : (rules : List ReachRule) (known : List KnownTarget) (number : ℕ) → slice_index_or (answers rules (targets_of known)) number false ≡ option_map_or (λ (k : KnownTarget). reaches rules k.target) (slice_get known number) false
 answer_at rules [] number = refl

@@ -18,7 +18,7 @@ use Rattle.fleet.specs.declared.outcome.ListRefusal.TheVariants.{UnknownJob, Unk
 use Rattle.fleet.specs.declared.outcome.Joining.{Joining}
 use Rattle.fleet.specs.declared.outcome.Joining.TheVariants.{Joined, Refused as Turned}
 use Rattle.fleet.specs.declared.outcome.JoinRefusal.{JoinRefusal}
-use Rattle.fleet.specs.declared.outcome.JoinRefusal.TheVariants.{UnknownJob as JobMissing, AlreadyJoined, TooManyCollectors, IdsSpent}
+use Rattle.fleet.specs.declared.outcome.JoinRefusal.TheVariants.{UnknownJob as JoinForNoJob, AlreadyJoined, TooManyCollectors, IdsSpent}
 use Rattle.fleet.specs.declared.outcome.Draining.{Draining}
 use Rattle.fleet.specs.declared.outcome.Draining.TheVariants.{Drains, Refused as NotDrained}
 use Rattle.fleet.specs.declared.outcome.DrainRefusal.{DrainRefusal}
@@ -26,7 +26,7 @@ use Rattle.fleet.specs.declared.outcome.DrainRefusal.TheVariants.{UnknownCollect
 use Rattle.fleet.specs.declared.outcome.Limiting.{Limiting}
 use Rattle.fleet.specs.declared.outcome.Limiting.TheVariants.{LimitsSet, Refused as NotSet}
 use Rattle.fleet.specs.declared.outcome.LimitsRefusal.{LimitsRefusal}
-use Rattle.fleet.specs.declared.outcome.LimitsRefusal.TheVariants.{UnknownCollector as NobodyLimited, UnknownJob as NoJobLimited}
+use Rattle.fleet.specs.declared.outcome.LimitsRefusal.TheVariants.{UnknownCollector as LimitsOfNobody, UnknownJob as LimitsForNoJob}
 
 -- the fleet where a source of a job lists these targets, in place of those that it listed before
 abbrev pub relisted : FleetState → ℕ → ℕ → List FinalTarget → FleetState
@@ -78,7 +78,7 @@ name_refusal fleet None = room_refusal fleet
 
 -- the first reason against a collector of this name with these limits
 abbrev pub join_refusal : FleetState → List ℕ → LimitList → Option JoinRefusal
-join_refusal fleet name limits = if are_for_jobs fleet.jobs limits then name_refusal fleet (id_named fleet.collectors name) else Some JobMissing
+join_refusal fleet name limits = if are_for_jobs fleet.jobs limits then name_refusal fleet (id_named fleet.collectors name) else Some JoinForNoJob
 
 -- the fleet after a collector joined
 abbrev pub with_collector : FleetState → List ℕ → List ReachRule → LimitList → FleetState
@@ -127,7 +127,7 @@ fleet_after_drain fleet id = if is_some (drain_refusal fleet id) then fleet else
 
 -- the first reason against other limits of a collector
 abbrev pub limits_refusal : FleetState → ℕ → LimitList → Option LimitsRefusal
-limits_refusal fleet id limits = if is_joined fleet id then (if are_for_jobs fleet.jobs limits then None else Some NoJobLimited) else Some NobodyLimited
+limits_refusal fleet id limits = if is_joined fleet id then (if are_for_jobs fleet.jobs limits then None else Some LimitsForNoJob) else Some LimitsOfNobody
 
 -- the collector, with these limits in place of its own if it has the number
 abbrev pub with_limits_at : ℕ → LimitList → Collector → Collector

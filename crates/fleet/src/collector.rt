@@ -15,7 +15,7 @@ pub struct Collector {
     pub reach: Reach,
     /// Whether it is being emptied before it stops.
     pub draining: bool,
-    /// How many targets of a job it takes at most, by the name of the job.
+    /// How many targets of a job it takes at most, by the name of the job, where 0 is no limit.
     pub limits: OwnLimits,
 }
 

@@ -54,6 +54,7 @@ pub enum DrainRefusal {
 /// What becomes of a collector that gets other limits of its own.
 #[derive(Clone, Copy, Debug, PartialEq, Eq)]
 pub enum Limiting {
+    /// It has these limits, and none besides.
     LimitsSet,
     Refused(LimitsRefusal),
 }

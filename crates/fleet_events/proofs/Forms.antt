@@ -1,5 +1,5 @@
 -- An event as it is written has no float and few levels, so its text is known and reads back.
-use Rattle.std.proofs.Common.{◌≡◌, ◌≤◌, ℕ, false, [], ◌∷◌, refl, arith}
+use Rattle.std.proofs.Common.{◌≡◌, ◌≤◌, ℕ, List, false, [], ◌∷◌, refl, arith}
 use Rattle.std.proofs.Math.Nat.{max-le}
 use Rattle.std.proofs.lemmas.Bool.{or_from}
 use Rattle.serde_json.specs.Data.{depth, members_depth}
@@ -10,14 +10,16 @@ use Rattle.json_values.proofs.Lists.{no_float, levels}
 use Rattle.label_sets.specs.Labels.{LabelList}
 use Rattle.label_sets.specs.Target.{FinalTarget, target_data}
 use Rattle.label_sets.specs.Written.{label_members}
-use Rattle.reach_rules.specs.Spelling.{rule_data, rule_data_of}
+use Rattle.reach_rules.specs.OwnLimits.{LimitList, limit_members}
+use Rattle.reach_rules.specs.Spelling.{rule_data, rule_data_of, reach_data}
+use Rattle.reach_rules.specs.declared.rule.ReachRule.{ReachRule}
 use Rattle.reach_rules.specs.declared.rule.ReachTest.{ReachTest}
 use Rattle.reach_rules.specs.declared.rule.ReachTest.TheVariants.{Any, Present, Equals}
 use Rattle.scrape_books.specs.declared.report.Outcome.{Outcome}
 use Rattle.scrape_books.specs.declared.report.Outcome.TheVariants.{Up, Down}
-use Rattle.fleet_events.specs.Writing.{event_data, report_data}
+use Rattle.fleet_events.specs.Writing.{event_data, join_data, report_data}
 use Rattle.fleet_events.specs.declared.event.Event.{Event}
-use Rattle.fleet_events.specs.declared.event.Event.TheVariants.{Discover, Join, Leave, Install, NextRound, Take, Report}
+use Rattle.fleet_events.specs.declared.event.Event.TheVariants.{Discover, Join, Leave, Drain, SetLimits, Install, NextRound, Take, Report}
 
 -- ---- no float
 
@@ -33,14 +35,27 @@ test_no_float allow Any = refl
 test_no_float allow (Present label) = refl
 test_no_float allow (Equals label text) = refl
 
+reach_no_float : (reach : List ReachRule) → has_float (reach_data reach) ≡ false
+reach_no_float = no_float rule_data (λ rule. test_no_float rule.allow rule.test)
+
+limits_no_float : (limits : LimitList) → members_have_float (limit_members limits) ≡ false
+limits_no_float [] = refl
+limits_no_float (entry ∷ limits) = limits_no_float limits
+
+join_no_float : (name : List ℕ) (reach : List ReachRule) (limits : LimitList) → has_float (join_data name reach limits) ≡ false
+join_no_float name reach [] = or_from _ _ (reach_no_float reach) refl
+join_no_float name reach (entry ∷ limits) = or_from _ _ (limits_no_float limits) (or_from _ _ (reach_no_float reach) refl)
+
 report_no_float : (collector allocation target round : ℕ) (outcome : Outcome) → has_float (report_data collector allocation target round outcome) ≡ false
 report_no_float collector allocation target round (Up samples) = refl
 report_no_float collector allocation target round Down = refl
 
 pub event_no_float : (event : Event) → has_float (event_data event) ≡ false
 event_no_float (Discover job source targets) = or_from _ _ (no_float target_data target_no_float targets) refl
-event_no_float (Join name reach) = or_from _ _ (no_float rule_data (λ rule. test_no_float rule.allow rule.test) reach) refl
+event_no_float (Join name reach limits) = join_no_float name reach limits
 event_no_float (Leave collector) = refl
+event_no_float (Drain collector) = refl
+event_no_float (SetLimits collector limits) = or_from _ _ (limits_no_float limits) refl
 event_no_float (Install plan) =
     or_from _ _ (no_float number_data (λ n. refl) plan.bin_prices) (or_from _ _ (no_float number_data (λ n. refl) plan.item_prices) (or_from _ _ (no_float pair_data (λ q. refl) plan.pairs) refl))
 event_no_float NextRound = refl
@@ -61,14 +76,27 @@ test_levels allow Any = omega arith
 test_levels allow (Present label) = omega arith
 test_levels allow (Equals label text) = omega arith
 
+reach_levels : (reach : List ReachRule) → depth (reach_data reach) ≤ 2
+reach_levels reach = omega (arith, levels rule_data 1 (λ rule. test_levels rule.allow rule.test) reach)
+
+limits_levels : (limits : LimitList) → members_depth (limit_members limits) ≤ 0
+limits_levels [] = omega arith
+limits_levels (entry ∷ limits) = max-le (omega arith) (limits_levels limits)
+
+join_levels : (name : List ℕ) (reach : List ReachRule) (limits : LimitList) → depth (join_data name reach limits) ≤ 3
+join_levels name reach [] = omega (arith, reach_levels reach)
+join_levels name reach (entry ∷ limits) = omega (arith, reach_levels reach, limits_levels limits)
+
 report_levels : (collector allocation target round : ℕ) (outcome : Outcome) → depth (report_data collector allocation target round outcome) ≤ 1
 report_levels collector allocation target round (Up samples) = omega arith
 report_levels collector allocation target round Down = omega arith
 
 pub event_levels : (event : Event) → depth (event_data event) ≤ max_depth
 event_levels (Discover job source targets) = omega (arith, levels target_data 2 target_levels targets)
-event_levels (Join name reach) = omega (arith, levels rule_data 1 (λ rule. test_levels rule.allow rule.test) reach)
+event_levels (Join name reach limits) = omega (arith, join_levels name reach limits)
 event_levels (Leave collector) = omega arith
+event_levels (Drain collector) = omega arith
+event_levels (SetLimits collector limits) = omega (arith, limits_levels limits)
 event_levels (Install plan) =
     omega (arith, levels number_data 0 (λ n. omega arith) plan.bin_prices, levels number_data 0 (λ n. omega arith) plan.item_prices, levels pair_data 1 (λ q. omega arith) plan.pairs)
 event_levels NextRound = omega arith

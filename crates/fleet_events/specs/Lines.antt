@@ -3,9 +3,9 @@ use Rattle.std.specs.Prelude.{ℕ, List, [], ◌∷◌, ◌++◌, Option, Some, 
 use Rattle.std.specs.Fmt.{decimal}
 use Rattle.price_certificate.specs.Lines.{fault_line}
 use Rattle.fleet_events.specs.declared.answer.Answer.{Answer}
-use Rattle.fleet_events.specs.declared.answer.Answer.TheVariants.{Discovered, Joined, Left, Published, RoundOpen, Taken, Booked, Not}
+use Rattle.fleet_events.specs.declared.answer.Answer.TheVariants.{Discovered, Joined, Left, Draining, LimitsSet, Published, RoundOpen, Taken, Booked, Not}
 use Rattle.fleet_events.specs.declared.refusal.Refusal.{Refusal}
-use Rattle.fleet_events.specs.declared.refusal.Refusal.TheVariants.{UnknownJob, UnknownSource, TooManyLive, TooManyKnown, AlreadyJoined, TooManyCollectors, IdsSpent, UnknownCollector, Refused, Unchanged, NumbersSpent, RoundsSpent, NotTaken, UnknownTarget, NotHolder, RoundClosed, RoundNotOpen, AlreadyBooked}
+use Rattle.fleet_events.specs.declared.refusal.Refusal.TheVariants.{UnknownJob, UnknownSource, TooManyLive, TooManyKnown, AlreadyJoined, TooManyCollectors, IdsSpent, UnknownCollector, AlreadyDraining, Refused, Unchanged, NumbersSpent, RoundsSpent, NotTaken, UnknownTarget, NotHolder, RoundClosed, RoundNotOpen, AlreadyBooked}
 
 -- a holder's number, or none
 abbrev pub holder_line : Option ℕ → List ℕ
@@ -31,6 +31,7 @@ refusal_line (AlreadyJoined collector) = codes "AlreadyJoined " ++ decimal colle
 refusal_line TooManyCollectors = codes "TooManyCollectors"
 refusal_line IdsSpent = codes "IdsSpent"
 refusal_line UnknownCollector = codes "UnknownCollector"
+refusal_line AlreadyDraining = codes "AlreadyDraining"
 refusal_line (Refused fault) = codes "Refused " ++ fault_line fault
 refusal_line (Unchanged number) = codes "Unchanged " ++ decimal number
 refusal_line NumbersSpent = codes "NumbersSpent"
@@ -46,6 +47,8 @@ abbrev pub answer_line : Answer → List ℕ
 answer_line (Discovered added removed) = codes "Discovered " ++ (decimal added ++ (codes " " ++ decimal removed))
 answer_line (Joined collector) = codes "Joined " ++ decimal collector
 answer_line Left = codes "Left"
+answer_line Draining = codes "Draining"
+answer_line LimitsSet = codes "LimitsSet"
 answer_line (Published number) = codes "Published " ++ decimal number
 answer_line (RoundOpen round) = codes "RoundOpen " ++ decimal round
 answer_line (Taken allocation round held) = codes "Taken " ++ (decimal allocation ++ (codes " " ++ (decimal round ++ (codes " " ++ numbers_line held))))

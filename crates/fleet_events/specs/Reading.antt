@@ -1,6 +1,6 @@
 -- The event that a JSON object says: its member `event` is the event's name. Members that the event does not have don't
 -- matter.
-use Rattle.std.specs.Prelude.{ℕ, zero, suc, Bool, true, false, List, Option, Some, None, option_map, option_and_then, codes, if◌then◌else◌}
+use Rattle.std.specs.Prelude.{ℕ, zero, suc, Bool, true, false, List, [], Option, Some, None, option_map, option_and_then, codes, if◌then◌else◌}
 use Rattle.std.specs.Str.{bytes_eq}
 use Rattle.serde_json.specs.Data.{Data}
 use Rattle.serde_json.specs.Find.{as_bool, as_str, get}
@@ -9,11 +9,12 @@ use Rattle.json_values.specs.Spelling.{number_in, list_in, member_in}
 use Rattle.label_sets.specs.Target.{FinalTarget}
 use Rattle.price_certificate.specs.Plan.{plan_in}
 use Rattle.reach_rules.specs.Name.{name_in}
+use Rattle.reach_rules.specs.OwnLimits.{LimitList, limits_in}
 use Rattle.reach_rules.specs.Spelling.{reach_in}
 use Rattle.scrape_books.specs.declared.report.Outcome.{Outcome}
 use Rattle.scrape_books.specs.declared.report.Outcome.TheVariants.{Up, Down}
 use Rattle.fleet_events.specs.declared.event.Event.{Event}
-use Rattle.fleet_events.specs.declared.event.Event.TheVariants.{Discover, Join, Leave, Install, NextRound, Take, Report}
+use Rattle.fleet_events.specs.declared.event.Event.TheVariants.{Discover, Join, Leave, Drain, SetLimits, Install, NextRound, Take, Report}
 use Rattle.fleet_events.specs.Targets.{target_in}
 
 -- ---- discover
@@ -30,11 +31,18 @@ discover_in d =
 
 -- ---- join
 
--- a collector's name, and the rules by which it reaches targets
-unfoldable pub join_in : Data → Option Event
-join_in d = option_and_then (λ name. option_map (Join name) (member_in reach_in (codes "reach") d)) (member_in name_in (codes "name") d)
+-- a collector's own limits: it has none where the member is left out
+abbrev pub limits_or_none : Option Data → Option LimitList
+limits_or_none None = Some []
+limits_or_none (Some d) = limits_in d
 
--- ---- leave and take
+-- a collector's name, the rules by which it reaches targets, and the limits of its own
+unfoldable pub join_in : Data → Option Event
+join_in d =
+    option_and_then (λ name. option_and_then (λ reach. option_map (Join name reach) (limits_or_none (get (codes "limits") d))) (member_in reach_in (codes "reach") d))
+    (member_in name_in (codes "name") d)
+
+-- ---- leave, drain and take
 
 -- the number of a collector
 abbrev pub collector_in : Data → Option ℕ
@@ -43,8 +51,17 @@ collector_in d = member_in number_in (codes "collector") d
 abbrev pub leave_in : Data → Option Event
 leave_in d = option_map Leave (collector_in d)
 
+abbrev pub drain_in : Data → Option Event
+drain_in d = option_map Drain (collector_in d)
+
 abbrev pub take_in : Data → Option Event
 take_in d = option_map Take (collector_in d)
+
+-- ---- limits
+
+-- the number of a collector, and the limits that it has of its own from now on
+unfoldable pub set_limits_in : Data → Option Event
+set_limits_in d = option_and_then (λ collector. option_map (SetLimits collector) (member_in limits_in (codes "limits") d)) (collector_in d)
 
 -- ---- install
 
@@ -89,9 +106,10 @@ report_in d =
 abbrev pub event_named : List ℕ → Data → Option Event
 event_named name d =
     if bytes_eq name (codes "discover") then discover_in d else (if bytes_eq name (codes "join") then join_in d
-    else (if bytes_eq name (codes "leave") then leave_in d else (if bytes_eq name (codes "install") then install_in d
+    else (if bytes_eq name (codes "leave") then leave_in d else (if bytes_eq name (codes "drain") then drain_in d
+    else (if bytes_eq name (codes "limits") then set_limits_in d else (if bytes_eq name (codes "install") then install_in d
     else (if bytes_eq name (codes "round") then Some NextRound else (if bytes_eq name (codes "take") then take_in d
-    else (if bytes_eq name (codes "report") then report_in d else None))))))
+    else (if bytes_eq name (codes "report") then report_in d else None))))))))
 
 -- the event that a JSON value says
 unfoldable pub event_in : Data → Option Event

@@ -1,16 +1,17 @@
 -- The one form in which an event is written: a compact JSON object, its members in byte order of their names.
-use Rattle.std.specs.Prelude.{ℕ, List, true, false, codes}
+use Rattle.std.specs.Prelude.{ℕ, List, [], ◌∷◌, true, false, codes}
 use Rattle.serde_json.specs.Data.{Data, boolean, string, object, no_members, member}
 use Rattle.serde_json.specs.Written.{compact_text}
 use Rattle.json_values.specs.Spelling.{number_data, pair_data, list_data}
 use Rattle.label_sets.specs.Target.{FinalTarget, target_data}
 use Rattle.price_certificate.specs.declared.plan.Plan.{Plan}
+use Rattle.reach_rules.specs.OwnLimits.{LimitList, limits_data}
 use Rattle.reach_rules.specs.Spelling.{reach_data}
 use Rattle.reach_rules.specs.declared.rule.ReachRule.{ReachRule}
 use Rattle.scrape_books.specs.declared.report.Outcome.{Outcome}
 use Rattle.scrape_books.specs.declared.report.Outcome.TheVariants.{Up, Down}
 use Rattle.fleet_events.specs.declared.event.Event.{Event}
-use Rattle.fleet_events.specs.declared.event.Event.TheVariants.{Discover, Join, Leave, Install, NextRound, Take, Report}
+use Rattle.fleet_events.specs.declared.event.Event.TheVariants.{Discover, Join, Leave, Drain, SetLimits, Install, NextRound, Take, Report}
 
 abbrev pub discover_data : List ℕ → ℕ → List FinalTarget → Data
 discover_data job source targets =
@@ -19,15 +20,33 @@ discover_data job source targets =
     (member (codes "source") (number_data source)
     (member (codes "targets") (list_data target_data targets) no_members))))
 
-abbrev pub join_data : List ℕ → List ReachRule → Data
-join_data name reach =
+abbrev pub unlimited_join_data : List ℕ → List ReachRule → Data
+unlimited_join_data name reach =
     object (member (codes "event") (string (codes "join"))
     (member (codes "name") (string name)
     (member (codes "reach") (reach_data reach) no_members)))
 
+abbrev pub limited_join_data : List ℕ → List ReachRule → LimitList → Data
+limited_join_data name reach limits =
+    object (member (codes "event") (string (codes "join"))
+    (member (codes "limits") (limits_data limits)
+    (member (codes "name") (string name)
+    (member (codes "reach") (reach_data reach) no_members))))
+
+-- a collector without limits of its own has no member `limits`
+abbrev pub join_data : List ℕ → List ReachRule → LimitList → Data
+join_data name reach [] = unlimited_join_data name reach
+join_data name reach (entry ∷ limits) = limited_join_data name reach (entry ∷ limits)
+
 -- an event of this name that has a collector alone
 abbrev pub collector_data : List ℕ → ℕ → Data
 collector_data name collector = object (member (codes "collector") (number_data collector) (member (codes "event") (string name) no_members))
+
+abbrev pub set_limits_data : ℕ → LimitList → Data
+set_limits_data collector limits =
+    object (member (codes "collector") (number_data collector)
+    (member (codes "event") (string (codes "limits"))
+    (member (codes "limits") (limits_data limits) no_members)))
 
 abbrev pub install_data : Plan → Data
 install_data plan =
@@ -59,8 +78,10 @@ report_data collector allocation target round Down =
 
 abbrev pub event_data : Event → Data
 event_data (Discover job source targets) = discover_data job source targets
-event_data (Join name reach) = join_data name reach
+event_data (Join name reach limits) = join_data name reach limits
 event_data (Leave collector) = collector_data (codes "leave") collector
+event_data (Drain collector) = collector_data (codes "drain") collector
+event_data (SetLimits collector limits) = set_limits_data collector limits
 event_data (Install plan) = install_data plan
 event_data NextRound = round_data
 event_data (Take collector) = collector_data (codes "take") collector

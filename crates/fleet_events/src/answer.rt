@@ -19,6 +19,10 @@ pub enum Answer {
     /// The collector's number.
     Joined(CollectorId),
     Left,
+    /// The collector is draining now.
+    Draining,
+    /// The collector's own limits are replaced.
+    LimitsSet,
     /// The allocation's number.
     Published(AllocationNumber),
     /// The round that is open now.
@@ -47,6 +51,8 @@ impl Answer {
             }
             Answer::Joined(collector) => format!(in alloc; "Joined {collector}"),
             Answer::Left => String::from_str(alloc, "Left"),
+            Answer::Draining => String::from_str(alloc, "Draining"),
+            Answer::LimitsSet => String::from_str(alloc, "LimitsSet"),
             Answer::Published(number) => format!(in alloc; "Published {number}"),
             Answer::RoundOpen(round) => format!(in alloc; "RoundOpen {round}"),
             Answer::Taken {
@@ -83,6 +89,8 @@ impl Plain for Answer {
             }),
             Answer::Joined(collector) => Ok(Answer::Joined(*collector)),
             Answer::Left => Ok(Answer::Left),
+            Answer::Draining => Ok(Answer::Draining),
+            Answer::LimitsSet => Ok(Answer::LimitsSet),
             Answer::Published(number) => Ok(Answer::Published(*number)),
             Answer::RoundOpen(round) => Ok(Answer::RoundOpen(*round)),
             Answer::Taken {
@@ -115,6 +123,8 @@ impl Plain for Answer {
                 *collector == *other_collector
             }
             (Answer::Left, Answer::Left) => true,
+            (Answer::Draining, Answer::Draining) => true,
+            (Answer::LimitsSet, Answer::LimitsSet) => true,
             (Answer::Published(number), Answer::Published(other_number)) => {
                 *number == *other_number
             }

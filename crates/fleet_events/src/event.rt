@@ -4,7 +4,7 @@ use crate::report::Report;
 use label_sets::Target;
 use lists::{List, Plain, Text};
 use price_certificate::Plan;
-use reach_rules::{CollectorName, Reach};
+use reach_rules::{CollectorName, OwnLimits, Reach};
 use std::alloc::AllocError;
 
 /// What the allocator is asked.
@@ -20,9 +20,17 @@ pub enum Event {
     Join {
         name: CollectorName,
         reach: Reach,
+        limits: OwnLimits,
     },
     /// The collector leaves.
     Leave(CollectorId),
+    /// The collector is to be emptied before it is stopped.
+    Drain(CollectorId),
+    /// The collector has these limits of its own, in place of all that it had before.
+    SetLimits {
+        collector: CollectorId,
+        limits: OwnLimits,
+    },
     /// A plan is to be published.
     Install(Plan),
     /// The next round opens.
@@ -49,12 +57,29 @@ impl Plain for Event {
                     targets,
                 })
             }
-            Event::Join { name, reach } => {
+            Event::Join {
+                name,
+                reach,
+                limits,
+            } => {
                 let name = name.copy()?;
                 let reach = reach.copy()?;
-                Ok(Event::Join { name, reach })
+                let limits = limits.copy()?;
+                Ok(Event::Join {
+                    name,
+                    reach,
+                    limits,
+                })
             }
             Event::Leave(collector) => Ok(Event::Leave(*collector)),
+            Event::Drain(collector) => Ok(Event::Drain(*collector)),
+            Event::SetLimits { collector, limits } => {
+                let limits = limits.copy()?;
+                Ok(Event::SetLimits {
+                    collector: *collector,
+                    limits,
+                })
+            }
             Event::Install(plan) => Ok(Event::Install(plan.copy()?)),
             Event::NextRound => Ok(Event::NextRound),
             Event::Take(collector) => Ok(Event::Take(*collector)),
@@ -77,15 +102,30 @@ impl Plain for Event {
                 },
             ) => job.same(other_job) && *source == *other_source && targets.same(other_targets),
             (
-                Event::Join { name, reach },
+                Event::Join {
+                    name,
+                    reach,
+                    limits,
+                },
                 Event::Join {
                     name: other_name,
                     reach: other_reach,
+                    limits: other_limits,
                 },
-            ) => name.same(other_name) && reach.same(other_reach),
+            ) => name.same(other_name) && reach.same(other_reach) && limits.same(other_limits),
             (Event::Leave(collector), Event::Leave(other_collector)) => {
                 *collector == *other_collector
             }
+            (Event::Drain(collector), Event::Drain(other_collector)) => {
+                *collector == *other_collector
+            }
+            (
+                Event::SetLimits { collector, limits },
+                Event::SetLimits {
+                    collector: other_collector,
+                    limits: other_limits,
+                },
+            ) => *collector == *other_collector && limits.same(other_limits),
             (Event::Install(plan), Event::Install(other_plan)) => plan.same(other_plan),
             (Event::NextRound, Event::NextRound) => true,
             (Event::Take(collector), Event::Take(other_collector)) => {

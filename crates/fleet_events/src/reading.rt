@@ -1,8 +1,9 @@
 //! Events out of JSON.
 ghost use Rattle.std.specs.Prelude.{◌≡◌, IfOk, codes, true, false};
+ghost use Rattle.serde_json.specs.Find.{get};
 ghost use Rattle.serde_json.specs.View.{view};
 ghost use Rattle.json_values.specs.Spelling.{member_in};
-ghost use Rattle.fleet_events.specs.Reading.{targets_in, discover_in, join_in, leave_in, install_in, take_in, report_in, outcome_in, outcome_by, event_named, event_in, event_of};
+ghost use Rattle.fleet_events.specs.Reading.{targets_in, discover_in, join_in, leave_in, install_in, take_in, report_in, drain_in, limits_or_none, set_limits_in, outcome_in, outcome_by, event_named, event_in, event_of};
 
 use crate::event::Event;
 use crate::report::Report;
@@ -11,6 +12,7 @@ use json_values::{Spelled, member, number, parse};
 use label_sets::Target;
 use lists::List;
 use price_certificate::Plan;
+use reach_rules::OwnLimits;
 use scrape_books::Outcome;
 use serde_json::Value;
 use std::alloc::{AllocError, Global};
@@ -42,6 +44,8 @@ fn read_named(alloc: Global, name: &str, value: &Value) -> Result<Option<Event>,
         "discover" => read_discover(alloc, value),
         "join" => read_join(alloc, value),
         "leave" => read_leave(alloc, value),
+        "drain" => read_drain(alloc, value),
+        "limits" => read_set_limits(alloc, value),
         "install" => read_install(alloc, value),
         "round" => Ok(Some(Event::NextRound)),
         "take" => read_take(alloc, value),
@@ -90,7 +94,24 @@ fn read_join(alloc: Global, value: &Value) -> Result<Option<Event>, AllocError>
     let Some(reach) = member(alloc, value, "reach")? else {
         return Ok(None);
     };
-    Ok(Some(Event::Join { name, reach }))
+    let Some(limits) = read_limits_or_none(alloc, value)? else {
+        return Ok(None);
+    };
+    Ok(Some(Event::Join {
+        name,
+        reach,
+        limits,
+    }))
+}
+
+/// A collector's own limits: it has none where the member is left out.
+fn read_limits_or_none(alloc: Global, value: &Value) -> Result<Option<OwnLimits>, AllocError>
+    ensures { IfOk result (λ o. o ≡ limits_or_none (get (codes "limits") (view value.now))) }
+{
+    match value.get("limits") {
+        Some(limits) => Spelled::read(alloc, limits),
+        None => Ok(Some(OwnLimits::none(alloc))),
+    }
 }
 
 fn read_leave(alloc: Global, value: &Value) -> Result<Option<Event>, AllocError>
@@ -100,6 +121,28 @@ fn read_leave(alloc: Global, value: &Value) -> Result<Option<Event>, AllocError>
         Some(collector) => Ok(Some(Event::Leave(collector))),
         None => Ok(None),
     }
+}
+
+fn read_drain(alloc: Global, value: &Value) -> Result<Option<Event>, AllocError>
+    ensures { IfOk result (λ o. o ≡ drain_in (view value.now)) }
+{
+    match member(alloc, value, "collector")? {
+        Some(collector) => Ok(Some(Event::Drain(collector))),
+        None => Ok(None),
+    }
+}
+
+#[tactic(auto, unfolding(crate::specs::Reading::set_limits_in))]
+fn read_set_limits(alloc: Global, value: &Value) -> Result<Option<Event>, AllocError>
+    ensures { IfOk result (λ o. o ≡ set_limits_in (view value.now)) }
+{
+    let Some(collector) = member(alloc, value, "collector")? else {
+        return Ok(None);
+    };
+    let Some(limits) = member(alloc, value, "limits")? else {
+        return Ok(None);
+    };
+    Ok(Some(Event::SetLimits { collector, limits }))
 }
 
 fn read_install(alloc: Global, value: &Value) -> Result<Option<Event>, AllocError>

@@ -26,6 +26,8 @@ pub enum Refusal {
     IdsSpent,
     /// No live collector has the number.
     UnknownCollector,
+    /// The collector is draining.
+    AlreadyDraining,
     /// The checker's first fault of the plan.
     Refused(Fault),
     /// The plan has the pairs of the current allocation, which has this number.
@@ -62,6 +64,7 @@ impl Refusal {
             Refusal::TooManyCollectors => String::from_str(alloc, "TooManyCollectors"),
             Refusal::IdsSpent => String::from_str(alloc, "IdsSpent"),
             Refusal::UnknownCollector => String::from_str(alloc, "UnknownCollector"),
+            Refusal::AlreadyDraining => String::from_str(alloc, "AlreadyDraining"),
             Refusal::Refused(fault) => refused_line(alloc, fault),
             Refusal::Unchanged(number) => format!(in alloc; "Unchanged {number}"),
             Refusal::NumbersSpent => String::from_str(alloc, "NumbersSpent"),

@@ -22,7 +22,11 @@ fn writes_what_it_reads(rt: HostRuntime) -> Result<(), Fail> {
         "{\"event\":\"discover\",\"job\":\"\",\"source\":4294967295,\"targets\":[]}",
         "{\"event\":\"join\",\"name\":\"a\",\"reach\":[]}",
         "{\"event\":\"join\",\"name\":\"b\",\"reach\":[{\"allow\":false,\"label\":\"zone\",\"test\":\"present\"},{\"allow\":true,\"label\":\"zone\",\"test\":\"equals\",\"value\":\"\"},{\"allow\":true,\"test\":\"any\"}]}",
+        "{\"event\":\"join\",\"limits\":{\"B\":4294967295,\"a\":0},\"name\":\"a\",\"reach\":[]}",
         "{\"collector\":1,\"event\":\"leave\"}",
+        "{\"collector\":1,\"event\":\"drain\"}",
+        "{\"collector\":1,\"event\":\"limits\",\"limits\":{\"j\":1,\"k\":0}}",
+        "{\"collector\":4294967295,\"event\":\"limits\",\"limits\":{}}",
         "{\"bin_prices\":[0,3],\"event\":\"install\",\"item_prices\":[4294967295],\"pairs\":[[0,1],[7,0]]}",
         "{\"event\":\"round\"}",
         "{\"collector\":0,\"event\":\"take\"}",
@@ -51,9 +55,92 @@ fn writes_one_form(rt: HostRuntime) -> Result<(), Fail> {
             "{\"event\":\"join\",\"name\":\"a\",\"reach\":[{\"value\":1,\"label\":2,\"test\":\"any\",\"allow\":true}]}",
             "{\"event\":\"join\",\"name\":\"a\",\"reach\":[{\"allow\":true,\"test\":\"any\"}]}",
         ),
+        (
+            "{\"event\":\"join\",\"name\":\"a\",\"reach\":[],\"limits\":{}}",
+            "{\"event\":\"join\",\"name\":\"a\",\"reach\":[]}",
+        ),
+        (
+            "{\"limits\":{\"j\":3,\"i\":2,\"j\":1},\"event\":\"limits\",\"name\":7,\"collector\":1}",
+            "{\"collector\":1,\"event\":\"limits\",\"limits\":{\"i\":2,\"j\":1}}",
+        ),
     ] {
         assert_eq!(rt; rewritten(alloc, text)?.as_str(), form);
     }
+    Ok(())
+}
+
+/// Whether the text says no event.
+fn is_no_event(alloc: Global, text: &str) -> Result<bool, Fail> {
+    Ok(read_event(alloc, text.as_bytes())?.is_none())
+}
+
+/// What a member `limits` must not be, in both lines that have one.
+#[test]
+fn refuses_what_is_no_object_of_limits(rt: HostRuntime) -> Result<(), Fail> {
+    let alloc = rt.alloc();
+    for limits in [
+        "null",
+        "[]",
+        "1",
+        "{\"j\":-1}",
+        "{\"j\":1.0}",
+        "{\"j\":4294967296}",
+        "{\"j\":null}",
+    ] {
+        let join = format!(in alloc;
+            "{{\"event\":\"join\",\"name\":\"a\",\"reach\":[],\"limits\":{limits}}}"
+        )?;
+        assert!(rt; is_no_event(alloc, join.as_str())?, "{limits}");
+        let set = format!(in alloc;
+            "{{\"event\":\"limits\",\"collector\":1,\"limits\":{limits}}}"
+        )?;
+        assert!(rt; is_no_event(alloc, set.as_str())?, "{limits}");
+    }
+    Ok(())
+}
+
+#[test]
+fn refuses_lines_that_lack_a_member(rt: HostRuntime) -> Result<(), Fail> {
+    for text in [
+        "{\"event\":\"limits\",\"collector\":1}",
+        "{\"event\":\"limits\",\"limits\":{}}",
+        "{\"event\":\"drain\"}",
+        "{\"event\":\"drain\",\"collector\":\"1\"}",
+        "{\"event\":\"Drain\",\"collector\":1}",
+    ] {
+        assert!(rt; is_no_event(rt.alloc(), text)?, "{text}");
+    }
+    Ok(())
+}
+
+/// The text of a join of the same collector with these limits.
+fn join_with(alloc: Global, limits: &str) -> Result<Event, Fail> {
+    let text = format!(in alloc;
+        "{{\"event\":\"join\",\"name\":\"a\",\"reach\":[],\"limits\":{limits}}}"
+    )?;
+    event_in(alloc, text.as_str())
+}
+
+#[test]
+fn compares_limits(rt: HostRuntime) -> Result<(), Fail> {
+    let alloc = rt.alloc();
+    let join = join_with(alloc, "{\"j\":1}")?;
+    assert!(rt; join.same(&join.copy()?));
+    assert!(rt; !join.same(&join_with(alloc, "{\"j\":2}")?));
+    let set = event_in(
+        alloc,
+        "{\"event\":\"limits\",\"collector\":1,\"limits\":{\"j\":1}}",
+    )?;
+    assert!(rt; set.same(&set.copy()?));
+    assert!(rt;
+        !set.same(&event_in(
+            alloc,
+            "{\"event\":\"limits\",\"collector\":2,\"limits\":{\"j\":1}}"
+        )?)
+    );
+    let drain = Event::Drain(1);
+    assert!(rt; drain.same(&drain.copy()?));
+    assert!(rt; !drain.same(&Event::Leave(1)));
     Ok(())
 }
 
@@ -105,6 +192,8 @@ fn says_answers(rt: HostRuntime) -> Result<(), Fail> {
         },
         Answer::Joined(1),
         Answer::Left,
+        Answer::Draining,
+        Answer::LimitsSet,
         Answer::Published(4294967295),
         Answer::RoundOpen(2),
         Answer::Taken {
@@ -121,7 +210,7 @@ fn says_answers(rt: HostRuntime) -> Result<(), Fail> {
     ];
     assert_eq!(rt;
         lines(alloc, answers.as_slice())?.as_str(),
-        ";Discovered 1 2;Joined 1;Left;Published 4294967295;RoundOpen 2;Taken 1 2 0,3,5;Taken 0 1 -;Booked"
+        ";Discovered 1 2;Joined 1;Left;Draining;LimitsSet;Published 4294967295;RoundOpen 2;Taken 1 2 0,3,5;Taken 0 1 -;Booked"
     );
     Ok(())
 }
@@ -138,6 +227,7 @@ fn says_refusals(rt: HostRuntime) -> Result<(), Fail> {
         Answer::Not(Refusal::TooManyCollectors),
         Answer::Not(Refusal::IdsSpent),
         Answer::Not(Refusal::UnknownCollector),
+        Answer::Not(Refusal::AlreadyDraining),
         Answer::Not(Refusal::Refused(Fault::SumsDiffer(4, 3))),
         Answer::Not(Refusal::Unchanged(0)),
         Answer::Not(Refusal::NumbersSpent),
@@ -152,7 +242,7 @@ fn says_refusals(rt: HostRuntime) -> Result<(), Fail> {
     ];
     assert_eq!(rt;
         lines(alloc, answers.as_slice())?.as_str(),
-        ";UnknownJob;UnknownSource;TooManyLive;TooManyKnown;AlreadyJoined 3;TooManyCollectors;IdsSpent;UnknownCollector;Refused SumsDiffer 4 3;Unchanged 0;NumbersSpent;RoundsSpent;NotTaken 0;UnknownTarget;NotHolder 2;NotHolder none;RoundClosed 2;RoundNotOpen 1;AlreadyBooked"
+        ";UnknownJob;UnknownSource;TooManyLive;TooManyKnown;AlreadyJoined 3;TooManyCollectors;IdsSpent;UnknownCollector;AlreadyDraining;Refused SumsDiffer 4 3;Unchanged 0;NumbersSpent;RoundsSpent;NotTaken 0;UnknownTarget;NotHolder 2;NotHolder none;RoundClosed 2;RoundNotOpen 1;AlreadyBooked"
     );
     Ok(())
 }

@@ -1,5 +1,5 @@
 //! Events as JSON texts.
-ghost use Rattle.std.specs.Prelude.{◌≡◌, Some, false, IfOk, codes};
+ghost use Rattle.std.specs.Prelude.{◌≡◌, [], Some, false, IfOk, codes};
 ghost use Rattle.std.specs.List.{list_any};
 ghost use Rattle.serde_json.specs.View.{view, items_view};
 ghost use Rattle.json_values.specs.Spelling.{all_in, items_data};
@@ -7,7 +7,7 @@ ghost use Rattle.json_values.specs.Texts.{is_line_feed};
 ghost use Rattle.label_sets.specs.Target.{target_data};
 ghost use Rattle.fleet_events.specs.Targets.{target_in};
 ghost use Rattle.fleet_events.specs.Reading.{event_in, event_of, reported};
-ghost use Rattle.fleet_events.specs.Writing.{discover_data, join_data, collector_data, install_data, round_data, report_data, event_data, event_text};
+ghost use Rattle.fleet_events.specs.Writing.{discover_data, unlimited_join_data, limited_join_data, join_data, collector_data, set_limits_data, install_data, round_data, report_data, event_data, event_text};
 
 use crate::event::Event;
 use crate::ids::CollectorId;
@@ -16,7 +16,7 @@ use json_values::{Spelled, text_of};
 use label_sets::{Target, finishes_again, map_laws};
 use lists::Text;
 use price_certificate::Plan;
-use reach_rules::{CollectorName, Reach};
+use reach_rules::{CollectorName, OwnLimits, Reach};
 use scrape_books::Outcome;
 use serde_json::{Value, json};
 use std::alloc::{AllocError, Global};
@@ -42,8 +42,14 @@ impl Event {
                 source,
                 targets,
             } => discover_value(alloc, job, *source, targets.as_slice()),
-            Event::Join { name, reach } => join_value(alloc, name, reach),
+            Event::Join {
+                name,
+                reach,
+                limits,
+            } => join_value(alloc, name, reach, limits),
             Event::Leave(collector) => leave_value(alloc, *collector),
+            Event::Drain(collector) => drain_value(alloc, *collector),
+            Event::SetLimits { collector, limits } => set_limits_value(alloc, *collector, limits),
             Event::Install(plan) => install_value(alloc, plan),
             Event::NextRound => round_value(alloc),
             Event::Take(collector) => take_value(alloc, *collector),
@@ -88,14 +94,49 @@ fn target_value(alloc: Global, target: &Target) -> Result<Value, AllocError>
     target.to_value(alloc)
 }
 
+fn join_value(
+    alloc: Global,
+    name: &CollectorName,
+    reach: &Reach,
+    limits: &OwnLimits,
+) -> Result<Value, AllocError>
+    ensures form { IfOk result (λ v. view v ≡ join_data name.now reach.now limits.now) }
+    ensures reads_back { IfOk result (λ v. event_in (view v) ≡ Some (Event.Join name.now reach.now limits.now)) }
+{
+    if limits.is_empty() {
+        return unlimited_join_value(alloc, name, reach);
+    }
+    limited_join_value(alloc, name, reach, limits)
+}
+
 #[tactic(auto, unfolding(crate::specs::Reading::event_in, crate::specs::Reading::join_in))]
-fn join_value(alloc: Global, name: &CollectorName, reach: &Reach) -> Result<Value, AllocError>
-    ensures form { IfOk result (λ v. view v ≡ join_data name.now reach.now) }
-    ensures reads_back { IfOk result (λ v. event_in (view v) ≡ Some (Event.Join name.now reach.now)) }
+fn unlimited_join_value(
+    alloc: Global,
+    name: &CollectorName,
+    reach: &Reach,
+) -> Result<Value, AllocError>
+    ensures form { IfOk result (λ v. view v ≡ unlimited_join_data name.now reach.now) }
+    ensures reads_back { IfOk result (λ v. event_in (view v) ≡ Some (Event.Join name.now reach.now [])) }
 {
     let name = name.write(alloc)?;
     let reach = reach.write(alloc)?;
     json!(in alloc; {"event": "join", "name": name, "reach": reach})
+}
+
+#[tactic(auto, unfolding(crate::specs::Reading::event_in, crate::specs::Reading::join_in))]
+fn limited_join_value(
+    alloc: Global,
+    name: &CollectorName,
+    reach: &Reach,
+    limits: &OwnLimits,
+) -> Result<Value, AllocError>
+    ensures form { IfOk result (λ v. view v ≡ limited_join_data name.now reach.now limits.now) }
+    ensures reads_back { IfOk result (λ v. event_in (view v) ≡ Some (Event.Join name.now reach.now limits.now)) }
+{
+    let limits = limits.write(alloc)?;
+    let name = name.write(alloc)?;
+    let reach = reach.write(alloc)?;
+    json!(in alloc; {"event": "join", "limits": limits, "name": name, "reach": reach})
 }
 
 #[tactic(auto, unfolding(crate::specs::Reading::event_in))]
@@ -104,6 +145,27 @@ fn leave_value(alloc: Global, collector: CollectorId) -> Result<Value, AllocErro
     ensures reads_back { IfOk result (λ v. event_in (view v) ≡ Some (Event.Leave collector)) }
 {
     json!(in alloc; {"collector": collector, "event": "leave"})
+}
+
+#[tactic(auto, unfolding(crate::specs::Reading::event_in))]
+fn drain_value(alloc: Global, collector: CollectorId) -> Result<Value, AllocError>
+    ensures form { IfOk result (λ v. view v ≡ collector_data (codes "drain") collector) }
+    ensures reads_back { IfOk result (λ v. event_in (view v) ≡ Some (Event.Drain collector)) }
+{
+    json!(in alloc; {"collector": collector, "event": "drain"})
+}
+
+#[tactic(auto, unfolding(crate::specs::Reading::event_in, crate::specs::Reading::set_limits_in))]
+fn set_limits_value(
+    alloc: Global,
+    collector: CollectorId,
+    limits: &OwnLimits,
+) -> Result<Value, AllocError>
+    ensures form { IfOk result (λ v. view v ≡ set_limits_data collector limits.now) }
+    ensures reads_back { IfOk result (λ v. event_in (view v) ≡ Some (Event.SetLimits collector limits.now)) }
+{
+    let limits = limits.write(alloc)?;
+    json!(in alloc; {"collector": collector, "event": "limits", "limits": limits})
 }
 
 #[tactic(auto, unfolding(crate::specs::Reading::event_in, price_certificate::specs::Plan::plan_in))]

@@ -1,15 +1,17 @@
 -- What a binary search finds among limits in order of their names, and what an edit at that place makes.
-use Rattle.std.proofs.Common.{◌≡◌, ℕ, zero, suc, ◌<◌, ◌≤◌, T, Bool, true, false, List, [], ◌∷◌, ◌++◌, length, get_or, set, fold, Option, Some, None, unwrap_or, Less, Equal, Greater, Ordering, Result, Ok, Err, IfOk, IfErr, refl, sym, ap, subst, ◌∙◌, append_assoc, append-nil, arith, inl, inr, ◌⊎◌}
+use Rattle.std.proofs.Common.{◌≡◌, ℕ, zero, suc, ◌<◌, ◌≤◌, T, Bool, true, false, List, [], ◌∷◌, ◌++◌, length, get_or, set, fold, cond, Option, Some, None, unwrap_or, Less, Equal, Greater, Ordering, Result, Ok, Err, IfOk, IfErr, refl, sym, ap, subst, ◌∙◌, append_assoc, append-nil, arith, inl, inr, ◌⊎◌}
 use Rattle.std.specs.Ordering.{ordering_index}
 use Rattle.std.specs.List.{insert}
 use Rattle.std.specs.List.Sorted.{IsBinarySearchResult, IsSearchInRange, IsNonDecreasingBy}
 use Rattle.std.specs.FinMap.{find, put, is_sorted}
-use Rattle.std.specs.FinMap.Entries.{below_all, is_sorted-put}
+use Rattle.std.specs.FinMap.Entries.{below_all, is_sorted-put, find-put}
+use Rattle.std.specs.Str.{bytes_eq}
 use Rattle.std.proofs.lemmas.Bool.{cases_eq, and_parts}
 use Rattle.std.proofs.lemmas.Cmp.{nat_list_cmp_total, tied_back}
+use Rattle.std.proofs.lemmas.Map.Text.{is_eq-slice_cmp}
 use Rattle.label_sets.proofs.Places.{turned, is_less}
 use Rattle.reach_rules.specs.Name.{byte_cmp}
-use Rattle.reach_rules.specs.OwnLimits.{LimitList, own_limit, with_limit, limits_of}
+use Rattle.reach_rules.specs.OwnLimits.{LimitList, own_limit, with_limit, limits_of, last_limit}
 use Rattle.reach_rules.specs.inner.Places.{IsHere, IsGap}
 
 -- ---- names in order, by places
@@ -20,7 +22,7 @@ below_at name [] i d h lt = absurd (omega arith)
 below_at name (l ∷ limits) zero d h lt = is_less _ (and_parts _ _ h).0
 below_at name (l ∷ limits) (suc i) d h lt = below_at name limits i d (and_parts _ _ h).1 (omega arith)
 
-below_between : (limits : LimitList) (i j : ℕ) (d : List ℕ × ℕ) → is_sorted byte_cmp limits ≡ true → i < j → j < length limits → byte_cmp (get_or limits i d).0 (get_or limits j d).0 ≡ Less
+pub below_between : (limits : LimitList) (i j : ℕ) (d : List ℕ × ℕ) → is_sorted byte_cmp limits ≡ true → i < j → j < length limits → byte_cmp (get_or limits i d).0 (get_or limits j d).0 ≡ Less
 below_between [] i j d h lt within = absurd (omega arith)
 below_between (l ∷ limits) zero zero d h lt within = absurd (omega arith)
 below_between (l ∷ limits) zero (suc j) d h lt within = below_at l.0 limits j d (and_parts _ _ h).0 (omega arith)
@@ -153,12 +155,37 @@ put_behind (m ∷ front) rest l sorted =
 abbrev set_entry : LimitList → List ℕ × ℕ → LimitList
 set_entry limits entry = with_limit limits entry.0 entry.1
 
-set_behind : (front rest : LimitList) → is_sorted byte_cmp (front ++ rest) ≡ true → fold set_entry front rest ≡ front ++ rest
+abbrev pub set_all : LimitList → LimitList → LimitList
+set_all = fold set_entry
+
+set_behind : (front rest : LimitList) → is_sorted byte_cmp (front ++ rest) ≡ true → set_all front rest ≡ front ++ rest
 set_behind front [] sorted = sym (append-nil front)
 set_behind front (l ∷ rest) sorted =
     let split : (front ++ l ∷ []) ++ rest ≡ front ++ l ∷ rest = append_assoc front (l ∷ []) rest in
-    ap (λ (ls : LimitList). fold set_entry ls rest) (put_behind front rest l sorted)
+    ap (λ (ls : LimitList). set_all ls rest) (put_behind front rest l sorted)
     ∙ set_behind (front ++ l ∷ []) rest (ap (is_sorted byte_cmp) split ∙ sorted) ∙ split
 
 pub limits_of-sorted : (limits : LimitList) → is_sorted byte_cmp limits ≡ true → limits_of limits ≡ limits
 limits_of-sorted limits sorted = set_behind [] limits sorted
+
+-- ---- what a job has after others were set
+
+pub own_limit-with_limit : (limits : LimitList) (job : List ℕ) (limit : ℕ) (name : List ℕ) → own_limit (with_limit limits job limit) name ≡ cond (bytes_eq name job) limit (own_limit limits name)
+own_limit-with_limit limits job limit name =
+    ap (λ (o : Option ℕ). unwrap_or o 0) (find-put byte_cmp nat_list_cmp_total name job limit limits ∙ ap (λ b. cond b (Some limit) (find byte_cmp name limits)) (is_eq-slice_cmp name job))
+    ∙ either (bytes_eq name job)
+  where
+    either : (b : Bool) → unwrap_or (cond b (Some limit) (find byte_cmp name limits)) 0 ≡ cond b limit (own_limit limits name)
+    either true = refl
+    either false = refl
+
+abbrev later : List ℕ → ℕ → List ℕ × ℕ → ℕ
+later job limit entry = cond (bytes_eq job entry.0) entry.1 limit
+
+last_from : (entries limits : LimitList) (job : List ℕ) → own_limit (set_all limits entries) job ≡ fold (later job) (own_limit limits job) entries
+last_from [] limits job = refl
+last_from (e ∷ entries) limits job = last_from entries (set_entry limits e) job ∙ ap (λ n. fold (later job) n entries) (own_limit-with_limit limits e.0 e.1 job)
+
+-- the last entry of a job holds
+pub last_holds : (entries : LimitList) (job : List ℕ) → own_limit (limits_of entries) job ≡ last_limit entries job
+last_holds entries job = last_from entries [] job

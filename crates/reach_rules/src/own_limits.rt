@@ -1,11 +1,17 @@
 //! The limits that a collector has of its own.
-ghost use Rattle.std.specs.Prelude.{◌≡◌, ◌↔◌, [], IfOk, IfErr, OnOk, OnErr, IsTrue};
+ghost use Rattle.std.specs.Prelude.{◌≡◌, ◌↔◌, List, ℕ, [], Some, option_map, IfOk, IfErr, OnOk, OnErr, IsTrue, if◌then◌else◌};
 ghost use Rattle.std.specs.FinMap.{is_sorted};
+ghost use Rattle.std.specs.Str.{bytes_eq};
+ghost use Rattle.serde_json.specs.View.{view, members_view};
 ghost use Rattle.reach_rules.specs.Name.{byte_cmp};
-ghost use Rattle.reach_rules.specs.OwnLimits.{own_limit, with_limit, limits_of};
+ghost use Rattle.reach_rules.specs.OwnLimits.{own_limit, with_limit, limits_of, last_limit, entries_in, limits_in, limits_data};
+ghost use Rattle.reach_rules.specs.Spelling.{Gives};
 ghost use Rattle.reach_rules.specs.inner.Places.{IsHere, IsGap};
 
+use crate::error::ReachError;
+use json_values::{Spelled, number};
 use lists::{Plain, Text};
+use serde_json::{Map, Value};
 use std::alloc::{AllocError, Global};
 use std::cmp::Ordering;
 use std::marker::Model;
@@ -40,9 +46,10 @@ impl OwnLimits {
         }
     }
 
-    /// The entries set one after the other, so of several entries of a job the last holds.
+    /// The limits of entries, of which the last of a job holds.
     pub fn of(alloc: Global, entries: &[(Text, u32)]) -> Result<OwnLimits, AllocError>
-        ensures { IfOk result (λ l. l ≡ limits_of entries.now) }
+        ensures limits { IfOk result (λ l. l ≡ limits_of entries.now) }
+        ensures last { IfOk result (λ l. (job : List ℕ) → own_limit l job ≡ last_limit entries.now job) }
     {
         let mut limits = OwnLimits::none(alloc);
         for entry in entries {
@@ -54,6 +61,8 @@ impl OwnLimits {
     /// Gives a job a limit, in place of the one that it had.
     pub fn set(&mut self, job: &str, limit: u32) -> Result<(), AllocError>
         ensures ok { OnOk result (self.new ≡ with_limit self.old job.now limit) }
+        ensures limits { OnOk result ((name : List ℕ) →
+            own_limit self.new name ≡ (if bytes_eq name job.now then limit else own_limit self.old name)) }
         ensures err { OnErr result (self.new ≡ self.old) }
     {
         put(&mut self.entries, job, limit)?;
@@ -82,6 +91,17 @@ impl OwnLimits {
     }
 }
 
+impl OwnLimits {
+    /// The limits that a JSON value spells: an object from names of jobs to whole numbers of at most 32 bits. Another shape
+    /// is refused as `Shape`.
+    pub fn read(alloc: Global, value: &Value) -> Result<OwnLimits, ReachError>
+        ensures { Gives result (limits_in (view value.now)) }
+    {
+        let members = value.as_object().ok_or(ReachError::Shape)?;
+        read_members(alloc, members)
+    }
+}
+
 impl Plain for OwnLimits {
     fn copy(&self) -> Result<OwnLimits, AllocError> {
         OwnLimits::of(*self.entries.allocator(), self.entries.as_slice())
@@ -90,6 +110,65 @@ impl Plain for OwnLimits {
     fn same(&self, other: &OwnLimits) -> bool {
         all_same(self.entries.as_slice(), other.entries.as_slice())
     }
+}
+
+impl Spelled for OwnLimits {
+    ghost spelled = { limits_in };
+
+    fn read(alloc: Global, value: &Value) -> Result<Option<OwnLimits>, AllocError> {
+        match OwnLimits::read(alloc, value) {
+            Ok(limits) => Ok(Some(limits)),
+            Err(ReachError::Memory) => Err(AllocError),
+            Err(_) => Ok(None),
+        }
+    }
+
+    ghost spelling = { limits_data };
+
+    fn write(&self, alloc: Global) -> Result<Value, AllocError> {
+        object_of(alloc, self.entries.as_slice())
+    }
+}
+
+/// Whether two slices have equal entries.
+fn all_same(entries: &[(Text, u32)], others: &[(Text, u32)]) -> bool
+    ensures { IsTrue result ↔ (entries.now ≡ others.now) }
+{
+    if entries.len() != others.len() {
+        return false;
+    }
+    for i in 0..entries.len() {
+        if !entries[i].same(&others[i]) {
+            return false;
+        }
+    }
+    true
+}
+
+/// The limits that an object's members spell.
+fn read_members(alloc: Global, members: &Map<String, Value>) -> Result<OwnLimits, ReachError>
+    ensures { Gives result (option_map limits_of (entries_in (members_view members.now.entries))) }
+{
+    let mut limits = OwnLimits::none(alloc);
+    for (job, value) in members.iter() {
+        let limit = number(value).ok_or(ReachError::Shape)?;
+        limits.set(job.as_str(), limit)?;
+    }
+    Ok(limits)
+}
+
+/// The object of the entries.
+fn object_of(alloc: Global, entries: &[(Text, u32)]) -> Result<Value, AllocError>
+    requires { IsTrue (is_sorted byte_cmp entries.now) }
+    ensures form { IfOk result (λ v. view v ≡ limits_data entries.now) }
+    ensures reads_back { IfOk result (λ v. limits_in (view v) ≡ Some entries.now) }
+{
+    let mut members = Map::new(alloc);
+    for entry in entries {
+        let limit = entry.1.write(alloc)?;
+        serde_json::put(&mut members, alloc, entry.0.as_str(), limit)?;
+    }
+    Ok(Value::Object(members))
 }
 
 /// Where the name stands, or where it would be put.
@@ -137,19 +216,4 @@ fn put(entries: &mut Vec<(Text, u32)>, job: &str, limit: u32) -> Result<(), Allo
             Ok(())
         }
     }
-}
-
-/// Whether two slices have equal entries.
-fn all_same(entries: &[(Text, u32)], others: &[(Text, u32)]) -> bool
-    ensures { IsTrue result ↔ (entries.now ≡ others.now) }
-{
-    if entries.len() != others.len() {
-        return false;
-    }
-    for i in 0..entries.len() {
-        if !entries[i].same(&others[i]) {
-            return false;
-        }
-    }
-    true
 }

@@ -1,3 +1,4 @@
+mod own_limits;
 mod table;
 
 use crate::{CollectorName, NameError, Reach, ReachError};

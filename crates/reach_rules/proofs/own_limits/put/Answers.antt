@@ -1,4 +1,3 @@
-use Rattle.std.proofs.Common.{◌∙◌}
 use Rattle.reach_rules.proofs.Limits.{with_limit_from_here, with_limit_from_gap}
 use Rattle.reach_rules.proofs.own_limits.put.Goals as goal
 
