@@ -7,6 +7,8 @@ mod limits;
 mod reallocation;
 mod record;
 mod spare;
+#[cfg(test)]
+mod tests;
 
 pub use entry::Entry;
 pub use limits::MOST_ENTRIES;
