@@ -200,10 +200,10 @@ impl Instance {
     pub fn weight(&self, item: usize, bin: usize) -> u32
         ensures { result ≡ weight_of self.now item bin }
     {
-        let place = if self.drains(bin) {
-            self.cover_worth()
-        } else {
-            self.cover_worth() + self.steady_worth()
+        let place = match self.version {
+            Version::One => self.cover_worth(),
+            Version::Two if self.drains(bin) => self.cover_worth(),
+            Version::Two => self.cover_worth() + self.steady_worth(),
         };
         match self.before(item) {
             Some(home) if home as usize == bin => place + 1,
