@@ -15,7 +15,7 @@ use crate::seating::Seating;
 use crate::start::start;
 use crate::walks::{Walks, is_waiting, walk_if_due};
 use lists::List;
-use price_certificate::{Instance, Plan};
+use price_certificate::{Instance, MOST_BINS, Plan};
 use std::alloc::{AllocError, Global};
 
 /// How much was searched.
@@ -70,7 +70,7 @@ fn pairs(
     seating: &Seating,
 ) -> Result<Vec<(u32, u32)>, AllocError>
     requires items { length seating.now.seats ≡ items_of instance.now }
-    requires bins { (t b : ℕ) → seat seating.now.seats t ≡ Some b → b < 16384 }
+    requires bins { (t b : ℕ) → seat seating.now.seats t ≡ Some b → b < MOST_BINS }
     ensures { IfOk result (λ v. v.items ≡ pairs_of seating.now.seats) }
 {
     let mut pairs = Vec::new(alloc);

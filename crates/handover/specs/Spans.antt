@@ -2,6 +2,7 @@
 use Rattle.std.specs.Prelude.{◌≡◌, ℕ, zero, suc, ◌<◌, ◌≤◌, ◌==◌, ◌&&◌, Bool, false, not, ◌⊎◌, List, [], ◌∷◌, ◌++◌, if◌then◌else◌, length, nat_le, filter, Option, Some, None}
 use Rattle.handover.specs.Handover.{beside}
 use Rattle.handover.specs.declared.spans.Span.{Span}
+use Rattle.handover.specs.declared.spans.TheConstants.{OPEN}
 
 -- the spans of one target in order of number, and how many more there is room for
 pub record Row : Type 0 where
@@ -46,7 +47,7 @@ lists_of rows (suc before) = lists_of rows before ++ pairs_from rows 0 (suc befo
 
 -- a span that is open at a number ends with it
 abbrev pub ended : ℕ → Span → Span
-ended number span = if span.last == 4294967295 then record span { last = number } else span
+ended number span = if span.last == OPEN then record span { last = number } else span
 
 -- the spans, the last of which ends with a number if it is open
 abbrev pub closed : ℕ → List Span → List Span
@@ -56,7 +57,7 @@ closed number (span ∷ next ∷ spans) = span ∷ closed number (next ∷ spans
 
 -- the spans, and one that is open from a number on
 abbrev pub opened : ℕ → ℕ → List Span → List Span
-opened number collector spans = spans ++ record { first = number; last = 4294967295; collector = collector } ∷ []
+opened number collector spans = spans ++ record { first = number; last = OPEN; collector = collector } ∷ []
 
 -- the spans of a target after one change for each pair of the target
 abbrev pub changed : (ℕ → List Span → List Span) → List (ℕ × ℕ) → ℕ → List Span → List Span
@@ -78,7 +79,7 @@ without others pairs = filter (λ (q : ℕ × ℕ). not (is_beside others q.0 q.
 
 -- a span with this last number ended before the current number, or is open
 abbrev pub HasEnd : ℕ → ℕ → Type 0
-HasEnd number last = (last < number) ⊎ (last ≡ 4294967295)
+HasEnd number last = (last < number) ⊎ (last ≡ OPEN)
 
 -- the spans begin after one number and up to the current one, each after the end of the one before. So the last alone may be open
 abbrev pub AreSpans : ℕ → ℕ → List Span → Type 0

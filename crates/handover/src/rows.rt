@@ -3,6 +3,7 @@ ghost use Rattle.std.specs.Prelude.{◌≡◌, ◌==◌, if◌then◌else◌, �
 ghost use Rattle.handover.specs.Handover.{targets_of};
 ghost use Rattle.handover.specs.Spans.{holder_at, spans_of, room_of, pairs_from, lists_of, closed, opened, changed, is_beside, without, AreRows, IsKept};
 
+use crate::holders::LAST_NUMBER;
 use crate::spans::Spans;
 use std::alloc::{AllocError, Global};
 
@@ -140,7 +141,7 @@ pub(crate) fn follow(
 ) -> Result<(), AllocError>
     requires kept { IsKept number current.now rows.old.items }
     requires ascending { AllPairs (λ (a b : ℕ × ℕ). a.0 < b.0) pairs.now }
-    requires numbers { number + 1 ≤ 4294967295 }
+    requires numbers { number + 1 ≤ LAST_NUMBER }
     ensures kept { OnOk result (IsKept (number + 1) pairs.now rows.new.items) }
     ensures lists { OnOk result (lists_of rows.new.items (number + 1) ≡ lists_of rows.old.items number ++ pairs.now ∷ []) }
     ensures err_kept { OnErr result (IsKept number current.now rows.new.items) }

@@ -3,7 +3,8 @@ use Rattle.std.proofs.Common.{◌≡◌, ◌+◌, ◌*◌, ◌<◌, ◌≤◌, �
 use Rattle.std.proofs.lemmas.Bool.{eq-eqb}
 use Rattle.std.proofs.lemmas.Bool.Decides.{nat_tests}
 use Rattle.std.proofs.Math.Nat.{mul-le-mul}
-use Rattle.price_certificate.specs.Problem.{Problem, IsProblem, items_of, capacity_by, capacity_of, cover_worth, steady_worth, weight_by, weight_of, top_weight, is_bin, was_in, before_of, drains, most_items}
+use Rattle.price_certificate.specs.Problem.{Problem, IsProblem, items_of, capacity_by, capacity_of, cover_worth, steady_worth, weight_by, weight_of, top_weight, is_bin, was_in, before_of, drains}
+use Rattle.price_certificate.specs.declared.shape.TheConstants.{MOST_ITEMS}
 use Rattle.price_certificate.specs.declared.version.Version.{Version}
 use Rattle.price_certificate.specs.declared.version.Version.TheVariants.{One, Two}
 
@@ -38,11 +39,11 @@ levels-apart One items = omega arith
 levels-apart Two items = omega arith
 
 -- the levels fit 32 bits
-cover-small : (version : Version) (items : ℕ) → items ≤ most_items → cover_worth version items ≤ 268468225
+cover-small : (version : Version) (items : ℕ) → items ≤ MOST_ITEMS → cover_worth version items ≤ 268468225
 cover-small One items h = omega arith
 cover-small Two items h = (let l : items + 1 ≤ 16385 = omega arith in mul-le-mul l l)
 
-steady-small : (version : Version) (items : ℕ) → items ≤ most_items → steady_worth version items ≤ 16385
+steady-small : (version : Version) (items : ℕ) → items ≤ MOST_ITEMS → steady_worth version items ≤ 16385
 steady-small One items h = omega arith
 steady-small Two items h = omega arith
 

@@ -3,6 +3,7 @@
 use Rattle.std.specs.Prelude.{◌≡◌, ◌==◌, ◌+◌, ◌*◌, ◌<◌, ◌≤◌, ℕ, Bool, false, List, Option, Some, None, Contains, All, [], ◌∷◌, length, slice_index, slice_index_or, sum_by, count_by, is_some, if◌then◌else◌, min}
 use Rattle.std.specs.List.{list_any}
 use Rattle.std.specs.List.Sorted.{IsStrictlyIncreasing}
+use Rattle.price_certificate.specs.declared.shape.TheConstants.{MOST_BINS, MOST_ITEMS, MOST_PAIRS}
 use Rattle.price_certificate.specs.declared.version.Version.{Version}
 use Rattle.price_certificate.specs.declared.version.Version.TheVariants.{One, Two}
 
@@ -77,16 +78,6 @@ weight_of p item bin = weight_by p.version (items_of p) (drains p bin) (was_in p
 unfoldable pub top_weight : Problem → ℕ
 top_weight p = cover_worth p.version (items_of p) + steady_worth p.version (items_of p) + 1
 
--- how many items, bins and allowed pairs there may be
-abbrev pub most_items : ℕ
-most_items = 16384
-
-abbrev pub most_bins : ℕ
-most_bins = 16384
-
-abbrev pub most_pairs : ℕ
-most_pairs = 4194304
-
 -- the bins of a row ascend and are bins of the instance
 pub record IsRow (bins : ℕ) (row : List ℕ) : Type 0 where
   pub ascending : IsStrictlyIncreasing row
@@ -94,9 +85,9 @@ pub record IsRow (bins : ℕ) (row : List ℕ) : Type 0 where
 
 -- limits and rows within the limits
 pub record IsReach (limits : List ℕ) (rows : List (List ℕ)) : Type 0 where
-  pub items : length rows ≤ most_items
-  pub bins : length limits ≤ most_bins
-  pub pairs : sum_by length rows ≤ most_pairs
+  pub items : length rows ≤ MOST_ITEMS
+  pub bins : length limits ≤ MOST_BINS
+  pub pairs : sum_by length rows ≤ MOST_PAIRS
   pub each_row : All (IsRow (length limits)) rows
 
 -- a list of pairs names items and bins in range, and no item twice
