@@ -8,7 +8,7 @@ ghost use Rattle.price_certificate.specs.Certificate.{sum_below};
 ghost use Rattle.price_certificate.specs.Faults.{pair_at, length_fault, number_fault, repeat_fault, reach_fault, limit_fault, row_fault, price_fault, sum_fault, weight_sum, IsCounted};
 
 use crate::instance::Instance;
-use crate::shape::MOST_ITEMS;
+use crate::shape::{MOST_ITEMS, no_marks};
 use crate::verdict::Fault;
 use std::alloc::{AllocError, Global};
 
@@ -58,7 +58,7 @@ pub(crate) fn find_item_twice(
     requires { (place : ℕ) → place < length pairs.now → (pair_at pairs.now place).0 < items }
     ensures { IfOk result (λ f. f ≡ repeat_fault pairs.now) }
 {
-    let mut seen = unseen(alloc, items)?;
+    let mut seen = no_marks(alloc, items)?;
     for place in 0..pairs.len() {
         let item = pairs[place].0;
         if seen[item as usize] {
@@ -67,13 +67,6 @@ pub(crate) fn find_item_twice(
         seen[item as usize] = true;
     }
     Ok(None)
-}
-
-/// A mark for each item, none of them set.
-fn unseen(alloc: Global, items: usize) -> Result<Vec<bool>, AllocError>
-    ensures { IfOk result (λ v. v.items ≡ replicate items false) }
-{
-    vec![in alloc; false; items]
 }
 
 /// The first pair that is not allowed.

@@ -131,9 +131,9 @@ pub(crate) fn marks(alloc: Global, bins: usize, draining: &[u32]) -> Result<Vec<
     Ok(marks)
 }
 
-/// No mark for any bin.
-fn no_marks(alloc: Global, bins: usize) -> Result<Vec<bool>, AllocError>
-    ensures { IfOk result (λ v. v.items ≡ replicate bins false) }
+/// So many marks, none of them set.
+pub(crate) fn no_marks(alloc: Global, count: usize) -> Result<Vec<bool>, AllocError>
+    ensures { IfOk result (λ v. v.items ≡ replicate count false) }
 {
-    vec![in alloc; false; bins]
+    vec![in alloc; false; count]
 }
