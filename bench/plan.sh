@@ -10,27 +10,27 @@ programs=$(bench_programs)
 folder=$(mktemp -d)
 trap 'rm -rf "$folder"' EXIT
 runs=${RUNS:-3}
-patience=20
+patience=20 # processor seconds of a run of LEMON
 c++ -O3 -o "$folder/lemon" "$root/bench/lemon.cpp" -llemon
 families=("$@")
 [ $# -gt 0 ] || families=(ring ring-less dense dense-before dense-one fleet sparse sparse-before sparse-long sparse-long-before
     chain crowd gate gate-few stairs stairs-steps flat ladder draining draining-dense draining-tight)
 
-# least seconds and most megabytes of the runs of a command on a file
+# least seconds and most megabytes of the runs of a command on a file, whose output goes to $folder/said
 measure() {
-    python3 "$root/bench/measure.py" "$1" "$runs" "${@:2}"
+    python3 "$root/bench/measure.py" --output "$folder/said" "$1" "$runs" "${@:2}"
 }
 
-# least seconds of LEMON on the instance, whose verdict has to be this one, or that it takes too long
+# least seconds of LEMON on the instance, whose verdict has to be this one, or that a run of it takes too long
 lemon_seconds() {
     local said seconds
-    said=$(timeout "$patience" "$folder/lemon" "$1" < "$folder/instance" | head -1)
-    if [ -z "$said" ]; then
+    read -r seconds _ < <(ulimit -t "$patience"; measure "$folder/instance" "$folder/lemon" "$1" 2> /dev/null)
+    if [ -z "$seconds" ]; then
         echo "over $patience"
         return
     fi
+    said=$(head -1 "$folder/said")
     [ "best $said" = "$2" ] || { echo "LEMON says $said, check $2" >&2; exit 1; }
-    read -r seconds _ < <(measure "$folder/instance" "$folder/lemon" "$1")
     echo "$seconds"
 }
 

@@ -1,9 +1,10 @@
 -- A legal journal stays legal over an event with its answer.
 use Rattle.std.proofs.Common.{◌≡◌, List, [], ◌∷◌, ◌++◌, refl, ap, sym, ◌∙◌, subst}
-use Rattle.allocation_core.specs.State.{State}
+use Rattle.fleet.specs.declared.job.JobSpec.{JobSpec}
+use Rattle.allocation_core.specs.State.{State, first_state}
 use Rattle.allocation_core.specs.Steps.{answer_of, state_after}
 use Rattle.allocation_core.specs.Runs.{answers_of, state_of}
-use Rattle.allocation_core.proofs.RunLemmas.{answers_of_push, state_of_push}
+use Rattle.allocation_core.proofs.RunLemmas.{answers_of_push, state_of_append, state_of_push}
 use Rattle.fleet_events.specs.declared.event.Event.{Event}
 use Rattle.fleet_events.specs.declared.answer.Answer.{Answer}
 use Rattle.alloc_desk.specs.declared.entry.Entry.{Entry}
@@ -17,7 +18,7 @@ answers_in_push : (es : List Entry) (e : Entry) → answers_in (es ++ e ∷ []) 
 answers_in_push [] e = refl
 answers_in_push (x ∷ es) e = ap (λ (answers : List Answer). x.answer ∷ answers) (answers_in_push es e)
 
-legal_push : (m : State) (es : List Entry) (n : State) (e : Entry) → IsLegal m es n → e.answer ≡ answer_of n e.event → IsLegal m (es ++ e ∷ []) (state_after n e.event)
+pub legal_push : (m : State) (es : List Entry) (n : State) (e : Entry) → IsLegal m es n → e.answer ≡ answer_of n e.event → IsLegal m (es ++ e ∷ []) (state_after n e.event)
 legal_push m es n e legal is = record {
   answers =
       answers_in_push es e
@@ -35,3 +36,9 @@ legal_after m h h' e journal state is legal =
     let Ends : State → Type 0 = IsLegal m h'.journal in
     let From : List Entry → Type 0 = λ es. IsLegal m es (state_after h.state e.event) in
     subst Ends (sym state) (subst From (sym journal) (legal_push m h.journal h.state e legal is))
+
+-- where a legal journal ends, after what came before it
+pub ends_at : {m n : State} {es : List Entry} (jobs : List JobSpec) (earlier : List Event) → IsLegal m es n → m ≡ state_of (first_state jobs) earlier
+    → n ≡ state_of (first_state jobs) (earlier ++ events_in es)
+ends_at {es = es} jobs earlier legal opened =
+    legal.state ∙ (ap (λ (s : State). state_of s (events_in es)) opened ∙ sym (state_of_append (first_state jobs) earlier (events_in es)))

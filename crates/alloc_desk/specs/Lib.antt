@@ -1,3 +1,11 @@
+pub mod Attempts
+pub mod Changed
+pub mod Counts
+pub mod Gains
 pub mod History
+pub mod Reached
+pub mod Reallocating
 pub mod Reallocation
+pub mod Receipts
 pub mod Spare
+pub mod Views

@@ -1,7 +1,9 @@
 //! An entry of a journal.
+ghost use Rattle.std.specs.Prelude.{◌≡◌, IfOk, drop, take};
+
 use allocation_core::{Answer, Event};
-use lists::Plain;
-use std::alloc::AllocError;
+use lists::{List, Plain};
+use std::alloc::{AllocError, Global};
 
 /// One event, and how it was answered.
 #[derive(Debug, Drop)]
@@ -26,4 +28,27 @@ impl Plain for Entry {
     fn same(&self, other: &Entry) -> bool {
         self.event.same(&other.event) && self.seat == other.seat && self.answer.same(&other.answer)
     }
+}
+
+/// Copies of the entries from a position on, at most so many.
+pub(crate) fn entries(
+    alloc: Global,
+    journal: &[Entry],
+    from: usize,
+    most: usize,
+) -> Result<List<Entry>, AllocError>
+    ensures { IfOk result (λ l. l ≡ take most (drop from journal.now)) }
+{
+    let rest = journal.get(from..).unwrap_or(&[]);
+    copies(alloc, rest.get(..most).unwrap_or(rest))
+}
+
+fn copies(alloc: Global, entries: &[Entry]) -> Result<List<Entry>, AllocError>
+    ensures { IfOk result (λ l. l ≡ entries.now) }
+{
+    let mut copies = List::new(alloc);
+    for entry in entries {
+        copies.push(entry.copy()?)?;
+    }
+    Ok(copies)
 }

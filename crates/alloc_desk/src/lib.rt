@@ -1,16 +1,38 @@
-//! What calls both the engine and the machine: a plan for the moment is searched and installed; and the machine with the
-//! journal of what it was asked and answered.
+//! The allocator shared by threads: under a lock, with a journal of what it was asked and answered, and with passes that count what
+//! they did; and what calls both the engine and the machine: a plan for the moment is searched and installed.
+//!
+//! Contracts see a desk through its name, which has the opening state. What a pass is told is told of some history that is legal from
+//! there and has at least what the pass did; a closed desk's journal is legal as it stands.
 #![tactic(auto)]
 
+mod attempt;
+mod changed;
+mod closed;
+mod desk;
 mod entry;
+mod gains;
+mod laws;
 mod limits;
+mod name;
+mod pass;
 mod reallocation;
+mod receipt;
 mod record;
+mod shelf;
 mod spare;
 #[cfg(test)]
 mod tests;
+mod view;
 
+pub use attempt::{Lost, ReallocateError, Reallocated};
+pub use closed::Closed;
+pub use desk::{Desk, PassMissing};
 pub use entry::Entry;
-pub use limits::MOST_ENTRIES;
+pub use laws::closed_desks_are_best_and_booked;
+pub use limits::{MOST_ENTRIES, MOST_PASSES};
+pub use name::DeskName;
+pub use pass::Pass;
 pub use reallocation::reallocate;
+pub use receipt::Receipt;
 pub use record::{EnterError, Record};
+pub use view::{CollectorView, NumberedTarget, Share, View};

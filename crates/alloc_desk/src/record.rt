@@ -3,9 +3,11 @@ ghost use Rattle.std.specs.Prelude.{◌≡◌, ◌↔◌, ◌+◌, ◌≤◌, []
 ghost use Rattle.scrape_books.specs.Books.{total_of};
 ghost use Rattle.allocation_core.specs.State.{State};
 ghost use Rattle.allocation_core.specs.Steps.{answer_of, state_after, gained};
+ghost use Rattle.alloc_desk.specs.Changed.{changed_in};
 ghost use Rattle.alloc_desk.specs.History.{IsLegal};
 ghost use Rattle.alloc_desk.specs.declared.limits.TheConstants.{MOST_ENTRIES};
 
+use crate::changed::changed_by;
 use crate::entry::Entry;
 use crate::limits::MOST_ENTRIES;
 use crate::spare::{copy_with, spare_of};
@@ -28,10 +30,12 @@ pub enum EnterError {
 pub struct Record {
     core: Core,
     journal: Vec<Entry>,
+    changed: bool,
 }
 
 impl Model for Record {
-    ghost use Rattle.std.specs.Prelude.{◌≤◌, length};
+    ghost use Rattle.std.specs.Prelude.{◌≡◌, ◌≤◌, length};
+    ghost use Rattle.alloc_desk.specs.Changed.{changed_in};
     ghost use Rattle.alloc_desk.specs.History.{History};
     ghost use Rattle.alloc_desk.specs.declared.limits.TheConstants.{MOST_ENTRIES};
 
@@ -39,7 +43,7 @@ impl Model for Record {
 
     ghost view = { λ r. record { state = r.core; journal = r.journal.items } };
 
-    ghost invariant = { λ r. length r.journal.items ≤ MOST_ENTRIES };
+    ghost invariant = { λ r. (length r.journal.items ≤ MOST_ENTRIES) × (r.changed ≡ changed_in r.journal.items) };
 }
 
 impl Record {
@@ -51,6 +55,7 @@ impl Record {
         Record {
             core,
             journal: Vec::new(alloc),
+            changed: true,
         }
     }
 
@@ -61,11 +66,26 @@ impl Record {
         &self.core
     }
 
+    /// The allocator alone.
+    pub fn into_core(self) -> Core
+        ensures { result ≡ self.state }
+    {
+        self.core
+    }
+
     /// The entries in order.
     pub fn journal(&self) -> &[Entry]
         ensures { result.now ≡ self.now.journal }
     {
         self.journal.as_slice()
+    }
+
+    /// Whether live targets, collectors, drainings or limits changed since the last reallocation of the journal; true where there
+    /// is none.
+    pub fn is_changed(&self) -> bool
+        ensures { result ≡ changed_in self.now.journal }
+    {
+        self.changed
     }
 
     /// Applies an event and writes it down with its answer. The result has the entry's position, from 0, and the answer.
@@ -97,6 +117,7 @@ impl Record {
         let Ok(answer) = self.core.apply(event) else {
             return Err(EnterError::Memory);
         };
+        self.changed = changed_by(self.changed, &answer);
         self.journal.push_reserved(Entry {
             event: copy,
             seat,

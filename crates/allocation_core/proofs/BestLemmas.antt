@@ -61,13 +61,13 @@ get_or-last (y ∷ xs) x zero e = absurd (omega arith)
 get_or-last (y ∷ xs) x (suc k) e = get_or-last xs x k (omega arith)
 
 -- no target stands twice in what is published
-step_once : Laws → (m : State) (e : Event) → All IsOnce m.published → All IsOnce (state_after m e).published
+pub step_once : Laws → (m : State) (e : Event) → All IsOnce m.published → All IsOnce (state_after m e).published
 step_once laws m e once = elim (publishes m e) [
   | inl same ↦ subst (λ (ps : List (List (ℕ × ℕ))). All IsOnce ps) (sym same) once
   | inr p ↦ subst (λ (ps : List (List (ℕ × ℕ))). All IsOnce ps) (sym p.grown) (All-push IsOnce m.published (allocation_at m p.plan.pairs) once (laws.once m.fleet p.plan.pairs))
 ]
 
-last_once : (published : List (List (ℕ × ℕ))) → All IsOnce published → IsOnce (last_of published)
+pub last_once : (published : List (List (ℕ × ℕ))) → All IsOnce published → IsOnce (last_of published)
 last_once [] once = λ target. omega arith
 last_once (pairs ∷ published) once = once (length published) [] (omega arith)
 
@@ -103,7 +103,7 @@ here_best laws m e es k kept once low high p =
       moves = over.moves ∙ ap (λ (ps : List (ℕ × ℕ)). moved_by m.fleet (current_pairs m) ps) (sym is);
     }
 
-run_best : Laws → (m : State) (es : List Event) (k : ℕ) → IsKept m → All IsOnce m.published → length m.published ≤ k → k < length (state_of m es).published → WasBest m es k (get_or (state_of m es).published k [])
+pub run_best : Laws → (m : State) (es : List Event) (k : ℕ) → IsKept m → All IsOnce m.published → length m.published ≤ k → k < length (state_of m es).published → WasBest m es k (get_or (state_of m es).published k [])
 run_best laws m [] k kept once low high = absurd (omega arith)
 run_best laws m (e ∷ es) k kept once low high = elim (cases_lt k (length (state_after m e).published)) [
   | inl l ↦ elim (publishes m e) [

@@ -68,7 +68,7 @@ pub record Stays (old new : List (ℕ × Entry)) : Type 0 where
   pub more : List (ℕ × Entry)
   pub is : new ≡ old ++ more
 
-step_stays : (m : State) (e : Event) → Stays m.booked (state_after m e).booked
+pub step_stays : (m : State) (e : Event) → Stays m.booked (state_after m e).booked
 step_stays m e = elim (books m e) [
   | inl same ↦ record { more = []; is = same ∙ sym (append-nil m.booked) }
   | inr p ↦ record { more = p.entry ∷ []; is = p.grown }
@@ -115,7 +115,7 @@ here_booked m e es k b low high there p =
       opened = p.free.opened;
     })
 
-run_booked : (m : State) (es : List Event) (k : ℕ) (b : ℕ × Entry) → length m.booked ≤ k → slice_get (state_of m es).booked k ≡ Some b → WasBooked m es k b
+pub run_booked : (m : State) (es : List Event) (k : ℕ) (b : ℕ × Entry) → length m.booked ≤ k → slice_get (state_of m es).booked k ≡ Some b → WasBooked m es k b
 run_booked m [] k b low there = none_some b (sym (slice_get_past m.booked k low) ∙ there)
 run_booked m (e ∷ es) k b low there = elim (cases_lt k (length (state_after m e).booked)) [
   | inl l ↦ elim (books m e) [
@@ -163,7 +163,7 @@ step_held m e held =
           (subst (λ (ps : List (List (ℕ × ℕ))). holder_in ps p.entry.1.number p.entry.0 ≡ Some p.entry.1.collector) (sym grown.is) (holder_stays m.published grown.more p.entry.1.number p.entry.0 p.entry.1.collector p.free.held)))
     ]
 
-run_held : (m : State) (es : List Event) → AreHeld m → AreHeld (state_of m es)
+pub run_held : (m : State) (es : List Event) → AreHeld m → AreHeld (state_of m es)
 run_held m [] held = held
 run_held m (e ∷ es) held = run_held (state_after m e) es (step_held m e held)
 
@@ -194,7 +194,7 @@ step_once m e kept once = elim (books m e) [
       subst RoundsRise (sym p.grown) (all_pairs_push (λ (a b : ℕ × Entry). a.0 ≡ b.0 → a.1.round < b.1.round) m.booked p.entry once earlier)
 ]
 
-run_once : (m : State) (es : List Event) → IsKept m → RoundsRise m.booked → RoundsRise (state_of m es).booked
+pub run_once : (m : State) (es : List Event) → IsKept m → RoundsRise m.booked → RoundsRise (state_of m es).booked
 run_once m [] kept once = once
 run_once m (e ∷ es) kept once = run_once (state_after m e) es (step_kept m e kept) (step_once m e kept once)
 

@@ -4,5 +4,6 @@ pub mod BestLemmas
 pub mod BookedLemmas
 pub mod FleetSteps
 pub mod InstalledLemmas
+pub mod RenewedLemmas
 pub mod RunLemmas
 pub mod StepLemmas

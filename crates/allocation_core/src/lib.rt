@@ -9,15 +9,17 @@ mod certificate;
 mod laws;
 mod limits;
 mod machine;
+mod renewal;
 mod runs;
 #[cfg(test)]
 mod tests;
 
-pub use fleet::{JobSpec, OpenError};
+pub use fleet::{Collector, JobSpec, OpenError};
 pub use fleet_events::{Answer, CollectorId, Event, Outcome, Refusal, Report, TargetId};
 pub use laws::{
     answers_fit, booked_by_holders, certified_are_installed, published_are_best, states_are_kept,
 };
 pub use limits::LAST_ROUND;
 pub use machine::Core;
+pub use renewal::{NotRenewed, RenewalError};
 pub use runs::{Stopped, run};

@@ -12,11 +12,12 @@ ghost use Rattle.allocation_core.specs.Kept.{IsKept};
 mod discovering;
 mod installing;
 mod joining;
+mod renewing;
 mod reporting;
 mod taking;
 
 use crate::certificate::{empty_instance, empty_plan};
-use fleet::{Fleet, JobSpec, OpenError};
+use fleet::{Collector, Fleet, JobSpec, OpenError};
 use fleet_events::{Answer, CollectorId, Event, TargetId};
 use handover::Holders;
 use label_sets::Target;
@@ -121,6 +122,13 @@ impl Core {
         ensures { result ≡ total_of self.now.booked }
     {
         self.books.total()
+    }
+
+    /// The live collectors in order of number.
+    pub fn collectors(&self) -> &[Collector]
+        ensures { result.now ≡ self.now.fleet.collectors }
+    {
+        self.fleet.collectors()
     }
 
     /// The number of the live collector of a name.

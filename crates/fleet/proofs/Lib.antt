@@ -5,4 +5,5 @@ pub mod KeptLemmas
 pub mod LiveLemmas
 pub mod Marks
 pub mod OrderLemmas
+pub mod PartsLemmas
 pub mod ReachedLemmas

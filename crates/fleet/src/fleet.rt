@@ -1,9 +1,10 @@
 //! The fleet, and how it changes.
-ghost use Rattle.std.specs.Prelude.{◌≡◌, ◌<◌, ◌↔◌, Some, None, Ok, Err, false, length, slice_get, MatchOption, IfOk, OnOk, OnErr};
-ghost use Rattle.fleet.specs.Fleet.{first_fleet, id_named, is_joined, live_of};
+ghost use Rattle.std.specs.Prelude.{◌≡◌, ◌<◌, ◌≤◌, ◌↔◌, Some, None, Ok, Err, false, true, length, slice_get, MatchOption, IfOk, OnOk, OnErr};
+ghost use Rattle.fleet.specs.Fleet.{first_fleet, id_named, is_joined, is_live, live_of};
 ghost use Rattle.fleet.specs.IsFleet.{IsFleet};
 ghost use Rattle.fleet.specs.Jobs.{are_jobs, sources_at};
 ghost use Rattle.fleet.specs.Changes.{listing_of, fleet_after_list, joining_of, join_refusal, fleet_after_join, fleet_after_leave, draining_of, fleet_after_drain, limiting_of, fleet_after_limits, kept_unless, relisted, IsChange};
+ghost use Rattle.fleet.specs.Live.{AreMarks};
 ghost use Rattle.fleet.specs.Reached.{reaches_at};
 
 use crate::collector::{
@@ -15,10 +16,11 @@ use crate::jobs::{are_for_jobs, are_jobs, job_named, nothing_listed, sources_at}
 use crate::known_target::KnownTarget;
 use crate::limits::{LAST_COLLECTOR, MOST_BINS, MOST_COLLECTORS};
 use crate::listing::list;
-use crate::live::live_numbers;
+use crate::live::{listed_marks, live_numbers};
 use crate::outcome::{
     DrainRefusal, Draining, JoinRefusal, Joining, Limiting, LimitsRefusal, ListRefusal, Listing,
 };
+use crate::parts::{known_set, reach_table};
 use indexmap::IndexSet;
 use label_sets::Target;
 use lists::List;
@@ -39,16 +41,17 @@ pub struct Fleet {
 }
 
 impl Model for Fleet {
-    ghost use Rattle.std.specs.Prelude.{◌≡◌};
+    ghost use Rattle.std.specs.Prelude.{◌≡◌, true};
     ghost use Rattle.fleet.specs.Fleet.{FleetState};
     ghost use Rattle.fleet.specs.IsFleet.{IsFleet};
+    ghost use Rattle.fleet.specs.Jobs.{are_jobs};
     ghost use Rattle.fleet.specs.Reached.{reach_rows};
 
     ghost Value = { FleetState };
 
     ghost view = { λ f. record { jobs = f.jobs; listed = f.listed.items; known = f.known.keys; collectors = f.collectors.items; last_collector = f.last_collector } };
 
-    ghost invariant = { λ f. IsFleet (record { jobs = f.jobs; listed = f.listed.items; known = f.known.keys; collectors = f.collectors.items; last_collector = f.last_collector }) × (f.table.rows ≡ reach_rows f.collectors.items f.known.keys) };
+    ghost invariant = { λ f. IsFleet (record { jobs = f.jobs; listed = f.listed.items; known = f.known.keys; collectors = f.collectors.items; last_collector = f.last_collector }) × (f.table.rows ≡ reach_rows f.collectors.items f.known.keys) × (are_jobs f.jobs ≡ true) };
 }
 
 impl Fleet {
@@ -69,6 +72,32 @@ impl Fleet {
             collectors: Vec::new(alloc),
             last_collector: 0,
             table: ReachTable::open(alloc),
+        })
+    }
+
+    /// The fleet of this state.
+    pub fn of_parts(
+        alloc: Global,
+        jobs: Vec<JobSpec>,
+        listed: Vec<List<List<usize>>>,
+        known: Vec<KnownTarget>,
+        collectors: Vec<Collector>,
+        last_collector: u32,
+    ) -> Result<Fleet, AllocError>
+        requires kept { IsFleet (record { jobs = jobs.items; listed = listed.items; known = known.items; collectors = collectors.items; last_collector = last_collector }) }
+        requires named { are_jobs jobs.items ≡ true }
+        ensures { IfOk result (λ f. f ≡ record { jobs = jobs.items; listed = listed.items; known = known.items; collectors = collectors.items; last_collector = last_collector }) }
+    {
+        let known = known_set(alloc, known)?;
+        let table = reach_table(alloc, collectors.as_slice(), known.as_slice())?;
+        Ok(Fleet {
+            alloc,
+            jobs: List::from_vec(jobs),
+            listed,
+            known,
+            collectors,
+            last_collector,
+            table,
         })
     }
 
@@ -230,13 +259,22 @@ impl Fleet {
     pub fn jobs(&self) -> &[JobSpec]
         ensures jobs { result.now ≡ self.now.jobs }
         ensures kept { IsFleet self.now }
+        ensures named { are_jobs self.now.jobs ≡ true }
     {
         self.jobs.as_slice()
     }
 
+    /// For each job and source the numbers of the targets that it lists, ascending.
+    pub fn listed(&self) -> &[List<List<usize>>]
+        ensures { result.now ≡ self.now.listed }
+    {
+        self.listed.as_slice()
+    }
+
     /// The live collectors in order of number.
     pub fn collectors(&self) -> &[Collector]
-        ensures { result.now ≡ self.now.collectors }
+        ensures collectors { result.now ≡ self.now.collectors }
+        ensures few { length result.now ≤ MOST_COLLECTORS }
     {
         self.collectors.as_slice()
     }
@@ -246,6 +284,21 @@ impl Fleet {
         ensures { result.now ≡ self.now.known }
     {
         self.known.as_slice()
+    }
+
+    /// The number of the collector that joined last, 0 where none did.
+    pub fn last_collector(&self) -> u32
+        ensures { result ≡ self.now.last_collector }
+    {
+        self.last_collector
+    }
+
+    /// Which of the known targets are live, by number.
+    pub fn live_marks(&self) -> Result<Vec<bool>, AllocError>
+        ensures each { IfOk result (λ v. length v.items ≡ length self.now.known) }
+        ensures marks { IfOk result (λ v. AreMarks (is_live self.now) v.items) }
+    {
+        listed_marks(self.alloc, self.listed.as_slice(), self.known.len())
     }
 
     /// The number of the live collector of a name.

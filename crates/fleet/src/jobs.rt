@@ -9,7 +9,7 @@ use lists::{List, Text};
 use std::alloc::{AllocError, Global};
 
 /// Whether there are not too many jobs, each with a name of its own.
-pub(crate) fn are_jobs(jobs: &[JobSpec]) -> bool
+pub fn are_jobs(jobs: &[JobSpec]) -> bool
     ensures { result ≡ are_jobs jobs.now }
 {
     if jobs.len() > MOST_JOBS {
@@ -27,10 +27,11 @@ pub(crate) fn are_jobs(jobs: &[JobSpec]) -> bool
 fn is_new_name(before: &[JobSpec], name: &str) -> bool
     ensures { result ≡ (not (bytes_eq name.now []) && not (is_job before.now name.now)) }
 {
-    !name.is_empty() && !has_name(before, name)
+    !name.is_empty() && !has_job(before, name)
 }
 
-fn has_name(jobs: &[JobSpec], name: &str) -> bool
+/// Whether one of the jobs has the name.
+pub fn has_job(jobs: &[JobSpec], name: &str) -> bool
     ensures { result ≡ is_job jobs.now name.now }
 {
     jobs.iter().any(|other| other.name.as_str() == name)
@@ -40,11 +41,11 @@ fn has_name(jobs: &[JobSpec], name: &str) -> bool
 pub(crate) fn are_for_jobs(jobs: &[JobSpec], limits: &[(Text, u32)]) -> bool
     ensures { result ≡ are_for_jobs jobs.now limits.now }
 {
-    limits.iter().all(|limit| has_name(jobs, limit.0.as_str()))
+    limits.iter().all(|limit| has_job(jobs, limit.0.as_str()))
 }
 
 /// The place of the job of a name.
-pub(crate) fn job_named(jobs: &[JobSpec], name: &str) -> Option<usize>
+pub fn job_named(jobs: &[JobSpec], name: &str) -> Option<usize>
     ensures { result ≡ job_named jobs.now name.now }
 {
     jobs.iter().position(|job| job.name.as_str() == name)

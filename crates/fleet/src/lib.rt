@@ -15,6 +15,7 @@ mod limits;
 mod listing;
 mod live;
 mod outcome;
+mod parts;
 mod share_limit;
 #[cfg(test)]
 mod tests;
@@ -23,6 +24,7 @@ pub use collector::Collector;
 pub use error::OpenError;
 pub use fleet::Fleet;
 pub use job::JobSpec;
+pub use jobs::{are_jobs, has_job, job_named};
 pub use known_target::KnownTarget;
 pub use laws::targets_are_entered;
 pub use limits::{

@@ -149,42 +149,52 @@ fn rows(alloc: Global, fleet: &Fleet, live: &[usize]) -> Result<Vec<List<u32>>, 
     ensures { IfOk result (λ v. v.items ≡ map (row_for fleet.now) live.now) }
 {
     let mut rows = Vec::with_capacity(alloc, live.len())?;
+    let mut bins = Vec::with_capacity(alloc, fleet.collectors().len())?;
     for number in live {
-        let row = row_at(alloc, fleet, *number)?;
-        rows.push(List::from_vec(row))?;
+        let row = row_at(alloc, fleet, *number, &mut bins)?;
+        rows.push(row)?;
     }
     Ok(rows)
 }
 
-fn row_at(alloc: Global, fleet: &Fleet, number: usize) -> Result<Vec<u32>, AllocError>
-    ensures { IfOk result (λ v. v.items ≡ row_for fleet.now number) }
-{
-    match fleet.known().get(number) {
-        Some(known) => row(alloc, fleet, number, known),
-        None => Ok(Vec::new(alloc)),
-    }
-}
-
-/// The bins of the target's job at the collectors that reach it.
-fn row(
+/// The bins that a target may use. They are gathered where there is room for them already, and copied from there.
+fn row_at(
     alloc: Global,
     fleet: &Fleet,
     number: usize,
+    bins: &mut Vec<u32>,
+) -> Result<List<u32>, AllocError>
+    ensures { IfOk result (λ row. row ≡ row_for fleet.now number) }
+{
+    bins.clear();
+    if let Some(known) = fleet.known().get(number) {
+        push_row(bins, fleet, number, known)?;
+    }
+    let row = Vec::from_slice(alloc, bins.as_slice())?;
+    Ok(List::from_vec(row))
+}
+
+/// Adds the bins of the target's job at the collectors that reach it.
+#[inline(never)]
+fn push_row(
+    bins: &mut Vec<u32>,
+    fleet: &Fleet,
+    number: usize,
     known: &KnownTarget,
-) -> Result<Vec<u32>, AllocError>
+) -> Result<(), AllocError>
     requires { slice_get fleet.now.known number ≡ Some known.now }
-    ensures { IfOk result (λ v. v.items ≡ row_from (length fleet.now.jobs) 0 fleet.now.collectors known.now) }
+    ensures { OnOk result (bins.new.items ≡ bins.old.items ++ row_from (length fleet.now.jobs) 0 fleet.now.collectors known.now) }
 {
     let jobs = fleet.jobs().len();
     let collectors = fleet.collectors().len();
-    let mut row = Vec::new(alloc);
+    let job = known.job;
     for place in 0..collectors {
-        let bin = bin_of(jobs, collectors, place, known.job);
+        let bin = bin_of(jobs, collectors, place, job);
         if fleet.reaches(place, number) {
-            row.push(bin)?;
+            bins.push(bin)?;
         }
     }
-    Ok(row)
+    Ok(())
 }
 
 /// The bin of a collector's place and a job's.

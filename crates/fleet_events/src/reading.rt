@@ -163,8 +163,9 @@ fn read_take(alloc: Global, value: &Value) -> Result<Option<Event>, AllocError>
     }
 }
 
+/// The report that a JSON object says, if it says one: the members of a report's event. What its member `event` says is not looked at.
 #[tactic(auto, unfolding(crate::specs::Reading::report_in))]
-fn read_report(alloc: Global, value: &Value) -> Result<Option<Event>, AllocError>
+pub fn read_report(alloc: Global, value: &Value) -> Result<Option<Event>, AllocError>
     ensures { IfOk result (λ o. o ≡ report_in (view value.now)) }
 {
     let Some(collector) = member(alloc, value, "collector")? else {

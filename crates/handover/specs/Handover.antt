@@ -11,6 +11,15 @@ pub record Handover : Type 0 where
 abbrev pub nothing_published : Handover
 nothing_published = record { published = []; taken = [] }
 
+-- the allocation alone, or nothing where it is empty
+abbrev pub only : List (ℕ × ℕ) → List (List (ℕ × ℕ))
+only [] = []
+only (q ∷ pairs) = (q ∷ pairs) ∷ []
+
+-- this allocation is the first and only one, and nobody took anything
+abbrev pub carried_over : List (ℕ × ℕ) → Handover
+carried_over pairs = record { published = only pairs; taken = [] }
+
 -- the allocation of a number, the empty one where there is none
 abbrev pub allocation_at : List (List (ℕ × ℕ)) → ℕ → List (ℕ × ℕ)
 allocation_at published zero = []

@@ -1,6 +1,6 @@
 //! The published allocations, and who took which.
 ghost use Rattle.std.specs.Prelude.{◌≡◌, ◌↔◌, ◌+◌, ◌<◌, ◌≤◌, ◌≢◌, ℕ, [], ◌∷◌, ◌++◌, Ok, Err, length, AllPairs, IfOk, OnOk, OnErr, nat_eq};
-ghost use Rattle.handover.specs.Handover.{nothing_published, last_of, holder_in, held_in, taken_by, with_taken};
+ghost use Rattle.handover.specs.Handover.{carried_over, nothing_published, last_of, holder_in, held_in, taken_by, with_taken};
 
 use crate::error::HoldersError;
 use crate::rows::{follow, held_at, holder_at, targets_of};
@@ -49,6 +49,24 @@ impl Holders {
         }
     }
 
+    /// This allocation is the only one, number 1; none is where it is empty. Nobody took anything.
+    pub fn carried_over(
+        alloc: Global,
+        pairs: List<(TargetId, CollectorId)>,
+    ) -> Result<Holders, AllocError>
+        requires ascending { AllPairs (λ (a b : ℕ × ℕ). a.0 < b.0) pairs }
+        ensures { IfOk result (λ h. h ≡ carried_over pairs) }
+    {
+        let mut holders = Holders::open(alloc);
+        if pairs.is_empty() {
+            return Ok(holders);
+        }
+        match holders.publish(pairs) {
+            Ok(_) => Ok(holders),
+            Err(_) => Err(AllocError),
+        }
+    }
+
     /// Publishes an allocation under the next number, and gives that number.
     pub fn publish(&mut self, pairs: List<(TargetId, CollectorId)>) -> Result<u32, HoldersError>
         requires ascending { AllPairs (λ (a b : ℕ × ℕ). a.0 < b.0) pairs }
@@ -82,7 +100,8 @@ impl Holders {
 
     /// The pairs of the current allocation, in order of target.
     pub fn current_pairs(&self) -> &[(TargetId, CollectorId)]
-        ensures { result.now ≡ last_of self.now.published }
+        ensures pairs { result.now ≡ last_of self.now.published }
+        ensures ascending { AllPairs (λ (a b : ℕ × ℕ). a.0 < b.0) result.now }
     {
         self.pairs.as_slice()
     }

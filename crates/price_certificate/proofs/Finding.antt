@@ -93,11 +93,11 @@ pub allowed_as : (p : Problem) (row : List ℕ) (item bin : ℕ) (r : Bool) → 
 allowed_as p row item bin r row_is r_is = ap (λ (xs : List ℕ). list_any (λ (b : ℕ). eqb b bin) xs) (sym row_is) ∙ sym r_is
 
 -- the pair that is priced too low, as its row was read
-pub low_as : (p : Problem) (us vs : List ℕ) (item place : ℕ) (row : List ℕ) (weight : ℕ) → row ≡ row_of p item → place < length row → first_below (price_fault_at p us vs item) place ≡ None → weight ≡ weight_of p item (get_or row place 0) → get_or us item 0 + get_or vs (get_or row place 0) 0 < weight → Some (PriceTooLow item (get_or row place 0)) ≡ row_fault p us vs item
-low_as p us vs item place row weight row_is l none weight_is low =
+pub low_as : (p : Problem) (us vs : List ℕ) (item place : ℕ) (row : List ℕ) → row ≡ row_of p item → place < length row → first_below (price_fault_at p us vs item) place ≡ None → get_or us item 0 + get_or vs (get_or row place 0) 0 < weight_of p item (get_or row place 0) → Some (PriceTooLow item (get_or row place 0)) ≡ row_fault p us vs item
+low_as p us vs item place row row_is l none low =
     let read : get_or row place 0 ≡ bin_at p item place = ap (λ (xs : List ℕ). get_or xs place 0) row_is in
     ap (λ (b : ℕ). Some (PriceTooLow item b)) read ∙ sym (found_low_price p us vs item place (omega (arith, ap (λ (xs : List ℕ). length xs) row_is)) none
-    (omega (arith, ap (λ (b : ℕ). get_or vs b 0) read, ap (λ (b : ℕ). weight_of p item b) read)))
+    (omega (arith, low, ap (λ (b : ℕ). get_or vs b 0) read, ap (λ (b : ℕ). weight_of p item b) read)))
 
 pub value_more : (p : Problem) (vs : List ℕ) (bin value capacity : ℕ) → capacity ≡ capacity_of p bin → value ≡ sum_below (λ b. capacity_of p b * get_or vs b 0) bin → value + capacity * get_or vs bin 0 ≡ sum_below (λ b. capacity_of p b * get_or vs b 0) (bin + 1)
 value_more p vs bin value capacity c_is v_is =

@@ -175,8 +175,8 @@ fn find_low_pair(
     let row = instance.row(item);
     for place in 0..row.len() {
         let bin = row[place];
-        let weight = instance.weight(item, bin as usize) as u64;
-        if price + (bin_prices[bin as usize] as u64) < weight {
+        let value = price + bin_prices[bin as usize] as u64;
+        if instance.is_worth_more(item, bin as usize, value) {
             return Some(Fault::PriceTooLow(item as u32, bin));
         }
     }

@@ -1,6 +1,6 @@
 //! Instances: what is asked of a plan.
-ghost use Rattle.std.specs.Prelude.{◌≡◌, ◌<◌, ◌≤◌, List, [], Some, IfOk, slice_index, count_by, is_some};
-ghost use Rattle.price_certificate.specs.Problem.{Problem, IsProblem, IsShaped, IsProblemOf, items_of, bins_of, drains, row_of, before_of, before_count, capacity_by, capacity_of, cover_worth, steady_worth, weight_of, top_weight};
+ghost use Rattle.std.specs.Prelude.{◌≡◌, ◌↔◌, ◌<◌, ◌≤◌, IsTrue, List, [], Some, IfOk, slice_index, count_by, is_some, if◌then◌else◌};
+ghost use Rattle.price_certificate.specs.Problem.{Problem, IsProblem, IsShaped, IsProblemOf, items_of, bins_of, drains, row_of, before_of, before_count, capacity_by, capacity_of, cover_worth, steady_worth, was_in, weight_of, top_weight};
 ghost use Rattle.price_certificate.specs.declared.version.Version.TheVariants.{One, Two};
 
 use crate::shape::{InstanceError, MOST_BINS, MOST_ITEMS, has_reach, is_row, marks, places};
@@ -205,10 +205,34 @@ impl Instance {
             Version::Two if self.drains(bin) => self.cover_worth(),
             Version::Two => self.cover_worth() + self.steady_worth(),
         };
+        place + self.kept_worth(item, bin)
+    }
+
+    /// What keeping an item where it was is worth, where that is this bin.
+    fn kept_worth(&self, item: usize, bin: usize) -> u32
+        ensures { result ≡ (if was_in self.now item bin then 1 else 0) }
+    {
         match self.before(item) {
-            Some(home) if home as usize == bin => place + 1,
-            _ => place,
+            Some(home) if home as usize == bin => 1,
+            _ => 0,
         }
+    }
+
+    /// Whether the pair of an item and a bin is worth more than a value. Whether the bin drains is looked for only where that
+    /// can matter.
+    pub(crate) fn is_worth_more(&self, item: usize, bin: usize, value: u64) -> bool
+        ensures { IsTrue result ↔ (value < weight_of self.now item bin) }
+    {
+        value < u64::from(self.weight_at_most(item, bin))
+            && value < u64::from(self.weight(item, bin))
+    }
+
+    /// What the pair of an item and a bin is worth unless the bin drains.
+    #[tactic(auto, unfolding(crate::specs::Problem::weight_by))]
+    fn weight_at_most(&self, item: usize, bin: usize) -> u32
+        ensures { weight_of self.now item bin ≤ result }
+    {
+        self.cover_worth() + self.steady_worth() + self.kept_worth(item, bin)
     }
 
     /// The greatest weight that a pair can have.

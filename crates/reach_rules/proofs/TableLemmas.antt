@@ -1,10 +1,13 @@
 -- Tables of rows: their spare room, and what is shown of them after a change.
 use Rattle.std.proofs.Common.{◌≡◌, ◌≢◌, ℕ, zero, suc, ◌+◌, ◌^◌, ◌<◌, ◌≤◌, Bool, true, false, List, [], ◌∷◌, length, get_or, set, cond, refl, sym, ap, ◌∙◌, arith, inl, inr, ◌⊎◌, subst}
-use Rattle.std.specs.Prelude.{◌==◌, filter, map, not}
+use Rattle.std.specs.Prelude.{◌==◌, filter, map, not, replicate}
 use Rattle.std.proofs.lemmas.Bool.{cases_eq}
 use Rattle.std.proofs.lemmas.List.{get_or-set_other, get_or-set_same, map-set, set-get_or}
+use Rattle.label_sets.specs.Target.{FinalTarget}
 use Rattle.reach_rules.specs.declared.row.Row.{Row}
-use Rattle.reach_rules.specs.Table.{ReachRow, rows_without, shown, spare_in}
+use Rattle.reach_rules.specs.declared.rule.ReachRule.{ReachRule}
+use Rattle.reach_rules.specs.Rules.{reaches}
+use Rattle.reach_rules.specs.Table.{ReachRow, answers, rows_without, shown, spare_in}
 
 pub spare_at : (rows : List Row) (k : ℕ) (d : Row) → k < length rows → spare_in rows ≤ (get_or rows k d).reached.spare
 spare_at [] k d less = absurd (omega arith)
@@ -40,3 +43,9 @@ not_by false row rows rest e = e
 pub shown_without : (rows : List Row) (id : ℕ) → map shown (filter (λ (row : Row). not (row.id == id)) rows) ≡ rows_without (map shown rows) id
 shown_without [] id = refl
 shown_without (row ∷ rows) id = not_by (not (row.id == id)) row (filter (λ (row : Row). not (row.id == id)) rows) (rows_without (map shown rows) id) (shown_without rows id)
+
+-- rules that say the same of every target
+pub answers_alike : (rules : List ReachRule) (targets : List FinalTarget) (count : ℕ) (answer : Bool) → ((target : FinalTarget) → reaches rules target ≡ answer) → count ≡ length targets → answers rules targets ≡ replicate count answer
+answers_alike rules [] count answer same e = ap (λ (n : ℕ). replicate n answer) (sym e)
+answers_alike rules (target ∷ targets) count answer same e =
+    ap (λ (b : Bool). b ∷ answers rules targets) (same target) ∙ ap (λ (bits : List Bool). answer ∷ bits) (answers_alike rules targets (length targets) answer same refl) ∙ ap (λ (n : ℕ). replicate n answer) (sym e)

@@ -1,5 +1,5 @@
 //! Rows of bits, kept in words of 64.
-ghost use Rattle.std.specs.Prelude.{◌≡◌, ◌≢◌, ◌<◌, ◌≤◌, ◌+◌, ◌*◌, ◌==◌, ◌++◌, ◌∷◌, ℕ, [], false, length, slice_index_or, IfOk, OnOk, OnErr};
+ghost use Rattle.std.specs.Prelude.{◌≡◌, ◌≢◌, ◌<◌, ◌≤◌, ◌+◌, ◌*◌, ◌==◌, ◌++◌, ◌∷◌, ℕ, [], false, length, replicate, slice_index_or, IfOk, OnOk, OnErr};
 ghost use Rattle.std.specs.Int.{bit_at};
 ghost use Rattle.reach_rules.specs.Bits.{bit_in};
 ghost use Rattle.reach_rules.specs.declared.bits.TheConstants.{MOST_WORDS};
@@ -74,6 +74,16 @@ impl BitRow {
         self.count += 1;
     }
 
+    /// Adds the same bit so many times, for which there is room.
+    pub(crate) fn push_all_reserved(&mut self, more: usize, bit: bool)
+        requires { more ≤ self.old.spare }
+        ensures { self.new.bits ≡ self.old.bits ++ replicate more bit }
+    {
+        let count = self.count + more;
+        put_bits(self.words.as_mut_slice(), self.count, count, bit);
+        self.count = count;
+    }
+
     /// The bit of a number. Past the last it is false.
     pub(crate) fn has(&self, number: usize) -> bool
         ensures { result ≡ slice_index_or self.now.bits number false }
@@ -101,6 +111,50 @@ fn is_set(words: &[u64], number: usize) -> bool
     ensures { result ≡ bit_in words.now number }
 {
     (words[number / WORD_BITS] >> (number % WORD_BITS)) & 1 == 1
+}
+
+/// Puts the bits of the numbers from one on and below another. What the last word has past them may be anything.
+fn put_bits(words: &mut [u64], from: usize, to: usize, bit: bool)
+    requires { to ≤ 64 * length words.old }
+    ensures same { length words.new ≡ length words.old }
+    ensures put { (number : ℕ) → from ≤ number → number < to → bit_in words.new number ≡ bit }
+    ensures others { (number : ℕ) → number < from → bit_in words.new number ≡ bit_in words.old number }
+{
+    let whole = from.div_ceil(WORD_BITS);
+    put_each(words, from, to.min(whole.saturating_mul(WORD_BITS)), bit);
+    put_words(words, whole, to.div_ceil(WORD_BITS), bit);
+}
+
+/// The same, bit by bit.
+fn put_each(words: &mut [u64], from: usize, to: usize, bit: bool)
+    requires { to ≤ 64 * length words.old }
+    ensures same { length words.new ≡ length words.old }
+    ensures put { (number : ℕ) → from ≤ number → number < to → bit_in words.new number ≡ bit }
+    ensures others { (number : ℕ) → number < from → bit_in words.new number ≡ bit_in words.old number }
+{
+    for number in from..to {
+        put_bit(words, number, bit);
+    }
+}
+
+/// Puts all bits of the words from one on and below another.
+fn put_words(words: &mut [u64], from: usize, to: usize, bit: bool)
+    requires { to ≤ length words.old }
+    ensures same { length words.new ≡ length words.old }
+    ensures put { (number : ℕ) → 64 * from ≤ number → number < 64 * to → bit_in words.new number ≡ bit }
+    ensures others { (number : ℕ) → number < 64 * from → bit_in words.new number ≡ bit_in words.old number }
+{
+    let full = word_of(bit);
+    for place in from..to {
+        words[place] = full;
+    }
+}
+
+/// The word whose bits are all the same.
+fn word_of(bit: bool) -> u64
+    ensures { (place : ℕ) → place < 64 → (bit_at result place == 1) ≡ bit }
+{
+    if bit { u64::MAX } else { 0 }
 }
 
 /// Puts the bit of a number.

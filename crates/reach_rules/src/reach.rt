@@ -1,6 +1,7 @@
 //! The rules by which a collector reaches targets.
-ghost use Rattle.std.specs.Prelude.{◌≡◌, ◌≢◌, ◌≤◌, ◌↔◌, length, IsTrue, IfOk, IfErr};
+ghost use Rattle.std.specs.Prelude.{◌≡◌, ◌≢◌, ◌≤◌, ◌↔◌, length, IsTrue, IfOk, IfErr, IfSome};
 ghost use Rattle.serde_json.specs.View.{view};
+ghost use Rattle.label_sets.specs.Target.{FinalTarget};
 ghost use Rattle.reach_rules.specs.Rules.{holds_on, reaches, Reaches};
 ghost use Rattle.reach_rules.specs.Spelling.{reach_spelled};
 ghost use Rattle.reach_rules.specs.declared.reach.TheConstants.{MOST_RULES};
@@ -65,6 +66,24 @@ impl Reach {
         ensures rule { IsTrue result ↔ Reaches self.now target.now }
     {
         decides(self.rules.as_slice(), target)
+    }
+
+    /// What it says of every target, where it needs to look at none to tell.
+    pub(crate) fn answer_to_all(&self) -> Option<bool>
+        ensures { IfSome result (λ answer. (target : FinalTarget) → reaches self.now target ≡ answer) }
+    {
+        decided(self.rules.as_slice())
+    }
+}
+
+/// What these rules say of every target, where the first of them holds on each or there is none.
+fn decided(rules: &[ReachRule]) -> Option<bool>
+    ensures { IfSome result (λ answer. (target : FinalTarget) → reaches rules.now target ≡ answer) }
+{
+    match rules.first() {
+        None => Some(false),
+        Some(rule) if matches!(&rule.test, ReachTest::Any) => Some(rule.allow),
+        Some(_) => None,
     }
 }
 

@@ -49,7 +49,18 @@ pub(crate) fn answer<T: HasTarget>(row: &mut Row, targets: &[T])
     push_answers(&mut row.reached, &row.reach, targets);
 }
 
+/// Adds the answers of a reach for these targets, for which there is room.
 fn push_answers<T: HasTarget>(reached: &mut BitRow, reach: &Reach, targets: &[T])
+    requires { length targets.now ≤ reached.old.spare }
+    ensures { reached.new.bits ≡ reached.old.bits ++ answers reach.now (map T.final_target targets.now) }
+{
+    match reach.answer_to_all() {
+        Some(answer) => reached.push_all_reserved(targets.len(), answer),
+        None => push_each_answer(reached, reach, targets),
+    }
+}
+
+fn push_each_answer<T: HasTarget>(reached: &mut BitRow, reach: &Reach, targets: &[T])
     requires { length targets.now ≤ reached.old.spare }
     ensures { reached.new.bits ≡ reached.old.bits ++ answers reach.now (map T.final_target targets.now) }
 {

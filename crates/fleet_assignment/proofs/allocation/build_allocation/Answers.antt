@@ -19,5 +19,5 @@ pub returns-clause-ascending : goal.returns-clause-ascending
 unfolding allocation_of
 returns-clause-ascending c =
     let is : c.from_vec.result ≡ allocation_of c.args.fleet.now c.args.pairs.now =
-    c.from_vec.ensures ∙ c.in_ok-pairs.ensures ∙ (λ i. pairs_from (length (c.jobs.ensures.jobs i)) (c.collectors.ensures i) (beside c.args.pairs.now) 0 (c.requires i)) in
+    c.from_vec.ensures ∙ c.in_ok-pairs.ensures ∙ (λ i. pairs_from (length (c.jobs.ensures.jobs i)) (c.collectors.ensures.collectors i) (beside c.args.pairs.now) 0 (c.requires i)) in
     subst (λ (ps : List (ℕ × ℕ)). AllPairs (λ (a b : ℕ × ℕ). a.0 < b.0) ps) (sym is) (allocation_ascending (record { fleet = c.args.fleet.now; before = [] }) c.args.pairs.now)

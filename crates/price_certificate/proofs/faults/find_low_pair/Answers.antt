@@ -12,5 +12,5 @@ bounds-bin_prices-bin c =
     let below : get_or row c.loop-place.place 0 < bins_of c.args.instance.now = All-get_or (λ b. b < bins_of c.args.instance.now) row c.loop-place.place 0 bound (is_row c.args.instance.now c.is_problem.ensures c.args.item c.requires.item).in_range in
     omega (arith, ap (λ (xs : List ℕ). get_or xs c.loop-place.place 0) c.row-row.ensures, below)
 
-pub returns-then-price-bin_prices : goal.returns-then-price-bin_prices
-returns-then-price-bin_prices c = low_as c.args.instance.now c.args.item_prices.now c.args.bin_prices.now c.args.item c.loop-place.place c.row-row.result.now c.weight-weight.result c.row-row.ensures c.loop-place-test.true c.loop-place.invariant c.weight-weight.ensures c.if-price-bin_prices.true
+pub returns-then-is_worth_more : goal.returns-then-is_worth_more
+returns-then-is_worth_more c = low_as c.args.instance.now c.args.item_prices.now c.args.bin_prices.now c.args.item c.loop-place.place c.row-row.result.now c.row-row.ensures c.loop-place-test.true c.loop-place.invariant (c.is_worth_more.ensures.0 c.if-is_worth_more.true)

@@ -10,5 +10,5 @@ returns-in-Some-clause-certified c = λ h.
     let kept : IsKept c.args.self.now = subst IsKept c.self.view_is c.self.invariant in
     let none : fault_of (instance_at c.args.self.now) c.args.plan.pairs c.args.plan.item_prices c.args.plan.bin_prices ≡ None = (c.no_fault_is_certified.ensures (instance_at c.args.self.now) c.args.plan.pairs c.args.plan.item_prices c.args.plan.bin_prices (c.instances_are_problems.ensures c.args.self.now.fleet (current_pairs c.args.self.now) kept.fleet)).1 h in
     let is : c.in_ok-instance.instance ≡ instance_at c.args.self.now =
-    c.in_ok-instance.ensures ∙ (λ i. instance_of c.self.inside.fleet (c.current_pairs-before.ensures i)) ∙ ap instance_at c.self.view_is in
+    c.in_ok-instance.ensures ∙ (λ i. instance_of c.self.inside.fleet (c.current_pairs-before.ensures.pairs i)) ∙ ap instance_at c.self.view_is in
     cc (none, is, c.in_ok-fault.ensures, c.in-Some.is)

@@ -7,4 +7,5 @@ pub invariant_of-self : goal.invariant_of-self
 invariant_of-self c = (
   written_kept _ _ _ _ _ c.as_mut_slice.ensures.value c.as_mut_slice.ensures.len c.begin_draining.ensures (λ x. refl) (λ x. refl) c.self.invariant.0,
   rows_written _ _ _ _ _ _ _ c.as_mut_slice.ensures.value c.as_mut_slice.ensures.len c.begin_draining.ensures (λ x. refl) (λ x. refl) c.self.invariant.1,
+  c.self.invariant.2,
 )

@@ -23,4 +23,4 @@ invariant_of-self-2 c =
     ∙ ap (λ (rows : List ReachRow). rows ++ row_of joins.id joins.reach (targets_of known) ∷ []) c.self.invariant.1
     ∙ rows_joined collectors joins known
     ∙ ap (λ (cs : List Collector). reach_rows cs known) (sym items) in
-    (joined_kept _ joins c.push_reserved.new.self.items c.self.invariant.0 none refl (omega arith) (grind (arith, common_steps)) (omega arith) items, rows)
+    (joined_kept _ joins c.push_reserved.new.self.items c.self.invariant.0 none refl (omega arith) (grind (arith, common_steps)) (omega arith) items, rows, c.self.invariant.2)

@@ -12,4 +12,4 @@ invariant_of-self c =
     let known = c.self.inside.known.keys in
     let rows =
     c.leave.ensures ∙ ap (λ (rows : List ReachRow). rows_without rows c.args.id) c.self.invariant.1 ∙ rows_left c.self.inside.collectors.items known c.args.id ∙ ap (λ (cs : List Collector). reach_rows cs known) (sym c.take_out.ensures) in
-    (rw c.take_out.ensures (leave_kept _ (λ (x : Collector). not (x.id == c.args.id)) c.self.invariant.0), rows)
+    (rw c.take_out.ensures (leave_kept _ (λ (x : Collector). not (x.id == c.args.id)) c.self.invariant.0), rows, c.self.invariant.2)

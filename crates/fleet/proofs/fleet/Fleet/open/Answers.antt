@@ -7,4 +7,4 @@ use Rattle.fleet.proofs.fleet.Fleet.open.Goals as goal
 
 pub invariant_of-result : goal.invariant_of-result
 invariant_of-result c =
-    (first_kept _ (grind (arith, common_steps)) (grind (arith, common_steps)) c.new-2.ensures.items refl, c.open.ensures ∙ ap (λ (cs : List Collector). reach_rows cs c.new.result.keys) (sym c.new-2.ensures.items))
+    (first_kept _ (grind (arith, common_steps)) (grind (arith, common_steps)) c.new-2.ensures.items refl, c.open.ensures ∙ ap (λ (cs : List Collector). reach_rows cs c.new.result.keys) (sym c.new-2.ensures.items), grind (arith, common_steps))

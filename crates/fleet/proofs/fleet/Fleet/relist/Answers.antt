@@ -15,4 +15,5 @@ invariant_of-self c =
       relisted_kept _ c.args.job c.args.source c.args.targets c.list.new.listed.items new c.self.invariant.0 (omega (arith, c.requires.job, ap (λ (m : FleetState). length m.jobs) c.self.view_is))
           (rw c.in-Ok-Ok.field-0-is at c.in-Ok-Ok.ensures.listed) c.in-Ok-Ok.ensures.known (rw c.in-Ok-Ok.field-0-is at c.in-Ok-Ok.ensures.change).0,
       rows,
+      c.self.invariant.2,
     )

@@ -1,0 +1,29 @@
+use Rattle.std.proofs.Common.{◌≡◌, ℕ, ◌≤◌, refl, ap, sym, ◌∙◌, arith, rules, length}
+use Rattle.std.specs.Prelude.{if◌then◌else◌}
+use Rattle.allocation_core.specs.Steps.{gained}
+use Rattle.alloc_desk.specs.Gains.{is_booked}
+use Rattle.alloc_desk.specs.Reached.{IsFull, IsReceipt}
+use Rattle.alloc_desk.specs.declared.limits.TheConstants.{MOST_ENTRIES}
+use Rattle.alloc_desk.proofs.GainLemmas.{gained_by}
+use Rattle.alloc_desk.proofs.ReachedLemmas.{accounted_push, reached}
+use Rattle.alloc_desk.proofs.shelf.Shelf.submit.Goals as goal
+
+pub invariant_of-self-2 : goal.invariant_of-self-2
+invariant_of-self-2 g c =
+    let e = c.in_ok-position.ensures in
+    let event = c.args.event in
+    let answer = c.in_ok-position.answer in
+    let gain : c.gained-gain.result ≡ gained event answer =
+    c.gained-gain.ensures ∙ (ap (λ (n : ℕ). if is_booked answer then n else 0) c.offered-samples.ensures ∙ sym (gained_by event answer)) in
+    let small : c.gained-gain.result ≤ 4294967295 = omega arith in
+    accounted_push g.N.DeskName.opening c.self.inside.record c.enter.new.self c.self.inside.calls.total c.add.new.self.total c.self.inside.samples.total c.add-2.new.self.total
+    (record { event = event; seat = c.pass.inside.seat; answer = answer })
+    c.self.invariant
+    e.answer
+    e.journal
+    e.state
+    e.total
+    (rw (← gain) small)
+    e.room
+    (omega (arith, c.add.ensures.total, c.audit.ensures.total))
+    (omega (arith, c.add-2.ensures.total, c.audit-2.ensures.total, gain, c.from.ensures))

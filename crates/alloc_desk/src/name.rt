@@ -1,0 +1,26 @@
+//! Which desk it is.
+ghost use Rattle.std.specs.Prelude.{◌≡◌, ℕ, []};
+ghost use Rattle.allocation_core.specs.State.{State, first_state};
+
+use std::marker::{Brand, PhantomData};
+use std::sync::ledger::Ledger;
+
+/// Which desk it is: the state that it was opened with, and the number of its passes. Passes fit the desk of their name alone.
+pub trait DeskName {
+    ghost opening: { State };
+
+    ghost seats: { ℕ };
+}
+
+impl DeskName for Brand {
+    ghost opening = { first_state [] };
+
+    ghost seats = { 0 };
+}
+
+/// The ledger has a part for each seat. It stands apart from the shares, beside which no fact may name a ledger's parts.
+#[derive(Drop)]
+pub(crate) struct Fits<L: Ledger, N: DeskName> {
+    pub(crate) of: PhantomData<(L, N)>,
+    ghost all_parts: { L.parts ≡ N.seats },
+}

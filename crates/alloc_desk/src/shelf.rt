@@ -1,0 +1,142 @@
+//! What lies under a desk's lock.
+ghost use Rattle.std.specs.Prelude.{◌≡◌, ◌+◌, ◌<◌, ◌≤◌, length, sum_by, vec_len, [], Err, IfOk, OnErr};
+ghost use Rattle.scrape_books.specs.Books.{total_of};
+ghost use Rattle.allocation_core.specs.Steps.{gained};
+ghost use Rattle.alloc_desk.specs.Counts.{Counts};
+ghost use Rattle.alloc_desk.specs.History.{History, IsLegal};
+ghost use Rattle.alloc_desk.specs.Reached.{IsFull, IsReceipt, Reached};
+
+use crate::closed::Closed;
+use crate::gains::{gained, offered};
+use crate::name::DeskName;
+use crate::pass::Pass;
+use crate::receipt::Receipt;
+use crate::record::{EnterError, Record};
+use allocation_core::Event;
+use std::marker::{Model, PhantomData};
+use std::sync::ledger::{Book, Ledger, Share};
+
+/// What lies under the lock: a record whose journal is legal from the opening state, with the books of the two ledgers. Contracts
+/// see its history.
+#[derive(Drop)]
+pub(crate) struct Shelf<L: Ledger, B: Ledger, N: DeskName> {
+    record: Record,
+    calls: Book<L>,
+    samples: Book<B>,
+    of: PhantomData<N>,
+}
+
+impl<L: Ledger, B: Ledger, N: DeskName> Model for Shelf<L, B, N> {
+    ghost use Rattle.alloc_desk.specs.History.{History, IsAccounted};
+
+    ghost Value = { History };
+
+    ghost view = { λ s. s.record };
+
+    ghost invariant = { λ s. IsAccounted N.opening s.record s.calls.total s.samples.total };
+}
+
+impl<L: Ledger, B: Ledger, N: DeskName> Shelf<L, B, N> {
+    /// A shelf over a record with no journal yet.
+    pub(crate) fn new(kept: Record, calls: Book<L>, samples: Book<B>) -> Shelf<L, B, N>
+        requires opening { kept.state ≡ N.opening }
+        requires empty { kept.journal ≡ [] }
+        requires books { (calls.total ≡ 0) × (samples.total ≡ 0) }
+        ensures { result ≡ kept }
+    {
+        Shelf {
+            record: kept,
+            calls,
+            samples,
+            of: PhantomData,
+        }
+    }
+
+    /// The ledgers show that the record has what the pass did.
+    pub(crate) fn confirm(&mut self, pass: &mut Pass<L, B, N>)
+        ensures reached { Reached N.opening pass.old (λ h. h ≡ self.old) }
+        ensures same { pass.new ≡ pass.old }
+        ensures kept { self.new ≡ self.old }
+    {
+        self.calls.audit(&mut pass.call_share);
+        self.samples.audit(&mut pass.sample_share);
+    }
+
+    /// The allocator and its journal.
+    pub(crate) fn record(&self) -> &Record
+        ensures { result.now ≡ self.now }
+    {
+        &self.record
+    }
+
+    /// Enters an event for a pass.
+    pub(crate) fn submit(
+        &mut self,
+        pass: &mut Pass<L, B, N>,
+        event: Event,
+    ) -> Result<Receipt, EnterError>
+        ensures answered { IfOk result (λ r. Reached N.opening pass.old (IsReceipt event pass.old r)) }
+        ensures counts { IfOk result (λ r. pass.new ≡ record { seat = pass.old.seat; calls = pass.old.calls + 1; booked = pass.old.booked + gained event r.answer }) }
+        ensures full { result ≡ Err EnterError.JournalFull → Reached N.opening pass.old IsFull }
+        ensures err { OnErr result (pass.new ≡ pass.old) }
+    {
+        self.calls.audit(&mut pass.call_share);
+        self.samples.audit(&mut pass.sample_share);
+        let samples = offered(&event);
+        let (position, answer) = self.record.enter(pass.seat, event)?;
+        let gain = gained(samples, &answer);
+        self.calls.add(&mut pass.call_share, 1);
+        self.samples.add(&mut pass.sample_share, u64::from(gain));
+        pass.calls += 1;
+        pass.booked += u64::from(gain);
+        Ok(Receipt {
+            position,
+            seat: pass.seat,
+            answer,
+        })
+    }
+
+    /// The record, where all passes came back.
+    pub(crate) fn finish(self, passes: Vec<Pass<L, B, N>>) -> Closed<N>
+        requires all { vec_len passes ≡ N.seats }
+        requires some { 0 < N.seats }
+        requires calls { L.parts ≡ N.seats }
+        requires samples { B.parts ≡ N.seats }
+        ensures legal { IsLegal N.opening result.journal result.state }
+        ensures length { length result.journal ≡ sum_by (λ (p : Counts). p.calls) passes.items }
+        ensures total { total_of result.state.booked ≡ total_of N.opening.booked + sum_by (λ (p : Counts). p.booked) passes.items }
+    {
+        let Shelf {
+            record,
+            mut calls,
+            mut samples,
+            of: _,
+        } = self;
+        let (mut call_share, mut sample_share) = merged(passes);
+        calls.audit(&mut call_share);
+        samples.audit(&mut sample_share);
+        Closed {
+            record,
+            of: PhantomData,
+        }
+    }
+}
+
+/// One share of each ledger with all that the passes have.
+fn merged<L: Ledger, B: Ledger, N: DeskName>(passes: Vec<Pass<L, B, N>>) -> (Share<L>, Share<B>)
+    requires { 0 < vec_len passes }
+    ensures calls { (result.0.parts ≡ vec_len passes) × (result.0.amount ≡ sum_by (λ (p : Counts). p.calls) passes.items) }
+    ensures samples { (result.1.parts ≡ vec_len passes) × (result.1.amount ≡ sum_by (λ (p : Counts). p.booked) passes.items) }
+{
+    let mut rest = passes;
+    let Some(last) = rest.pop() else {
+        unreachable!()
+    };
+    let (mut call_share, mut sample_share) = last.into_shares();
+    while let Some(pass) = rest.pop() {
+        let (more_calls, more_samples) = pass.into_shares();
+        call_share.merge(more_calls);
+        sample_share.merge(more_samples);
+    }
+    (call_share, sample_share)
+}

@@ -1,0 +1,39 @@
+-- The allocator that goes on under a new list of jobs.
+use Rattle.std.specs.Prelude.{◌≡◌, ℕ, ◌+◌, nat_lt, if◌then◌else◌, List, [], Option, Some, None}
+use Rattle.handover.specs.Handover.{only}
+use Rattle.fleet.specs.declared.job.JobSpec.{JobSpec}
+use Rattle.fleet_renewal.specs.Renewed.{carried, fleet_refusal, renewed_fleet}
+use Rattle.fleet_renewal.specs.declared.error.RenewError.{RenewError as FleetError}
+use Rattle.fleet_renewal.specs.declared.error.RenewError.TheVariants.{BadJobs as BadList, TooManyBins as ManyBins, Memory as NoMemory}
+use Rattle.allocation_core.specs.State.{State, current_pairs}
+use Rattle.allocation_core.specs.declared.limits.TheConstants.{LAST_ROUND}
+use Rattle.allocation_core.specs.declared.renewal.RenewalError.{RenewalError}
+use Rattle.allocation_core.specs.declared.renewal.RenewalError.TheVariants.{BadJobs, Memory, RoundsSpent, TooManyBins}
+
+-- The fleet goes on under the jobs, and the current allocation is carried over in its new numbers as the first and only one.
+-- Nobody has taken anything and nothing is booked; the next round is open; the certificate is that of the last Published.
+unfoldable pub renewed : State → List JobSpec → State
+renewed m jobs =
+    record m {
+      fleet = renewed_fleet m.fleet (current_pairs m) jobs;
+      published = only (carried m.fleet (current_pairs m) jobs);
+      taken = [];
+      round = m.round + 1;
+      booked = [];
+    }
+
+-- no round is left, where nothing else is against a renewal
+abbrev pub rounds_left : State → Option FleetError → Option RenewalError
+rounds_left m None = if nat_lt m.round LAST_ROUND then None else Some RoundsSpent
+rounds_left m (Some BadList) = Some BadJobs
+rounds_left m (Some ManyBins) = Some TooManyBins
+rounds_left m (Some NoMemory) = Some Memory
+
+-- the first reason against a renewal
+abbrev pub renewal_refusal : State → List JobSpec → Option RenewalError
+renewal_refusal m jobs = rounds_left m (fleet_refusal m.fleet jobs)
+
+-- what a refused renewal says: the first reason against it, or that memory was wanted where there is none
+abbrev pub IsWhyNot : Option RenewalError → RenewalError → Type 0
+IsWhyNot None why = why ≡ Memory
+IsWhyNot (Some refusal) why = why ≡ refusal

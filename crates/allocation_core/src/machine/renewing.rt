@@ -1,0 +1,96 @@
+//! A new list of jobs, under which what is needed goes on.
+ghost use Rattle.std.specs.Prelude.{◌≡◌, ◌+◌, ◌<◌, ◌≤◌, [], length, None, IfErr, IfOk, OnOk};
+ghost use Rattle.handover.specs.Handover.{carried_over};
+ghost use Rattle.fleet.specs.IsFleet.{IsFleet};
+ghost use Rattle.fleet_renewal.specs.Renewed.{carried, fleet_refusal, renewed_fleet};
+ghost use Rattle.allocation_core.specs.State.{current_pairs};
+ghost use Rattle.allocation_core.specs.Renewed.{IsWhyNot, renewal_refusal, renewed, rounds_left};
+
+use super::Core;
+use crate::limits::LAST_ROUND;
+use crate::renewal::{NotRenewed, RenewalError};
+use fleet::{Fleet, JobSpec};
+use fleet_renewal::{RenewError, fleet_refusal, renew_fleet};
+use handover::Holders;
+use scrape_books::Books;
+use std::alloc::AllocError;
+
+impl Core {
+    /// The allocator under a new list of jobs. What nobody needs is forgotten: targets of jobs that went, targets that are
+    /// neither live nor held, older allocations, who took which, and booked reports. The rest goes on, the targets numbered anew
+    /// from 0 in their old order. Where it is refused the core comes back as it was.
+    #[tactic(auto, unfolding(crate::specs::Renewed::renewed))]
+    pub fn renew(self, jobs: Vec<JobSpec>) -> Result<Core, NotRenewed>
+        ensures renewed { IfOk result (λ c. c ≡ renewed self jobs.items) }
+        ensures granted { OnOk result (renewal_refusal self jobs.items ≡ None) }
+        ensures back { IfErr result (λ n. n.core ≡ self) }
+        ensures refused { IfErr result (λ n. IsWhyNot (renewal_refusal self jobs.items) n.why) }
+    {
+        if let Some(why) = self.renewal_refusal(jobs.as_slice()) {
+            return Err(NotRenewed { core: self, why });
+        }
+        match self.carried(jobs) {
+            Ok((fleet, holders)) => Ok(self.with_fleet(fleet, holders)),
+            Err(_) => Err(NotRenewed {
+                core: self,
+                why: RenewalError::Memory,
+            }),
+        }
+    }
+
+    /// The first reason against a renewal. It takes no memory.
+    fn renewal_refusal(&self, jobs: &[JobSpec]) -> Option<RenewalError>
+        ensures { result ≡ renewal_refusal self.now jobs.now }
+    {
+        match fleet_refusal(&self.fleet, jobs) {
+            Some(RenewError::BadJobs) => Some(RenewalError::BadJobs),
+            Some(RenewError::TooManyBins) => Some(RenewalError::TooManyBins),
+            Some(RenewError::Memory) => Some(RenewalError::Memory),
+            None => self.rounds_spent(),
+        }
+    }
+
+    fn rounds_spent(&self) -> Option<RenewalError>
+        ensures { result ≡ rounds_left self.now None }
+    {
+        if self.round >= LAST_ROUND {
+            return Some(RenewalError::RoundsSpent);
+        }
+        None
+    }
+
+    /// The fleet that goes on, and the allocation that is carried over.
+    fn carried(&self, jobs: Vec<JobSpec>) -> Result<(Fleet, Holders), AllocError>
+        ensures fleet { IfOk result (λ r. r.0 ≡ renewed_fleet self.now.fleet (current_pairs self.now) jobs.items) }
+        ensures holders { IfOk result (λ r. r.1 ≡ carried_over (carried self.now.fleet (current_pairs self.now) jobs.items)) }
+        ensures kept { IfOk result (λ r. IsFleet r.0) }
+        ensures granted { OnOk result (fleet_refusal self.now.fleet jobs.items ≡ None) }
+    {
+        let pairs = self.holders.current_pairs();
+        match renew_fleet(self.alloc, &self.fleet, jobs, pairs) {
+            Ok(renewed) => {
+                let holders = Holders::carried_over(self.alloc, renewed.pairs)?;
+                Ok((renewed.fleet, holders))
+            }
+            Err(_) => Err(AllocError),
+        }
+    }
+
+    /// The core with these in place of its own, in the next round, with nothing booked.
+    fn with_fleet(self, fleet: Fleet, holders: Holders) -> Core
+        requires kept { IsFleet fleet }
+        requires few { length holders.published ≤ 1 }
+        requires left { self.round < LAST_ROUND }
+        ensures { result ≡ record self { fleet = fleet; published = holders.published; taken = holders.taken; round = self.round + 1; booked = [] } }
+    {
+        Core {
+            alloc: self.alloc,
+            fleet,
+            holders,
+            instance: self.instance,
+            plan: self.plan,
+            round: self.round + 1,
+            books: Books::open(self.alloc),
+        }
+    }
+}

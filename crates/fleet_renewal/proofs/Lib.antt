@@ -1,0 +1,10 @@
+pub mod CarriedLemmas
+pub mod Counting
+pub mod Gets
+pub mod JobLemmas
+pub mod KnownLemmas
+pub mod LimitLemmas
+pub mod ListedLemmas
+pub mod ListingLemmas
+pub mod Moving
+pub mod RenewedKept

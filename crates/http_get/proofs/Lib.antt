@@ -1,0 +1,4 @@
+mod Colons
+mod Escapes
+mod Naming
+mod Prefixing

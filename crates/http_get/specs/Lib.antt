@@ -1,0 +1,10 @@
+pub mod Prefixes
+pub mod Paths
+pub mod Queries
+pub mod Gets
+pub mod Addresses
+pub mod Urls
+pub mod Discoveries
+pub mod Scripts
+pub mod Refreshing
+pub mod Laws

@@ -1,0 +1,7 @@
+pub mod Apart
+pub mod Continuing
+pub mod Going
+pub mod HistoryLemmas
+pub mod InstanceLemmas
+pub mod LimitsKept
+pub mod TextLemmas

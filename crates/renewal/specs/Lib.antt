@@ -1,0 +1,2 @@
+pub mod Continuity
+pub mod Histories

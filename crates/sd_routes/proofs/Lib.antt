@@ -1,0 +1,6 @@
+pub mod Texts
+pub mod Lookup
+pub mod Places
+pub mod Reaches
+pub mod Floats
+pub mod Escapes

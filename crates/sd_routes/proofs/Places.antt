@@ -1,0 +1,152 @@
+-- The router of all routes finds the place that the table of paths names.
+use Rattle.std.proofs.Common.{◌≡◌, ℕ, suc, ◌<◌, List, [], ◌∷◌, ◌++◌, codes, get_or, Option, Some, None, Bool, true, false, cond, refl, sym, ap, ◌∙◌, arith, ltb, ◌&&◌}
+use Rattle.std.proofs.lemmas.Bool.Decides.{nat_tests}
+use Rattle.std.specs.Option.{option_map}
+use Rattle.matchit.specs.Rows.{Rows, RowsOf, prepend, ends}
+use Rattle.matchit.specs.Level.{IsText}
+use Rattle.matchit.specs.Router.{RouteOf, rename, map_key}
+use Rattle.matchit.specs.Seek.{first}
+use Rattle.matchit.proofs.OnLiterals.{matchit_on_literals}
+use Rattle.matchit.proofs.RenameLemmas.{first-rename}
+use Rattle.sd_routes.proofs.Lookup.{Agrees, agrees-prefix, agrees-end, agrees-or, agrees-segment, after}
+use Rattle.sd_routes.specs.Rows.{route_rows}
+use Rattle.sd_routes.specs.Table.{fits, first_fit, table, place_of}
+use Rattle.sd_routes.specs.declared.place.Place.{Place}
+use Rattle.sd_routes.specs.declared.place.Place.TheVariants.{Jobs}
+
+abbrev all_bytes : List ℕ → Bool
+all_bytes [] = true
+all_bytes (b ∷ w) = ltb b 256 && all_bytes w
+
+text-from : (w : List ℕ) → all_bytes w ≡ true → IsText w
+text-from [] h = tt
+text-from (b ∷ w) h =
+    let byte : b < 256 = grind (arith, nat_tests) in
+    let rest : all_bytes w ≡ true = grind (arith, nat_tests) in
+    (byte, text-from w rest)
+
+agrees-text : (w : List ℕ) (t : Rows) → all_bytes w ≡ true → Agrees t → Agrees (prepend w t)
+agrees-text w t h a = agrees-prefix w t (text-from w h) a
+
+-- ---- the routes by number, as a tree
+
+abbrev orders : Rows
+orders = prepend (codes "drain") (ends (Some 1)) ++ prepend (codes "limits") (ends (Some 2))
+
+abbrev of_collector : Rows
+of_collector = prepend (256 ∷ []) (after orders (Some 3))
+
+abbrev collectors : Rows
+collectors = prepend (codes "/") of_collector ++ ends (Some 4)
+
+abbrev targets : Rows
+targets = prepend (codes "targets") (ends (Some 5))
+
+abbrev of_job : Rows
+of_job = prepend (256 ∷ []) (after targets None)
+
+abbrev jobs : Rows
+jobs = prepend (codes "/") of_job ++ ends (Some 6)
+
+abbrev with_c : Rows
+with_c = prepend (codes "ertificate") (ends (Some 0)) ++ prepend (codes "ollectors") collectors
+
+abbrev with_rs : Rows
+with_rs = prepend (codes "reports") (ends (Some 7)) ++ prepend (codes "scrape_configs") (ends (Some 8))
+
+abbrev with_jrs : Rows
+with_jrs = prepend (codes "jobs") jobs ++ with_rs
+
+abbrev tree : Rows
+tree = prepend (codes "/") (prepend (codes "c") with_c ++ with_jrs)
+
+agrees-word : (w : List ℕ) (k : ℕ) → all_bytes w ≡ true → Agrees (prepend w (ends (Some k)))
+agrees-word w k h = agrees-text w (ends (Some k)) h (agrees-end k)
+
+agrees-orders : Agrees orders
+agrees-orders = agrees-or 100 (codes "rain") (ends (Some 1)) (prepend (codes "limits") (ends (Some 2))) (omega arith) refl (agrees-word (codes "drain") 1 refl) (agrees-word (codes "limits") 2 refl)
+
+agrees-collectors : Agrees collectors
+agrees-collectors =
+    agrees-or 47 [] of_collector (ends (Some 4)) (omega arith) refl
+    (agrees-text (codes "/") of_collector refl (agrees-segment orders (Some 3) (omega arith) (agrees-text (codes "/") orders refl agrees-orders)))
+    (agrees-end 4)
+
+agrees-jobs : Agrees jobs
+agrees-jobs =
+    agrees-or 47 [] of_job (ends (Some 6)) (omega arith) refl
+    (agrees-text (codes "/") of_job refl (agrees-segment targets None (omega arith) (agrees-text (codes "/") targets refl (agrees-word (codes "targets") 5 refl))))
+    (agrees-end 6)
+
+agrees-with_c : Agrees with_c
+agrees-with_c =
+    agrees-or 101 (codes "rtificate") (ends (Some 0)) (prepend (codes "ollectors") collectors) (omega arith) refl
+    (agrees-word (codes "ertificate") 0 refl) (agrees-text (codes "ollectors") collectors refl agrees-collectors)
+
+agrees-with_rs : Agrees with_rs
+agrees-with_rs =
+    agrees-or 114 (codes "eports") (ends (Some 7)) (prepend (codes "scrape_configs") (ends (Some 8))) (omega arith) refl
+    (agrees-word (codes "reports") 7 refl) (agrees-word (codes "scrape_configs") 8 refl)
+
+agrees-with_jrs : Agrees with_jrs
+agrees-with_jrs = agrees-or 106 (codes "obs") jobs with_rs (omega arith) refl (agrees-text (codes "jobs") jobs refl agrees-jobs) agrees-with_rs
+
+agrees-tree : Agrees tree
+agrees-tree =
+    agrees-text (codes "/") (prepend (codes "c") with_c ++ with_jrs) refl
+    (agrees-or 99 [] with_c with_jrs (omega arith) refl (agrees-text (codes "c") with_c refl agrees-with_c) agrees-with_jrs)
+
+-- ---- the routes themselves
+
+abbrev routes_of : RowsOf (RouteOf Place) → List (RouteOf Place)
+routes_of [] = []
+routes_of ((t, r) ∷ rows) = r ∷ routes_of rows
+
+abbrev no_route : RouteOf Place
+no_route = record { pattern = []; text = []; names = []; value = Jobs }
+
+unfoldable route_at : ℕ → RouteOf Place
+route_at n = get_or (routes_of route_rows) n no_route
+
+rows-tree : route_rows ≡ rename route_at tree
+unfolding matchit_on_literals route_rows route_at
+rows-tree = refl
+
+table-tree : table ≡ rename (λ n. (route_at n).value) tree
+unfolding matchit_on_literals route_rows route_at
+table-tree = refl
+
+fit-rename : (f : ℕ → Place) (r : Rows) (p : List ℕ) → first_fit (rename f r) p ≡ map_key f (first_fit r p)
+fit-rename f [] p = refl
+fit-rename f ((t, k) ∷ r) p =
+    elim (fits t p) as (λ v. cond v (Some (f k)) (first_fit (rename f r) p) ≡ map_key f (cond v (Some k) (first_fit r p))) [
+      | true ↦ refl
+      | false ↦ fit-rename f r p
+    ]
+
+value-of : (o : Option ℕ) → option_map (λ (r : RouteOf Place). r.value) (map_key route_at o) ≡ map_key (λ n. (route_at n).value) o
+value-of None = refl
+value-of (Some n) = refl
+
+text-of-bytes : (p : List ℕ) → ((i : ℕ) → get_or p i 0 < 256) → IsText p
+text-of-bytes [] h = tt
+text-of-bytes (b ∷ p) h = (h 0, text-of-bytes p (λ i. h (suc i)))
+
+-- the place of the route that is found, or none
+place-found : (path : List ℕ) → IsText path → option_map (λ (r : RouteOf Place). r.value) (first route_rows path) ≡ place_of path
+unfolding place_of
+place-found path text =
+    ap (λ rows. option_map (λ (r : RouteOf Place). r.value) (first rows path)) rows-tree
+    ∙ ap (option_map (λ (r : RouteOf Place). r.value)) (first-rename route_at tree path ∙ ap (map_key route_at) (agrees-tree path text))
+    ∙ value-of (first_fit tree path)
+    ∙ sym (ap (λ rows. first_fit rows path) table-tree ∙ fit-rename (λ n. (route_at n).value) tree path)
+
+pub place-of-route : (rows : RowsOf (RouteOf Place)) (path : List ℕ) (route : RouteOf Place) → rows ≡ route_rows → ((i : ℕ) → get_or path i 0 < 256)
+    → first rows path ≡ Some route → Some route.value ≡ place_of path
+place-of-route rows path route is bytes found =
+    ap (option_map (λ (r : RouteOf Place). r.value)) (sym found ∙ ap (λ r. first r path) is) ∙ place-found path (text-of-bytes path bytes)
+
+pub place-of-none : (rows : RowsOf (RouteOf Place)) (path : List ℕ) → rows ≡ route_rows → ((i : ℕ) → get_or path i 0 < 256)
+    → first rows path ≡ None → None ≡ place_of path
+place-of-none rows path is bytes missing =
+    ap (option_map (λ (r : RouteOf Place). r.value)) (sym missing ∙ ap (λ r. first r path) is) ∙ place-found path (text-of-bytes path bytes)

@@ -1,0 +1,69 @@
+-- What a method and a target ask for.
+use Rattle.std.specs.Prelude.{ℕ, List, bytes_eq, Option, Some, None, Result, Ok, Err, option_and_then, if◌then◌else◌}
+use Rattle.reach_rules.specs.Name.{is_collector_name}
+use Rattle.sd_routes.specs.Decimals.{decimal_in}
+use Rattle.sd_routes.specs.Queries.{collector_in}
+use Rattle.sd_routes.specs.Segments.{second_segment, text_in}
+use Rattle.sd_routes.specs.Table.{place_of, method_of}
+use Rattle.sd_routes.specs.declared.ask.Ask.{Ask}
+use Rattle.sd_routes.specs.declared.ask.Ask.TheVariants.{ScrapeConfigs, Jobs, JobTargets, CollectorTargets, Certificate, Join, Leave, Drain, SetLimits, Report}
+use Rattle.sd_routes.specs.declared.place.Place.{Place}
+use Rattle.sd_routes.specs.declared.place.Place.TheVariants as place
+use Rattle.sd_routes.specs.declared.request_error.RequestError.{RequestError}
+use Rattle.sd_routes.specs.declared.request_error.RequestError.TheVariants.{NoRoute, Method, Shape, BadName}
+
+-- the name that a text is
+abbrev pub name_said : List ℕ → Result (List ℕ) RequestError
+name_said text = if is_collector_name text then Ok text else Err BadName
+
+-- one collector's targets
+abbrev pub held_by : List ℕ → Result (List ℕ) RequestError → Result Ask RequestError
+held_by job (Ok name) = Ok (CollectorTargets job name)
+held_by job (Err e) = Err e
+
+abbrev pub held_asked : List ℕ → List ℕ → Result Ask RequestError
+held_asked job name = held_by job (name_said name)
+
+-- the targets of a job, or of one collector where the query names it
+abbrev pub targets_of : List ℕ → Option (List ℕ) → Result Ask RequestError
+targets_of job None = Ok (JobTargets job)
+targets_of job (Some name) = held_asked job name
+
+abbrev pub targets_by : Option (List ℕ) → Option (List ℕ) → Result Ask RequestError
+targets_by None collector = Err Shape
+targets_by (Some job) collector = targets_of job collector
+
+abbrev pub job_targets_asked : List ℕ → Option (List ℕ) → Result Ask RequestError
+job_targets_asked path query = targets_by (text_in (second_segment path)) (option_and_then collector_in query)
+
+-- the collector's number in a path
+abbrev pub id_or_shape : Option ℕ → Result ℕ RequestError
+id_or_shape None = Err Shape
+id_or_shape (Some id) = Ok id
+
+abbrev pub id_in : List ℕ → Result ℕ RequestError
+id_in path = id_or_shape (decimal_in (second_segment path))
+
+abbrev pub asked_of : (ℕ → Ask) → Result ℕ RequestError → Result Ask RequestError
+asked_of ask (Ok id) = Ok (ask id)
+asked_of ask (Err e) = Err e
+
+-- 400 by path or query
+abbrev pub asked_at : Place → List ℕ → Option (List ℕ) → Result Ask RequestError
+asked_at place.ScrapeConfigs path query = Ok ScrapeConfigs
+asked_at place.Jobs path query = Ok Jobs
+asked_at place.JobTargets path query = job_targets_asked path query
+asked_at place.Certificate path query = Ok Certificate
+asked_at place.Collectors path query = Ok Join
+asked_at place.Collector path query = asked_of Leave (id_in path)
+asked_at place.Drain path query = asked_of Drain (id_in path)
+asked_at place.Limits path query = asked_of SetLimits (id_in path)
+asked_at place.Reports path query = Ok Report
+
+-- 404 by path, and then 405
+abbrev pub asked_by : Option Place → List ℕ → List ℕ → Option (List ℕ) → Result Ask RequestError
+asked_by None method path query = Err NoRoute
+asked_by (Some place) method path query = if bytes_eq method (method_of place) then asked_at place path query else Err Method
+
+abbrev pub asked : List ℕ → List ℕ → Option (List ℕ) → Result Ask RequestError
+asked method path query = asked_by (place_of path) method path query

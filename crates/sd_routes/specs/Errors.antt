@@ -1,0 +1,24 @@
+-- The status code (RFC 9110, section 15; RFC 4918, section 11.5) and the name of each refusal without an event.
+use Rattle.std.specs.Prelude.{ℕ, List, codes}
+use Rattle.sd_routes.specs.declared.request_error.RequestError.{RequestError}
+use Rattle.sd_routes.specs.declared.request_error.RequestError.TheVariants.{NoRoute, Method, Shape, BadName, TooManyRules, TooLong, JournalFull, Memory}
+
+abbrev pub status_of : RequestError → ℕ
+status_of NoRoute = 404
+status_of Method = 405
+status_of Shape = 400
+status_of BadName = 400
+status_of TooManyRules = 400
+status_of TooLong = 413
+status_of JournalFull = 507
+status_of Memory = 503
+
+abbrev pub name_of : RequestError → List ℕ
+name_of NoRoute = codes "NoRoute"
+name_of Method = codes "Method"
+name_of Shape = codes "Shape"
+name_of BadName = codes "BadName"
+name_of TooManyRules = codes "TooManyRules"
+name_of TooLong = codes "TooLong"
+name_of JournalFull = codes "JournalFull"
+name_of Memory = codes "Memory"

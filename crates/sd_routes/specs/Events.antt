@@ -1,0 +1,102 @@
+-- The event that a request's body spells, or the first refusal: Shape, then BadName, then TooManyRules.
+use Rattle.std.specs.Prelude.{ℕ, List, [], length, nat_le, codes, Option, Some, None, Result, Ok, Err, option_and_then, if◌then◌else◌}
+use Rattle.serde_json.specs.Data.{Data}
+use Rattle.serde_json.specs.Find.{as_array, as_str, get}
+use Rattle.json_values.specs.Spelling.{member_in}
+use Rattle.json_values.specs.Texts.{json_of}
+use Rattle.fleet_events.specs.Reading.{report_in}
+use Rattle.fleet_events.specs.declared.event.Event.{Event}
+use Rattle.fleet_events.specs.declared.event.Event.TheVariants.{Join, Leave, Drain, SetLimits}
+use Rattle.reach_rules.specs.OwnLimits.{LimitList, limits_in}
+use Rattle.reach_rules.specs.Spelling.{rules_spelled}
+use Rattle.reach_rules.specs.declared.reach.TheConstants.{MOST_RULES}
+use Rattle.reach_rules.specs.declared.rule.ReachRule.{ReachRule}
+use Rattle.sd_routes.specs.Asks.{name_said}
+use Rattle.sd_routes.specs.declared.ask.Ask.{Ask}
+use Rattle.sd_routes.specs.declared.ask.Ask.TheVariants as ask
+use Rattle.sd_routes.specs.declared.request_error.RequestError.{RequestError}
+use Rattle.sd_routes.specs.declared.request_error.RequestError.TheVariants.{Shape, TooManyRules}
+
+-- what is there, or else Shape
+abbrev pub or_shape : {T : Type 0} → Option T → Result T RequestError
+or_shape None = Err Shape
+or_shape (Some x) = Ok x
+
+-- ---- join
+
+-- a list of rules, however many
+abbrev pub rules_in : Data → Option (List ReachRule)
+rules_in d = option_and_then rules_spelled (as_array d)
+
+-- the rules where they are at most 32, and nothing where they are more
+abbrev pub few_of : List ReachRule → Option (List ReachRule)
+few_of rules = if nat_le (length rules) MOST_RULES then Some rules else None
+
+abbrev pub few_said : Option (List ReachRule) → Result (Option (List ReachRule)) RequestError
+few_said None = Err Shape
+few_said (Some rules) = Ok (few_of rules)
+
+abbrev pub limits_said : Data → Result LimitList RequestError
+limits_said d = or_shape (limits_in d)
+
+-- a collector's own limits: it has none where the member is left out
+abbrev pub limits_or_none_said : Option Data → Result LimitList RequestError
+limits_or_none_said None = Ok []
+limits_or_none_said (Some d) = limits_said d
+
+-- BadName before TooManyRules
+abbrev pub joined : Result (List ℕ) RequestError → Option (List ReachRule) → LimitList → Result Event RequestError
+joined (Err e) reach limits = Err e
+joined (Ok name) None limits = Err TooManyRules
+joined (Ok name) (Some reach) limits = Ok (Join name reach limits)
+
+-- Shape before both
+abbrev pub join_of : Option (List ℕ) → Result (Option (List ReachRule)) RequestError → Result LimitList RequestError → Result Event RequestError
+join_of None reach limits = Err Shape
+join_of (Some name) (Err e) limits = Err e
+join_of (Some name) (Ok reach) (Err e) = Err e
+join_of (Some name) (Ok reach) (Ok limits) = joined (name_said name) reach limits
+
+-- a collector's name, the rules by which it reaches targets, and the limits of its own
+unfoldable pub join_said : Data → Result Event RequestError
+join_said d = join_of (member_in as_str (codes "name") d) (few_said (member_in rules_in (codes "reach") d)) (limits_or_none_said (get (codes "limits") d))
+
+-- ---- limits and reports
+
+abbrev pub limits_set : ℕ → Result LimitList RequestError → Result Event RequestError
+limits_set collector (Err e) = Err e
+limits_set collector (Ok limits) = Ok (SetLimits collector limits)
+
+-- the limits that the collector has of its own from now on
+abbrev pub set_limits_said : ℕ → Data → Result Event RequestError
+set_limits_said collector d = limits_set collector (or_shape (member_in limits_in (codes "limits") d))
+
+-- a report as its event has it, whatever the member `event` says
+abbrev pub report_said : Data → Result Event RequestError
+report_said d = or_shape (report_in d)
+
+-- ---- all of them
+
+abbrev pub event_in : Ask → Data → Result Event RequestError
+event_in ask.Join d = join_said d
+event_in (ask.SetLimits collector) d = set_limits_said collector d
+event_in ask.Report d = report_said d
+event_in _ d = Err Shape
+
+abbrev pub an_event : Result Event RequestError → Result (Option Event) RequestError
+an_event (Err e) = Err e
+an_event (Ok event) = Ok (Some event)
+
+-- the event of a body that is JSON
+abbrev pub posted : Ask → Option Data → Result (Option Event) RequestError
+posted asked None = Err Shape
+posted asked (Some d) = an_event (event_in asked d)
+
+-- the event that a request asks for, if it asks for one
+abbrev pub event_said : Ask → List ℕ → Result (Option Event) RequestError
+event_said (ask.Leave collector) body = Ok (Some (Leave collector))
+event_said (ask.Drain collector) body = Ok (Some (Drain collector))
+event_said ask.Join body = posted ask.Join (json_of body)
+event_said (ask.SetLimits collector) body = posted (ask.SetLimits collector) (json_of body)
+event_said ask.Report body = posted ask.Report (json_of body)
+event_said _ body = Ok None

@@ -1,0 +1,20 @@
+-- What is given against what is said.
+use Rattle.std.specs.Prelude.{◌≡◌, Result, Ok, Err}
+use Rattle.sd_routes.specs.declared.request_error.RequestError.{RequestError}
+use Rattle.sd_routes.specs.declared.request_error.RequestError.TheVariants.{NoRoute, Method, Shape, BadName, TooManyRules, TooLong, JournalFull, Memory}
+
+-- a refusal is given where it is said; that memory ran out says nothing
+abbrev pub Fails : {T : Type 0} → RequestError → Result T RequestError → Type 0
+Fails NoRoute said = said ≡ Err NoRoute
+Fails Method said = said ≡ Err Method
+Fails Shape said = said ≡ Err Shape
+Fails BadName said = said ≡ Err BadName
+Fails TooManyRules said = said ≡ Err TooManyRules
+Fails TooLong said = said ≡ Err TooLong
+Fails JournalFull said = said ≡ Err JournalFull
+Fails Memory said = Unit {0}
+
+-- what is given is what is said, unless memory ran out
+abbrev pub Gives : {T : Type 0} → Result T RequestError → Result T RequestError → Type 0
+Gives (Ok x) said = said ≡ Ok x
+Gives (Err e) said = Fails e said

@@ -1,0 +1,12 @@
+pub mod Table
+pub mod Rows
+pub mod Segments
+pub mod Decimals
+pub mod Queries
+pub mod Errors
+pub mod Gives
+pub mod Asks
+pub mod Events
+pub mod Responses
+pub mod Links
+pub mod Pages

@@ -1,0 +1,57 @@
+-- The table of paths: which place each names, and the method of the place.
+use Rattle.std.specs.Prelude.{ℕ, ◌==◌, ◌&&◌, ◌++◌, List, [], ◌∷◌, Bool, true, false, not, codes, Option, Some, None, if◌then◌else◌}
+use Rattle.sd_routes.specs.declared.place.Place.{Place}
+use Rattle.sd_routes.specs.declared.place.Place.TheVariants.{ScrapeConfigs, Jobs, JobTargets, Certificate, Collectors, Collector, Drain, Limits, Reports}
+
+-- in a route, what stands for one segment of a path. It is no byte
+abbrev pub segment : ℕ
+segment = 256
+
+abbrev pub slash : ℕ
+slash = 47
+
+-- A row a route. No path fits two of them.
+abbrev pub table : List (List ℕ × Place)
+table =
+    (codes "/certificate", Certificate)
+    ∷ (codes "/collectors/" ++ segment ∷ codes "/drain", Drain)
+    ∷ (codes "/collectors/" ++ segment ∷ codes "/limits", Limits)
+    ∷ (codes "/collectors/" ++ segment ∷ [], Collector)
+    ∷ (codes "/collectors", Collectors)
+    ∷ (codes "/jobs/" ++ segment ∷ codes "/targets", JobTargets)
+    ∷ (codes "/jobs", Jobs)
+    ∷ (codes "/reports", Reports)
+    ∷ (codes "/scrape_configs", ScrapeConfigs)
+    ∷ []
+
+abbrev pub method_of : Place → List ℕ
+method_of ScrapeConfigs = codes "GET"
+method_of Jobs = codes "GET"
+method_of JobTargets = codes "GET"
+method_of Certificate = codes "GET"
+method_of Collectors = codes "POST"
+method_of Collector = codes "DELETE"
+method_of Drain = codes "POST"
+method_of Limits = codes "PUT"
+method_of Reports = codes "POST"
+
+-- what follows the segment in front, from the next slash on
+abbrev pub past_segment : List ℕ → List ℕ
+past_segment [] = []
+past_segment (b ∷ path) = if b == slash then b ∷ path else past_segment path
+
+-- The path has the form of the route: a byte stands for itself, and a segment for one byte or more up to the next slash or the end.
+abbrev pub fits : List ℕ → List ℕ → Bool
+fits [] [] = true
+fits [] (b ∷ path) = false
+fits (token ∷ route) [] = false
+fits (token ∷ route) (b ∷ path) = if token == segment then not (b == slash) && fits route (past_segment path) else (token == b) && fits route path
+
+-- what the first row has whose route the path fits
+abbrev pub first_fit : {K : Type 0} → List (List ℕ × K) → List ℕ → Option K
+first_fit [] path = None
+first_fit ((route, place) ∷ rows) path = if fits route path then Some place else first_fit rows path
+
+-- the place that a path names
+unfoldable pub place_of : List ℕ → Option Place
+place_of path = first_fit table path

@@ -1,0 +1,27 @@
+//! What a request asks for.
+use fleet_events::CollectorId;
+use lists::Text;
+use reach_rules::CollectorName;
+
+/// What a request asks for, decoded.
+#[derive(Debug, Drop)]
+pub enum Ask {
+    /// The scrape configs as they were read.
+    ScrapeConfigs,
+    /// The jobs with their links.
+    Jobs,
+    /// What each live collector holds of a job.
+    JobTargets(Text),
+    /// What one collector holds of a job, which takes the current allocation.
+    CollectorTargets { job: Text, name: CollectorName },
+    /// The certificate of the last published allocation.
+    Certificate,
+    /// A collector joins; the body says which.
+    Join,
+    Leave(CollectorId),
+    Drain(CollectorId),
+    /// A collector's own limits are replaced; the body has them.
+    SetLimits(CollectorId),
+    /// A scrape is reported; the body has it.
+    Report,
+}

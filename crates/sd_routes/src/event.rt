@@ -1,0 +1,114 @@
+//! The event that a request's body spells.
+ghost use Rattle.std.specs.Prelude.{codes};
+ghost use Rattle.serde_json.specs.Find.{get};
+ghost use Rattle.serde_json.specs.View.{view};
+ghost use Rattle.json_values.specs.Spelling.{member_in};
+ghost use Rattle.sd_routes.specs.Events.{event_said, event_in, join_said, set_limits_said, report_said, few_said, rules_in, limits_or_none_said, limits_said};
+ghost use Rattle.sd_routes.specs.Gives.{Gives};
+
+use crate::ask::Ask;
+use crate::request_error::RequestError;
+use crate::routing::collector_name;
+use fleet_events::{CollectorId, Event, read_report};
+use json_values::parse;
+use reach_rules::{OwnLimits, Reach, ReachError};
+use serde_json::Value;
+use std::alloc::Global;
+
+/// The event that a request asks for, if it asks for one: of a Join, of other limits and of a report, what the body spells; of a Leave and
+/// of a Drain the body is not looked at. Where several refusals hold, the first of `Shape`, `BadName` and `TooManyRules` is given.
+pub fn event_of(alloc: Global, ask: &Ask, body: &[u8]) -> Result<Option<Event>, RequestError>
+    ensures { Gives result (event_said ask.now body.now) }
+{
+    match ask {
+        Ask::Leave(collector) => Ok(Some(Event::Leave(*collector))),
+        Ask::Drain(collector) => Ok(Some(Event::Drain(*collector))),
+        Ask::Join | Ask::SetLimits(_) | Ask::Report => match parse(alloc, body)? {
+            Some(value) => Ok(Some(event_in(alloc, ask, &value)?)),
+            None => Err(RequestError::Shape),
+        },
+        _ => Ok(None),
+    }
+}
+
+fn event_in(alloc: Global, ask: &Ask, value: &Value) -> Result<Event, RequestError>
+    ensures { Gives result (event_in ask.now (view value.now)) }
+{
+    match ask {
+        Ask::Join => read_join(alloc, value),
+        Ask::SetLimits(collector) => read_set_limits(alloc, *collector, value),
+        Ask::Report => read_reported(alloc, value),
+        _ => Err(RequestError::Shape),
+    }
+}
+
+#[tactic(auto, unfolding(crate::specs::Events::join_said))]
+fn read_join(alloc: Global, value: &Value) -> Result<Event, RequestError>
+    ensures { Gives result (join_said (view value.now)) }
+{
+    let name = value
+        .get("name")
+        .and_then(Value::as_str)
+        .ok_or(RequestError::Shape)?;
+    let reach = read_reach(alloc, value)?;
+    let limits = read_limits_or_none(alloc, value)?;
+    let name = collector_name(alloc, name)?;
+    let reach = reach.ok_or(RequestError::TooManyRules)?;
+    Ok(Event::Join {
+        name,
+        reach,
+        limits,
+    })
+}
+
+/// The rules of a collector, or none where there are too many.
+#[tactic(auto, using(crate::proofs::Reaches::few_of_read, crate::proofs::Reaches::few_of_many, crate::proofs::Reaches::few_of_none))]
+fn read_reach(alloc: Global, value: &Value) -> Result<Option<Reach>, RequestError>
+    ensures { Gives result (few_said (member_in rules_in (codes "reach") (view value.now))) }
+{
+    let reach = value.get("reach").ok_or(RequestError::Shape)?;
+    match Reach::read(alloc, reach) {
+        Ok(reach) => Ok(Some(reach)),
+        Err(ReachError::TooManyRules) => Ok(None),
+        Err(ReachError::Shape) => Err(RequestError::Shape),
+        Err(ReachError::Memory) => Err(RequestError::Memory),
+    }
+}
+
+/// A collector's own limits: it has none where the member is left out.
+fn read_limits_or_none(alloc: Global, value: &Value) -> Result<OwnLimits, RequestError>
+    ensures { Gives result (limits_or_none_said (get (codes "limits") (view value.now))) }
+{
+    match value.get("limits") {
+        Some(limits) => read_limits(alloc, limits),
+        None => Ok(OwnLimits::none(alloc)),
+    }
+}
+
+fn read_limits(alloc: Global, value: &Value) -> Result<OwnLimits, RequestError>
+    ensures { Gives result (limits_said (view value.now)) }
+{
+    match OwnLimits::read(alloc, value) {
+        Ok(limits) => Ok(limits),
+        Err(ReachError::Memory) => Err(RequestError::Memory),
+        Err(_) => Err(RequestError::Shape),
+    }
+}
+
+fn read_set_limits(
+    alloc: Global,
+    collector: CollectorId,
+    value: &Value,
+) -> Result<Event, RequestError>
+    ensures { Gives result (set_limits_said collector (view value.now)) }
+{
+    let limits = value.get("limits").ok_or(RequestError::Shape)?;
+    let limits = read_limits(alloc, limits)?;
+    Ok(Event::SetLimits { collector, limits })
+}
+
+fn read_reported(alloc: Global, value: &Value) -> Result<Event, RequestError>
+    ensures { Gives result (report_said (view value.now)) }
+{
+    read_report(alloc, value)?.ok_or(RequestError::Shape)
+}

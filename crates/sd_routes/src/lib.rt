@@ -1,0 +1,29 @@
+//! What an HTTP request asks for, the event that its body spells, and how its answer is written. No connection, thread or time is
+//! needed here.
+//!
+//! `route` decides by method and target, over the table of paths of `Routes`; `event_of` reads the body; `answer` writes the response, the
+//! bodies of pages being made by functions of their own.
+#![tactic(auto)]
+
+mod ask;
+mod decimal;
+mod event;
+mod link;
+mod pages;
+mod place;
+mod query;
+mod request_error;
+mod responding;
+mod routes;
+mod routing;
+mod segment;
+#[cfg(test)]
+mod tests;
+
+pub use ask::Ask;
+pub use event::event_of;
+pub use pages::{job_page, jobs_page, targets_page};
+pub use request_error::RequestError;
+pub use responding::{Said, answer};
+pub use routes::Routes;
+pub use routing::route;

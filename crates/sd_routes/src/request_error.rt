@@ -1,0 +1,72 @@
+//! Why a request is refused without an answer of the allocator, and how that is told.
+ghost use Rattle.std.specs.Prelude.{◌≡◌};
+ghost use Rattle.sd_routes.specs.Errors.{status_of, name_of};
+
+use http::StatusCode;
+use std::alloc::AllocError;
+
+/// Why a request is refused without an answer of the allocator.
+#[derive(Clone, Copy, Debug, PartialEq, Eq)]
+pub enum RequestError {
+    /// No place has the path.
+    NoRoute,
+    /// The place of the path has another method.
+    Method,
+    /// A segment of the path, or the body, is not of the documented shape.
+    Shape,
+    /// A collector's name is empty or longer than 128 bytes.
+    BadName,
+    /// A reach has more than 32 rules.
+    TooManyRules,
+    /// The body has more than 1,048,576 bytes.
+    TooLong,
+    /// The journal takes no further event.
+    JournalFull,
+    /// A growth was refused.
+    Memory,
+}
+
+impl RequestError {
+    /// The status code (RFC 9110, section 15).
+    pub fn status(self) -> StatusCode
+        ensures { result ≡ status_of self }
+    {
+        match self {
+            RequestError::NoRoute => StatusCode::NOT_FOUND,
+            RequestError::Method => StatusCode::METHOD_NOT_ALLOWED,
+            RequestError::Shape | RequestError::BadName | RequestError::TooManyRules => {
+                StatusCode::BAD_REQUEST
+            }
+            RequestError::TooLong => StatusCode::PAYLOAD_TOO_LARGE,
+            RequestError::JournalFull => StatusCode::INSUFFICIENT_STORAGE,
+            RequestError::Memory => StatusCode::SERVICE_UNAVAILABLE,
+        }
+    }
+
+    /// The name by which the answer's body tells it.
+    pub fn name(self) -> &'static str
+        ensures { result.now ≡ name_of self }
+    {
+        match self {
+            RequestError::NoRoute => "NoRoute",
+            RequestError::Method => "Method",
+            RequestError::Shape => "Shape",
+            RequestError::BadName => "BadName",
+            RequestError::TooManyRules => "TooManyRules",
+            RequestError::TooLong => "TooLong",
+            RequestError::JournalFull => "JournalFull",
+            RequestError::Memory => "Memory",
+        }
+    }
+}
+
+impl From<AllocError> for RequestError {
+    ghost use Rattle.std.specs.Prelude.{◌≡◌};
+    ghost use Rattle.sd_routes.specs.declared.request_error.RequestError.TheVariants.{Memory};
+
+    ghost from_gives = { λ _ e. e ≡ Memory };
+
+    fn from(_error: AllocError) -> RequestError {
+        RequestError::Memory
+    }
+}

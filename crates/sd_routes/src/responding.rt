@@ -1,0 +1,129 @@
+//! How an answer is written.
+ghost use Rattle.std.specs.Prelude.{◌≡◌, IfOk, string_bytes};
+ghost use Rattle.sd_routes.specs.Responses.{IsResponse, IsHead, json_headers, taken_headers, refused_text, answer_text, status_answered, status_said, headers_said, body_said};
+
+use crate::request_error::RequestError;
+use bytes::Bytes;
+use fleet_events::{AllocationNumber, Answer, Refusal, Round};
+use http::header::{CONTENT_TYPE, HeaderName, HeaderValue};
+use http::response::Parts;
+use http::{Response, StatusCode};
+use http_body_util::Full;
+use lists::Text;
+use std::alloc::{AllocError, Global};
+
+/// What a request is answered with.
+#[derive(Debug, Drop)]
+pub enum Said {
+    /// What the allocator answers to an event.
+    Answer(Answer),
+    /// A page, as its JSON text.
+    Page(Text),
+    /// What a collector that took an allocation holds of a job.
+    Taken {
+        allocation: AllocationNumber,
+        round: Round,
+        /// The list of groups, as its JSON text.
+        groups: Text,
+    },
+    /// The request is refused without an answer of the allocator.
+    Refused(RequestError),
+}
+
+/// The response that says it. Each has the media type `application/json`.
+pub fn answer(alloc: Global, said: Said) -> Result<Response<Full<Bytes>>, AllocError>
+    ensures { IfOk result (IsResponse (status_said said) (headers_said said) (body_said said)) }
+{
+    match said {
+        Said::Answer(answer) => {
+            let head = json_head(alloc, status_of(&answer))?;
+            response(head, answer_text(alloc, &answer)?)
+        }
+        Said::Page(text) => response(json_head(alloc, StatusCode::OK)?, text.into_string()),
+        Said::Taken {
+            allocation,
+            round,
+            groups,
+        } => response(taken_head(alloc, allocation, round)?, groups.into_string()),
+        Said::Refused(error) => {
+            let head = json_head(alloc, error.status())?;
+            response(head, refused_text(alloc, error.name())?)
+        }
+    }
+}
+
+/// The status code of an answer of the allocator.
+fn status_of(answer: &Answer) -> StatusCode
+    ensures { result ≡ status_answered answer.now }
+{
+    match answer {
+        Answer::Not(Refusal::UnknownJob | Refusal::UnknownCollector) => StatusCode::NOT_FOUND,
+        Answer::Not(_) => StatusCode::CONFLICT,
+        _ => StatusCode::OK,
+    }
+}
+
+fn response(head: Parts, text: String) -> Result<Response<Full<Bytes>>, AllocError>
+    ensures { IfOk result (IsResponse head.status head.headers (string_bytes text)) }
+{
+    let body = Bytes::from_string(text)?;
+    Ok(Response::from_parts(head, Full::new(body)))
+}
+
+fn json_head(alloc: Global, status: StatusCode) -> Result<Parts, AllocError>
+    ensures { IfOk result (IsHead status json_headers) }
+{
+    let mut head = Parts::new(alloc);
+    head.status = status;
+    let json = HeaderValue::from_static("application/json");
+    match head.headers.insert(CONTENT_TYPE, json) {
+        Ok(_) => Ok(head),
+        Err(_) => Err(AllocError),
+    }
+}
+
+fn taken_head(
+    alloc: Global,
+    allocation: AllocationNumber,
+    round: Round,
+) -> Result<Parts, AllocError>
+    ensures { IfOk result (IsHead 200 (taken_headers allocation round)) }
+{
+    let mut head = json_head(alloc, StatusCode::OK)?;
+    let allocation = HeaderValue::from_u64(alloc, u64::from(allocation))?;
+    let name = HeaderName::from_static("x-allocation-number");
+    if head.headers.insert(name, allocation).is_err() {
+        return Err(AllocError);
+    }
+    let round = HeaderValue::from_u64(alloc, u64::from(round))?;
+    let name = HeaderName::from_static("x-scrape-round");
+    if head.headers.insert(name, round).is_err() {
+        return Err(AllocError);
+    }
+    Ok(head)
+}
+
+/// The object that tells a refusal.
+fn refused_text(alloc: Global, name: &str) -> Result<String, AllocError>
+    ensures { IfOk result (λ t. string_bytes t ≡ refused_text name.now) }
+{
+    let mut text = String::from_str(alloc, "{\"refused\":\"")?;
+    text.push_str(name)?;
+    text.push_str("\"}")?;
+    Ok(text)
+}
+
+/// The object that tells an answer of the allocator by its line.
+fn answer_text(alloc: Global, answer: &Answer) -> Result<String, AllocError>
+    ensures { IfOk result (λ t. string_bytes t ≡ answer_text answer.now) }
+{
+    let front = match answer {
+        Answer::Not(_) => "{\"refused\":\"",
+        _ => "{\"answer\":\"",
+    };
+    let line = answer.line(alloc)?;
+    let mut text = String::from_str(alloc, front)?;
+    text.push_str(line.as_str())?;
+    text.push_str("\"}")?;
+    Ok(text)
+}

@@ -1,0 +1,63 @@
+//! The table of paths.
+ghost use Rattle.std.specs.Prelude.{◌≡◌, IfOk};
+ghost use Rattle.sd_routes.specs.Rows.{route_rows};
+ghost use Rattle.sd_routes.specs.Table.{place_of};
+
+use crate::place::Place;
+use matchit::{InsertError, Router};
+use std::alloc::{AllocError, Global};
+use std::marker::Model;
+
+/// The table of paths. It is opened once, and looking a path up takes no memory.
+#[derive(Drop)]
+pub struct Routes {
+    router: Router<Place>,
+}
+
+impl Model for Routes {
+    ghost use Rattle.std.specs.Prelude.{◌≡◌};
+    ghost use Rattle.sd_routes.specs.Rows.{route_rows};
+
+    ghost Value = { Unit {0} };
+
+    ghost view = { λ r. tt };
+
+    ghost invariant = { λ r. r.router ≡ route_rows };
+}
+
+impl Routes {
+    /// The table, with all its routes.
+    pub fn open(alloc: Global) -> Result<Routes, AllocError> {
+        match router_of(alloc) {
+            Ok(router) => Ok(Routes { router }),
+            Err(_) => Err(AllocError),
+        }
+    }
+
+    /// The place that a path names.
+    pub(crate) fn place(&self, path: &str) -> Option<Place>
+        ensures { result ≡ place_of path.now }
+    {
+        match self.router.at(path) {
+            Ok(found) => Some(*found.value),
+            Err(_) => None,
+        }
+    }
+}
+
+// A row a route. What stands in braces is one segment of a path.
+fn router_of(alloc: Global) -> Result<Router<Place>, InsertError>
+    ensures { IfOk result (λ r. r ≡ route_rows) }
+{
+    let mut router = Router::new(alloc);
+    router.insert("/scrape_configs", Place::ScrapeConfigs)?;
+    router.insert("/jobs", Place::Jobs)?;
+    router.insert("/jobs/{job}/targets", Place::JobTargets)?;
+    router.insert("/certificate", Place::Certificate)?;
+    router.insert("/collectors", Place::Collectors)?;
+    router.insert("/collectors/{id}", Place::Collector)?;
+    router.insert("/collectors/{id}/drain", Place::Drain)?;
+    router.insert("/collectors/{id}/limits", Place::Limits)?;
+    router.insert("/reports", Place::Reports)?;
+    Ok(router)
+}

@@ -1,0 +1,86 @@
+//! What a method and a target ask for.
+ghost use Rattle.http_uri.specs.Uri.{uri_path, uri_query};
+ghost use Rattle.std.specs.Prelude.{option_copied};
+ghost use Rattle.sd_routes.specs.Asks.{asked, asked_at, job_targets_asked, held_asked, id_in, name_said};
+ghost use Rattle.sd_routes.specs.Gives.{Gives};
+
+use crate::ask::Ask;
+use crate::decimal::decimal;
+use crate::place::Place;
+use crate::query::collector_of;
+use crate::request_error::RequestError;
+use crate::routes::Routes;
+use crate::segment::{decoded, second_segment};
+use fleet_events::CollectorId;
+use http::{Method, Uri};
+use lists::Text;
+use reach_rules::{CollectorName, NameError};
+use std::alloc::Global;
+
+/// What a request asks for. Where several refusals hold, the first of these is given: no such path, another method, a segment of
+/// another shape, a collector's name that is none.
+pub fn route(
+    routes: &Routes,
+    alloc: Global,
+    method: &Method,
+    target: &Uri,
+) -> Result<Ask, RequestError>
+    ensures { Gives result (asked method.now (uri_path target.now) (uri_query target.now)) }
+{
+    let path = target.path();
+    let place = routes.place(path).ok_or(RequestError::NoRoute)?;
+    if method.as_str() != place.method() {
+        return Err(RequestError::Method);
+    }
+    ask_at(alloc, place, path, target.query())
+}
+
+fn ask_at(alloc: Global, place: Place, path: &str, query: Option<&str>) -> Result<Ask, RequestError>
+    ensures { Gives result (asked_at place path.now (option_copied query.entry)) }
+{
+    match place {
+        Place::ScrapeConfigs => Ok(Ask::ScrapeConfigs),
+        Place::Jobs => Ok(Ask::Jobs),
+        Place::JobTargets => job_targets(alloc, path, query),
+        Place::Certificate => Ok(Ask::Certificate),
+        Place::Collectors => Ok(Ask::Join),
+        Place::Collector => Ok(Ask::Leave(collector_id(path)?)),
+        Place::Drain => Ok(Ask::Drain(collector_id(path)?)),
+        Place::Limits => Ok(Ask::SetLimits(collector_id(path)?)),
+        Place::Reports => Ok(Ask::Report),
+    }
+}
+
+fn job_targets(alloc: Global, path: &str, query: Option<&str>) -> Result<Ask, RequestError>
+    ensures { Gives result (job_targets_asked path.now (option_copied query.entry)) }
+{
+    let job = decoded(alloc, second_segment(path))?.ok_or(RequestError::Shape)?;
+    match collector_of(alloc, query)? {
+        None => Ok(Ask::JobTargets(job)),
+        Some(name) => held(alloc, job, &name),
+    }
+}
+
+fn held(alloc: Global, job: Text, name: &Text) -> Result<Ask, RequestError>
+    ensures { Gives result (held_asked job name.now) }
+{
+    let name = collector_name(alloc, name.as_str())?;
+    Ok(Ask::CollectorTargets { job, name })
+}
+
+pub(crate) fn collector_name(alloc: Global, text: &str) -> Result<CollectorName, RequestError>
+    ensures { Gives result (name_said text.now) }
+{
+    match CollectorName::read(alloc, text) {
+        Ok(name) => Ok(name),
+        Err(NameError::BadName) => Err(RequestError::BadName),
+        Err(NameError::Memory) => Err(RequestError::Memory),
+    }
+}
+
+fn collector_id(path: &str) -> Result<CollectorId, RequestError>
+    ensures { Gives result (id_in path.now) }
+{
+    let digits = second_segment(path).as_bytes();
+    decimal(digits).ok_or(RequestError::Shape)
+}

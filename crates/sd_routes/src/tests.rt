@@ -1,0 +1,5 @@
+//! Requests and their answers.
+mod answers;
+mod events;
+mod pages;
+mod routing;

@@ -1,0 +1,4 @@
+pub mod Jobs
+pub mod Replies
+pub mod Says
+pub mod Texts

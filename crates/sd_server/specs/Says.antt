@@ -1,0 +1,99 @@
+-- What a request is told.
+use Rattle.std.specs.Prelude.{◌≡◌, ◌⊎◌, ℕ, List, Option, Some, None, Result, Ok, Err}
+use Rattle.fleet.specs.Fleet.{id_named}
+use Rattle.fleet_events.specs.declared.event.Event.{Event}
+use Rattle.fleet_events.specs.declared.event.Event.TheVariants.{Take}
+use Rattle.fleet_events.specs.declared.answer.Answer.{Answer}
+use Rattle.fleet_events.specs.declared.answer.Answer.TheVariants.{Taken as HasTaken, Not}
+use Rattle.fleet_events.specs.declared.refusal.Refusal.TheVariants.{UnknownJob, UnknownCollector}
+use Rattle.allocation_core.specs.State.{State}
+use Rattle.alloc_desk.specs.Counts.{Counts}
+use Rattle.alloc_desk.specs.History.{History}
+use Rattle.alloc_desk.specs.Reached.{Reached, IsReceipt, IsFull}
+use Rattle.alloc_desk.specs.declared.receipt.Receipt.{Receipt}
+use Rattle.sd_routes.specs.Events.{event_said}
+use Rattle.sd_routes.specs.declared.ask.Ask.{Ask}
+use Rattle.sd_routes.specs.declared.ask.Ask.TheVariants as ask
+use Rattle.sd_routes.specs.declared.request_error.RequestError.{RequestError}
+use Rattle.sd_routes.specs.declared.request_error.RequestError.TheVariants.{JournalFull, Memory}
+use Rattle.sd_routes.specs.declared.responding.Said.{Said}
+use Rattle.sd_routes.specs.declared.responding.Said.TheVariants.{Answer as Answered, Page, Taken, Refused}
+use Rattle.sd_server.specs.Jobs.{place_of}
+use Rattle.sd_server.specs.Texts.{certificate_text, groups_text, job_text}
+use Rattle.sd_server.specs.declared.config_pages.ConfigPages.{ConfigPages}
+
+-- this holds of some history that is legal from the opening state
+abbrev pub OfSome : State → (History → Type 0) → Type 0
+OfSome opening Holds = (counts : Counts) × Reached opening counts Holds
+
+-- the receipt of an event that was entered
+abbrev pub IsEntered : State → Event → Receipt → Type 0
+IsEntered opening event receipt = (counts : Counts) × Reached opening counts (IsReceipt event counts receipt)
+
+-- why no event was entered: the journal is full, or memory was wanted
+abbrev pub SaysNot : State → RequestError → Type 0
+SaysNot opening JournalFull = OfSome opening IsFull
+SaysNot opening Memory = Unit {0}
+SaysNot opening _ = ⊥
+
+-- the machine's answer to an event
+abbrev pub SaysEvent : State → Event → Said → Type 0
+SaysEvent opening event (Answered answer) = (receipt : Receipt) × IsEntered opening event receipt × (answer ≡ receipt.answer)
+SaysEvent opening event (Refused error) = SaysNot opening error
+SaysEvent opening event _ = ⊥
+
+-- what the answer to a Take is told as, with what the collector holds of a job; unless memory ran out
+abbrev pub SaysListed : State → ℕ → Answer → Said → Type 0
+SaysListed opening place answer (Taken allocation round groups) =
+    (held : List ℕ) × (answer ≡ HasTaken allocation round held) × OfSome opening (λ h. groups ≡ groups_text place held h)
+SaysListed opening place answer (Answered told) = told ≡ answer
+SaysListed opening place answer (Refused error) = error ≡ Memory
+SaysListed opening place answer (Page text) = ⊥
+
+-- what a collector that takes the allocation is told of a job
+abbrev pub SaysTake : State → ℕ → ℕ → Said → Type 0
+SaysTake opening place id said = ((receipt : Receipt) × IsEntered opening (Take id) receipt × SaysListed opening place receipt.answer said)
+    ⊎ ((error : RequestError) × SaysNot opening error × (said ≡ Refused error))
+
+-- nobody has the name, or its collector takes
+abbrev pub SaysHeld : State → ℕ → List ℕ → Said → Type 0
+SaysHeld opening place name said =
+    (OfSome opening (λ h. id_named h.state.fleet.collectors name ≡ None) × (said ≡ Answered (Not UnknownCollector)))
+    ⊎ ((id : ℕ) × OfSome opening (λ h. id_named h.state.fleet.collectors name ≡ Some id) × SaysTake opening place id said)
+
+-- a page, unless memory ran out
+abbrev pub SaysText : State → (History → List ℕ) → Said → Type 0
+SaysText opening text (Page page) = OfSome opening (λ h. page ≡ text h)
+SaysText opening text (Refused error) = error ≡ Memory
+SaysText opening text _ = ⊥
+
+-- what a job has, where there is such a job
+abbrev pub SaysJob : State → List ℕ → Option ℕ → Said → Type 0
+SaysJob opening job None said = said ≡ Answered (Not UnknownJob)
+SaysJob opening job (Some place) said = SaysText opening (job_text job place) said
+
+abbrev pub SaysCollector : State → List ℕ → Option ℕ → Said → Type 0
+SaysCollector opening name None said = said ≡ Answered (Not UnknownJob)
+SaysCollector opening name (Some place) said = SaysHeld opening place name said
+
+-- a text that does not change, unless memory ran out
+abbrev pub SaysCopy : List ℕ → Said → Type 0
+SaysCopy text said = (said ≡ Page text) ⊎ (said ≡ Refused Memory)
+
+-- what is told without an event of the body's
+abbrev pub SaysPage : State → ConfigPages → Ask → Said → Type 0
+SaysPage opening pages ask.ScrapeConfigs said = SaysCopy pages.scrape_configs said
+SaysPage opening pages ask.Jobs said = SaysCopy pages.jobs said
+SaysPage opening pages ask.Certificate said = SaysText opening certificate_text said
+SaysPage opening pages (ask.JobTargets job) said = SaysJob opening job (place_of job pages.names) said
+SaysPage opening pages (ask.CollectorTargets job name) said = SaysCollector opening name (place_of job pages.names) said
+SaysPage opening pages _ said = Unit {0}
+
+abbrev pub SaysBy : State → ConfigPages → Ask → Result (Option Event) RequestError → Said → Type 0
+SaysBy opening pages asked (Ok (Some event)) said = SaysEvent opening event said
+SaysBy opening pages asked (Ok None) said = SaysPage opening pages asked said
+SaysBy opening pages asked (Err error) said = said ≡ Refused error
+
+-- what is told to a request with this body
+abbrev pub Says : State → ConfigPages → Ask → List ℕ → Said → Type 0
+Says opening pages asked body said = SaysBy opening pages asked (event_said asked body) said ⊎ (said ≡ Refused Memory)

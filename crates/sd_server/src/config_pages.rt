@@ -1,0 +1,52 @@
+//! What requests are told of the configuration. It does not change while a desk is served.
+ghost use Rattle.std.specs.Prelude.{◌≡◌, IfOk, map};
+ghost use Rattle.serde_json.specs.View.{view};
+ghost use Rattle.serde_json.specs.Written.{compact_text};
+ghost use Rattle.sd_documents.specs.declared.config.Job.{Job};
+ghost use Rattle.sd_routes.specs.Pages.{jobs_data};
+ghost use Rattle.sd_server.specs.Jobs.{place_of};
+
+use lists::{List, Plain, Text};
+use sd_documents::{Config, scrape_configs_text};
+use sd_routes::jobs_page;
+use std::alloc::{AllocError, Global};
+
+/// The pages of a configuration, and the names of its jobs in order.
+#[derive(Debug, Drop)]
+pub struct ConfigPages {
+    /// The JSON of `/scrape_configs`.
+    pub scrape_configs: Text,
+    /// The JSON of `/jobs`.
+    pub jobs: Text,
+    pub names: List<Text>,
+}
+
+impl ConfigPages {
+    pub fn of(alloc: Global, config: &Config) -> Result<ConfigPages, AllocError>
+        ensures scrape_configs { IfOk result (λ p. p.scrape_configs ≡ compact_text (view config.now.as_read)) }
+        ensures jobs { IfOk result (λ p. p.jobs ≡ compact_text (jobs_data config.now.jobs)) }
+        ensures names { IfOk result (λ p. p.names ≡ map (λ (j : Job). j.name) config.now.jobs) }
+    {
+        let scrape_configs = scrape_configs_text(alloc, config)?;
+        let jobs = jobs_page(alloc, config.jobs.as_slice())?;
+        let mut names = List::new(alloc);
+        for job in config.jobs.as_slice() {
+            names.push(job.name.copy()?)?;
+        }
+        Ok(ConfigPages {
+            scrape_configs,
+            jobs,
+            names,
+        })
+    }
+
+    /// A job's place in the configuration.
+    pub fn place(&self, job: &str) -> Option<usize>
+        ensures { result ≡ place_of job.now self.now.names }
+    {
+        self.names
+            .as_slice()
+            .iter()
+            .position(|name| name.as_str() == job)
+    }
+}

@@ -1,0 +1,199 @@
+//! What a request is handled with.
+ghost use Rattle.std.specs.Prelude.{◌≡◌, IfOk, IfErr};
+ghost use Rattle.std.specs.Arc.{arc_value};
+ghost use Rattle.fleet.specs.Fleet.{id_named};
+ghost use Rattle.sd_server.specs.Jobs.{place_of};
+ghost use Rattle.sd_server.specs.Texts.{certificate_text, groups_text, job_text};
+ghost use Rattle.sd_server.specs.Says.{IsEntered, OfSome, Says, SaysCollector, SaysCopy, SaysEvent, SaysHeld, SaysJob, SaysListed, SaysNot, SaysPage, SaysTake, SaysText};
+
+use crate::certificate_page::certificate_page;
+use crate::config_pages::ConfigPages;
+use alloc_desk::{Desk, DeskName, EnterError, Pass, Receipt};
+use allocation_core::{Answer, Event, Refusal};
+use fleet_events::{CollectorId, TargetId};
+use lists::{Plain, Text};
+use reach_rules::CollectorName;
+use sd_routes::{Ask, RequestError, Said, event_of, job_page, targets_page};
+use std::alloc::{AllocError, Global};
+use std::sync::ledger::Ledger;
+use std::sync::{Arc, Mutex, Wait};
+
+/// What a request is handled with: the runtime's handle, the desk, a pass of it and the configuration's pages.
+#[derive(Drop)]
+pub struct Handler<R, L: Ledger, B: Ledger, N: DeskName> {
+    pub rt: R,
+    pub alloc: Global,
+    pub desk: Arc<Desk<L, B, N>>,
+    pub pass: Arc<Mutex<Pass<L, B, N>>>,
+    pub pages: Arc<ConfigPages>,
+}
+
+impl<R: Wait + Copy, L: Ledger, B: Ledger, N: DeskName> Handler<R, L, B, N> {
+    /// Another for the same desk and the same pass.
+    pub fn another(&self) -> Result<Handler<R, L, B, N>, AllocError>
+        ensures { IfOk result (λ h. arc_value h.pages ≡ arc_value self.now.pages) }
+    {
+        Ok(Handler {
+            rt: self.rt,
+            alloc: self.alloc,
+            desk: Arc::try_clone(&self.desk)?,
+            pass: Arc::try_clone(&self.pass)?,
+            pages: Arc::try_clone(&self.pages)?,
+        })
+    }
+
+    /// What is told to a request with this body.
+    pub fn said(&self, ask: &Ask, body: &[u8]) -> Said
+        ensures { Says N.opening (arc_value self.now.pages) ask.now body.now result }
+    {
+        match event_of(self.alloc, ask, body) {
+            Ok(Some(event)) => self.entered(event),
+            Ok(None) => self.shown(ask),
+            Err(error) => Said::Refused(error),
+        }
+    }
+
+    fn entered(&self, event: Event) -> Said
+        ensures { SaysEvent N.opening event result }
+    {
+        match self.submitted(event) {
+            Ok(receipt) => Said::Answer(receipt.answer),
+            Err(error) => Said::Refused(error),
+        }
+    }
+
+    fn shown(&self, ask: &Ask) -> Said
+        ensures { SaysPage N.opening (arc_value self.now.pages) ask.now result }
+    {
+        match ask {
+            Ask::ScrapeConfigs => copied(&self.pages.scrape_configs),
+            Ask::Jobs => copied(&self.pages.jobs),
+            Ask::Certificate => self.certificate(),
+            Ask::JobTargets(job) => self.job(job.as_str()),
+            Ask::CollectorTargets { job, name } => self.collector(job.as_str(), name),
+            _ => Said::Refused(RequestError::Memory),
+        }
+    }
+
+    fn certificate(&self) -> Said
+        ensures { SaysText N.opening certificate_text result }
+    {
+        match self.certificate_text() {
+            Ok(text) => Said::Page(text),
+            Err(_) => Said::Refused(RequestError::Memory),
+        }
+    }
+
+    fn certificate_text(&self) -> Result<Text, AllocError>
+        ensures { IfOk result (λ t. OfSome N.opening (λ h. t ≡ certificate_text h)) }
+    {
+        let mut pass = self.pass.lock(&self.rt);
+        let (instance, plan) = self.desk.certificate(&self.rt, &mut *pass)?;
+        certificate_page(self.alloc, &instance, &plan)
+    }
+
+    fn job(&self, job: &str) -> Said
+        ensures { SaysJob N.opening job.now (place_of job.now (arc_value self.now.pages).names) result }
+    {
+        let Some(place) = self.pages.place(job) else {
+            return Said::Answer(Answer::Not(Refusal::UnknownJob));
+        };
+        match self.job_text(job, place) {
+            Ok(text) => Said::Page(text),
+            Err(_) => Said::Refused(RequestError::Memory),
+        }
+    }
+
+    fn job_text(&self, job: &str, place: usize) -> Result<Text, AllocError>
+        ensures { IfOk result (λ t. OfSome N.opening (λ h. t ≡ job_text job.now place h)) }
+    {
+        let mut pass = self.pass.lock(&self.rt);
+        let shares = self.desk.shares(&self.rt, self.alloc, &mut *pass, place)?;
+        job_page(self.alloc, job, shares.as_slice())
+    }
+
+    fn collector(&self, job: &str, name: &CollectorName) -> Said
+        ensures { SaysCollector N.opening name.now (place_of job.now (arc_value self.now.pages).names) result }
+    {
+        let Some(place) = self.pages.place(job) else {
+            return Said::Answer(Answer::Not(Refusal::UnknownJob));
+        };
+        self.held(place, name.as_str())
+    }
+
+    fn held(&self, place: usize, name: &str) -> Said
+        ensures { SaysHeld N.opening place name.now result }
+    {
+        match self.named(name) {
+            Some(collector) => self.taken(place, collector),
+            None => Said::Answer(Answer::Not(Refusal::UnknownCollector)),
+        }
+    }
+
+    fn named(&self, name: &str) -> Option<CollectorId>
+        ensures { OfSome N.opening (λ h. result ≡ id_named h.state.fleet.collectors name.now) }
+    {
+        let mut pass = self.pass.lock(&self.rt);
+        self.desk.named(&self.rt, &mut *pass, name)
+    }
+
+    fn taken(&self, place: usize, collector: CollectorId) -> Said
+        ensures { SaysTake N.opening place collector result }
+    {
+        match self.submitted(Event::Take(collector)) {
+            Ok(receipt) => self.listed(place, receipt.answer),
+            Err(error) => Said::Refused(error),
+        }
+    }
+
+    fn listed(&self, place: usize, answer: Answer) -> Said
+        ensures { SaysListed N.opening place answer result }
+    {
+        match answer {
+            Answer::Taken {
+                allocation,
+                round,
+                held,
+            } => match self.groups(place, held.as_slice()) {
+                Ok(groups) => Said::Taken {
+                    allocation,
+                    round,
+                    groups,
+                },
+                Err(_) => Said::Refused(RequestError::Memory),
+            },
+            other => Said::Answer(other),
+        }
+    }
+
+    fn groups(&self, place: usize, held: &[TargetId]) -> Result<Text, AllocError>
+        ensures { IfOk result (λ t. OfSome N.opening (λ h. t ≡ groups_text place held.now h)) }
+    {
+        let mut pass = self.pass.lock(&self.rt);
+        let targets = self
+            .desk
+            .numbered(&self.rt, self.alloc, &mut *pass, place, held)?;
+        targets_page(self.alloc, targets.as_slice())
+    }
+
+    fn submitted(&self, event: Event) -> Result<Receipt, RequestError>
+        ensures receipt { IfOk result (IsEntered N.opening event) }
+        ensures not { IfErr result (SaysNot N.opening) }
+    {
+        let mut pass = self.pass.lock(&self.rt);
+        match self.desk.submit(&self.rt, &mut *pass, event) {
+            Ok(receipt) => Ok(receipt),
+            Err(EnterError::JournalFull) => Err(RequestError::JournalFull),
+            Err(EnterError::Memory) => Err(RequestError::Memory),
+        }
+    }
+}
+
+fn copied(text: &Text) -> Said
+    ensures { SaysCopy text.now result }
+{
+    match text.copy() {
+        Ok(text) => Said::Page(text),
+        Err(_) => Said::Refused(RequestError::Memory),
+    }
+}

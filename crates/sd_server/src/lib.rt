@@ -1,0 +1,22 @@
+//! The HTTP server of a desk: it reads a request, asks the desk and writes the answer. `sd_routes` says what requests ask for and
+//! how answers are written.
+//!
+//! Contracts say of a reply that what it writes is the written form of what the desk told, of some history that is legal from its
+//! opening state. Of connections, time and order they say nothing.
+#![tactic(auto)]
+
+mod certificate_page;
+mod config_pages;
+mod handler;
+mod one_by_one;
+mod reply;
+mod service;
+mod spoken;
+mod workers;
+
+pub use config_pages::ConfigPages;
+pub use handler::Handler;
+pub use one_by_one::serve_one_by_one;
+pub use reply::{LONGEST_BODY, Reply};
+pub use service::AllocatorService;
+pub use workers::{DEFAULT_WORKERS, serve_by_workers};

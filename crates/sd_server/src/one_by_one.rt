@@ -1,0 +1,53 @@
+//! The server of tests and of a session: one connection after the other on the calling thread, each for one request.
+use crate::handler::Handler;
+use crate::service::AllocatorService;
+use alloc_desk::DeskName;
+use hyper::server::conn::http1;
+use sd_routes::Routes;
+use std::alloc::AllocGlobal;
+use std::hash::RandomState;
+use std::io;
+use std::random::RandomSource;
+use std::sync::atomic::{AtomicBool, Ordering};
+use std::sync::ledger::Ledger;
+use std::sync::{Arc, Wait};
+use std::time::{Clock, Duration};
+use tokio::net::TcpListener;
+use tokio::runtime::LocalRuntime;
+
+/// How long one connection may take.
+const LONGEST_SECONDS: u64 = 5;
+
+/// Serves one connection after the other, each for one request, until the flag is set and one more connection came.
+pub fn serve_one_by_one<R, L: Ledger, B: Ledger, N: DeskName>(
+    rt: &R,
+    runtime: &mut LocalRuntime,
+    mut listener: TcpListener,
+    handler: &Handler<R, L, B, N>,
+    stop: &AtomicBool,
+) -> io::Result<()>
+where
+    R: Wait + Clock + RandomSource + AllocGlobal + Copy + Drop,
+{
+    let mut http = http1::Builder::new(rt.alloc(), RandomState::new(rt)?);
+    http.keep_alive(false);
+    let routes = Arc::new(rt.alloc(), Routes::open(rt.alloc())?)?;
+    for _ in rt.forever() {
+        let (socket, _from) = runtime.block_on(rt, listener.accept())??;
+        if stop.load(Ordering::SeqCst) {
+            return Ok(());
+        }
+        let service = AllocatorService {
+            handler: handler.another()?,
+            routes: Arc::try_clone(&routes)?,
+        };
+        let conn = http.serve_connection(socket, service);
+        let timed = runtime
+            .handle()
+            .time()
+            .timeout(rt, Duration::from_secs(LONGEST_SECONDS), conn)?;
+        // A connection that took too long or failed is dropped, and the next is served.
+        let _ = runtime.block_on(rt, timed)?;
+    }
+    unreachable!()
+}

@@ -1,0 +1,79 @@
+//! The service that a connection calls for each request.
+ghost use Rattle.std.specs.Arc.{arc_value};
+ghost use Rattle.http.specs.Request as request;
+ghost use Rattle.http_uri.specs.Uri.{uri_path, uri_query};
+ghost use Rattle.sd_routes.specs.Asks.{asked};
+ghost use Rattle.sd_server.specs.Replies.{Begins, BeginsWith, IsReplyTo};
+
+use crate::handler::Handler;
+use crate::reply::Reply;
+use alloc_desk::DeskName;
+use bytes::Bytes;
+use http::request::Parts;
+use http::{Request, Response};
+use http_body_util::Full;
+use hyper::body::Incoming;
+use hyper::service::Service;
+use sd_routes::{Ask, RequestError, Routes, Said, route};
+use std::alloc::AllocError;
+use std::sync::ledger::Ledger;
+use std::sync::{Arc, Wait};
+
+/// Answers requests with what a desk says.
+#[derive(Drop)]
+pub struct AllocatorService<R, L: Ledger, B: Ledger, N: DeskName> {
+    pub handler: Handler<R, L, B, N>,
+    /// The table of paths.
+    pub routes: Arc<Routes>,
+}
+
+/// What a head comes to: an answer at once, or a body to be read.
+#[derive(Drop)]
+enum Begun {
+    Said(Said),
+    Reads(Ask),
+}
+
+impl<R: Wait + Copy, L: Ledger, B: Ledger, N: DeskName> AllocatorService<R, L, B, N> {
+    fn begin(&self, head: &Parts) -> Begun
+        ensures { Begins N.opening (arc_value self.now.handler.pages) (asked head.now.method (uri_path head.now.uri) (uri_query head.now.uri)) result }
+    {
+        match route(&self.routes, self.handler.alloc, &head.method, &head.uri) {
+            Ok(ask) => self.begin_with(ask),
+            Err(error) => Begun::Said(Said::Refused(error)),
+        }
+    }
+
+    fn begin_with(&self, ask: Ask) -> Begun
+        ensures { BeginsWith N.opening (arc_value self.now.handler.pages) ask result }
+    {
+        match ask {
+            Ask::Join | Ask::Drain(_) | Ask::SetLimits(_) | Ask::Report => Begun::Reads(ask),
+            _ => Begun::Said(self.handler.said(&ask, b"")),
+        }
+    }
+}
+
+impl<R: Wait + Copy + Drop, L: Ledger, B: Ledger, N: DeskName, I: Drop> Service<
+    Request<Incoming<I>>,
+> for AllocatorService<R, L, B, N> {
+    type Response = Response<Full<Bytes>>;
+
+    type Error = AllocError;
+
+    type Future = Reply<R, L, B, N, I>;
+
+    ghost calls = { λ s req future. IsReplyTo N.opening (arc_value s.handler.pages)
+        (asked (request.head_of req).method (uri_path (request.head_of req).uri) (uri_query (request.head_of req).uri)) future };
+
+    fn call(&self, req: Request<Incoming<I>>) -> Reply<R, L, B, N, I> {
+        let (head, body) = req.into_parts();
+        match self.begin(&head) {
+            Begun::Said(said) => Reply::of(self.handler.alloc, said),
+            Begun::Reads(ask) => match self.handler.another() {
+                Ok(handler) => Reply::to(handler, ask, body),
+                Err(_) => Reply::of(self.handler.alloc, Said::Refused(RequestError::Memory)),
+            },
+        }
+    }
+}

@@ -1,0 +1,10 @@
+//! Tests of the server over loopback: a client thread writes plain requests. They stand apart from `sd_server`, since a crate with
+//! tests is proved once more with them.
+#![tactic(auto)]
+
+#[cfg(test)]
+mod client;
+#[cfg(test)]
+mod loopback;
+#[cfg(test)]
+mod rows;

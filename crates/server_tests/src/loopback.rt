@@ -1,0 +1,114 @@
+//! The documented rows, one connection after the other.
+ghost use Rattle.std.specs.Prelude.{◌≡◌};
+
+use crate::client::says;
+use crate::rows::ROWS;
+use alloc_desk::{Desk, DeskName};
+use allocation_core::{Core, JobSpec};
+use lists::Text;
+use sd_documents::read_config;
+use sd_server::{ConfigPages, Handler, serve_one_by_one};
+use std::alloc::{AllocGlobal, Global};
+use std::marker::Brand;
+use std::net::{Ipv4Addr, Net, SocketAddr, TcpListener, TcpStream};
+use std::random::RandomSource;
+use std::sync::atomic::{AtomicBool, Ordering};
+use std::sync::ledger::{Blank, Ledger};
+use std::sync::{Arc, Mutex, Wait};
+use std::test::Fail;
+use std::thread;
+use std::thread::Threads;
+use std::time::Clock;
+use tokio::runtime::LocalRuntime;
+
+const CONFIG: &str = r#"{"scrape_configs":[{"job_name":"j","target_limit":1}]}"#;
+
+#[test]
+fn each_row_is_answered_over_loopback(rt: HostRuntime) -> Result<(), Fail> {
+    let core = core_of(rt.alloc()).ok_or("opens")?;
+    let wrong = first_wrong_row::<Brand, Brand, Brand, HostRuntime>(
+        &rt,
+        rt.alloc(),
+        core,
+        Blank::new(1),
+        Blank::new(1),
+    );
+    assert!(rt; wrong == Some(None));
+    Ok(())
+}
+
+/// The place of the first row that is answered otherwise, or none.
+fn first_wrong_row<L: Ledger + Send + Sync, B: Ledger + Send + Sync, N: DeskName + Send + Sync, R>(
+    rt: &R,
+    alloc: Global,
+    core: Core,
+    calls: Blank,
+    samples: Blank,
+) -> Option<Option<usize>>
+where
+    R: Wait
+        + Threads
+        + Clock
+        + Net<Listener = TcpListener, Stream = TcpStream>
+        + RandomSource
+        + AllocGlobal
+        + Sync
+        + Send
+        + Copy
+        + Drop,
+    requires core { (core ≡ N.opening) × (N.seats ≡ 1) }
+    requires calls { (calls.name ≡ L.name) × (calls.parts ≡ L.parts) × (L.parts ≡ 1) }
+    requires samples { (samples.name ≡ B.name) × (samples.parts ≡ B.parts) × (B.parts ≡ 1) }
+{
+    let (desk, mut passes) = Desk::<L, B, N>::open(alloc, core, 1, calls, samples).ok()?;
+    let pass = passes.pop()?;
+    let handler = Handler {
+        rt: *rt,
+        alloc,
+        desk: Arc::new(alloc, desk).ok()?,
+        pass: Arc::new(alloc, Mutex::new(pass)).ok()?,
+        pages: Arc::new(alloc, pages_of(alloc)?).ok()?,
+    };
+    let mut runtime = LocalRuntime::new(rt).ok()?;
+    let any = SocketAddr::from((Ipv4Addr::LOCALHOST, 0));
+    let listener = tokio::net::TcpListener::bind(rt, any, runtime.handle().reactor()).ok()?;
+    let here = listener.local_addr().ok()?;
+    let stop = AtomicBool::new(false);
+    let (served, wrong) = thread::join(
+        rt,
+        || serve_one_by_one(rt, &mut runtime, listener, &handler, &stop),
+        || ask_all_then_stop(rt, alloc, here, &stop),
+    );
+    served.ok()?;
+    Some(wrong)
+}
+
+fn ask_all_then_stop<R: Net<Listener = TcpListener, Stream = TcpStream>>(
+    rt: &R,
+    alloc: Global,
+    here: SocketAddr,
+    stop: &AtomicBool,
+) -> Option<usize> {
+    let wrong = ROWS.iter().position(|row| !says(rt, alloc, here, row));
+    stop.store(true, Ordering::SeqCst);
+    let _last = TcpStream::connect(rt, here);
+    wrong
+}
+
+fn core_of(alloc: Global) -> Option<Core> {
+    let name = Text::from_str(alloc, "j").ok()?;
+    let jobs = vec![in alloc;
+        JobSpec {
+            name,
+            target_limit: 1,
+            sources: 1
+        },
+    ]
+    .ok()?;
+    Core::open(alloc, jobs).ok()
+}
+
+fn pages_of(alloc: Global) -> Option<ConfigPages> {
+    let config = read_config(alloc, CONFIG.as_bytes()).ok()?;
+    ConfigPages::of(alloc, &config).ok()
+}

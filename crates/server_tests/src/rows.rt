@@ -1,0 +1,65 @@
+//! The rows: requests, and how their answers begin and end.
+use crate::client::Row;
+
+pub(crate) const ROWS: [Row; 12] = [
+    Row {
+        request: "GET /x HTTP/1.1\r\nhost: h\r\n\r\n",
+        begins: "HTTP/1.1 404 Not Found\r\n",
+        ends: "\r\n\r\n{\"refused\":\"NoRoute\"}",
+    },
+    Row {
+        request: "POST /jobs HTTP/1.1\r\nhost: h\r\ncontent-length: 0\r\n\r\n",
+        begins: "HTTP/1.1 405 Method Not Allowed\r\n",
+        ends: "\r\n\r\n{\"refused\":\"Method\"}",
+    },
+    Row {
+        request: "DELETE /collectors/z HTTP/1.1\r\nhost: h\r\n\r\n",
+        begins: "HTTP/1.1 400 Bad Request\r\n",
+        ends: "\r\n\r\n{\"refused\":\"Shape\"}",
+    },
+    Row {
+        request: "GET /jobs/%FF/targets HTTP/1.1\r\nhost: h\r\n\r\n",
+        begins: "HTTP/1.1 400 Bad Request\r\n",
+        ends: "\r\n\r\n{\"refused\":\"Shape\"}",
+    },
+    Row {
+        request: "GET /jobs/k/targets?collector_id=a HTTP/1.1\r\nhost: h\r\n\r\n",
+        begins: "HTTP/1.1 404 Not Found\r\n",
+        ends: "\r\n\r\n{\"refused\":\"UnknownJob\"}",
+    },
+    Row {
+        request: "GET /jobs/j/targets?collector_id=a HTTP/1.1\r\nhost: h\r\n\r\n",
+        begins: "HTTP/1.1 404 Not Found\r\n",
+        ends: "\r\n\r\n{\"refused\":\"UnknownCollector\"}",
+    },
+    Row {
+        request: "POST /collectors HTTP/1.1\r\nhost: h\r\ncontent-length: 23\r\n\r\n{\"name\":\"a\",\"reach\":[]}",
+        begins: "HTTP/1.1 200 OK\r\n",
+        ends: "\r\n\r\n{\"answer\":\"Joined 1\"}",
+    },
+    Row {
+        request: "POST /collectors HTTP/1.1\r\nhost: h\r\ncontent-length: 23\r\n\r\n{\"name\":\"a\",\"reach\":[]}",
+        begins: "HTTP/1.1 409 Conflict\r\n",
+        ends: "\r\n\r\n{\"refused\":\"AlreadyJoined 1\"}",
+    },
+    Row {
+        request: "GET /jobs/j/targets?collector_id=a HTTP/1.1\r\nhost: h\r\n\r\n",
+        begins: "HTTP/1.1 200 OK\r\n",
+        ends: "\r\n\r\n[]",
+    },
+    Row {
+        request: "POST /collectors/1/drain HTTP/1.1\r\nhost: h\r\ncontent-length: 0\r\n\r\n",
+        begins: "HTTP/1.1 200 OK\r\n",
+        ends: "\r\n\r\n{\"answer\":\"Draining\"}",
+    },
+    Row {
+        request: "GET /jobs HTTP/1.1\r\nhost: h\r\n\r\n",
+        begins: "HTTP/1.1 200 OK\r\n",
+        ends: "\r\n\r\n{\"j\":{\"_link\":\"/jobs/j/targets\"}}",
+    },
+    Row {
+        request: "GET /certificate HTTP/1.1\r\nhost: h\r\n\r\n",
+        begins: "HTTP/1.1 200 OK\r\n",
+        ends: "\"reach\":[],\"version\":2}",
+    },
+];
