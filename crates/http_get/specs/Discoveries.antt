@@ -16,7 +16,7 @@ use Rattle.http_get.specs.declared.reply.Reply.{Reply}
 use Rattle.http_get.specs.declared.reply.FetchFault.{FetchFault}
 use Rattle.http_get.specs.declared.reply.FetchFault.TheVariants as fault
 use Rattle.http_get.specs.declared.error.RefreshError.{RefreshError}
-use Rattle.http_get.specs.declared.error.RefreshError.TheVariants.{Status, Media, Document, Device, TooLong, Memory}
+use Rattle.http_get.specs.declared.error.RefreshError.TheVariants.{NoSource, Status, Media, Document, Device, TooLong, Memory}
 
 -- one after the other, up to the first refusal
 infixl 10 ◌>>=◌
@@ -60,6 +60,7 @@ unanswered fault.TooLong = TooLong
 unanswered fault.Memory = Memory
 
 abbrev pub refusal_name : RefreshError → List ℕ
+refusal_name NoSource = codes "NoSource"
 refusal_name (Status code) = codes "Status"
 refusal_name Media = codes "Media"
 refusal_name (Document fault) = codes "Document"

@@ -1,5 +1,6 @@
 -- A source that is asked once.
-use Rattle.std.specs.Prelude.{◌≡◌, ◌⊎◌, ◌-◌, ℕ, List, [], Result, Ok, Err, slice_index_or}
+use Rattle.std.specs.Prelude.{◌≡◌, ◌⊎◌, ℕ, zero, suc, List, Option, Some, None, Result, Ok, Err, slice_get}
+use Rattle.std.specs.Option.{option_map}
 use Rattle.sd_documents.specs.declared.config.Job.{Job}
 use Rattle.relabel.specs.declared.rule.RuleSettings.{RuleSettings}
 use Rattle.fleet_events.specs.declared.event.Event.{Event}
@@ -7,21 +8,26 @@ use Rattle.http_get.specs.declared.get.Get.{Get}
 use Rattle.http_get.specs.declared.reply.Reply.{Reply}
 use Rattle.http_get.specs.declared.reply.FetchFault.{FetchFault}
 use Rattle.http_get.specs.declared.error.RefreshError.{RefreshError}
-use Rattle.http_get.specs.declared.error.RefreshError.TheVariants.{Memory}
+use Rattle.http_get.specs.declared.error.RefreshError.TheVariants.{NoSource, Memory}
 use Rattle.http_get.specs.Urls.{url_get}
 use Rattle.http_get.specs.Discoveries.{Gives, found_said, unanswered}
 
--- source 1 + i is the i-th URL
-abbrev pub source_get : Job → ℕ → Get
-source_get job source = url_get (slice_index_or job.http_urls (source - 1) [])
+-- source 1 + i is asked at the i-th URL. Source 0, the static groups, is not asked
+abbrev pub source_get : Job → ℕ → Option Get
+source_get job zero = None
+source_get job (suc index) = option_map url_get (slice_get job.http_urls index)
 
 -- what an answer says, or that there was none
 abbrev pub IsRefresh : Job → List RuleSettings → ℕ → Result Reply FetchFault → Result Event RefreshError → Type 0
 IsRefresh job rules source (Ok reply) result = Gives result (found_said job rules source reply)
 IsRefresh job rules source (Err fault) result = result ≡ Err (unanswered fault)
 
+-- no fetch is made of a source that is not asked
+abbrev pub RefreshedBy : {S : Type 0} → (S → Get → Result Reply FetchFault → S → Type 0) → S → S → Job → List RuleSettings → ℕ → Option Get → Result Event RefreshError → Type 0
+RefreshedBy may old new job rules source (Some get) result = (came : Result Reply FetchFault) × may old get came new × IsRefresh job rules source came result
+RefreshedBy may old new job rules source None result = (new ≡ old) × (result ≡ Err NoSource)
+
 -- the result is that of one fetch of the source, or there was no memory to ask
 abbrev pub Refreshed : {S : Type 0} → (S → Get → Result Reply FetchFault → S → Type 0) → S → S → Job → List RuleSettings → ℕ → Result Event RefreshError → Type 0
 Refreshed may old new job rules source result =
-    ((came : Result Reply FetchFault) × may old (source_get job source) came new × IsRefresh job rules source came result)
-    ⊎ ((new ≡ old) × (result ≡ Err Memory))
+    RefreshedBy may old new job rules source (source_get job source) result ⊎ ((new ≡ old) × (result ≡ Err Memory))

@@ -7,6 +7,9 @@ use thiserror::Error;
 /// Why a source was not refreshed. What it listed before stays.
 #[derive(Debug, Drop, Error)]
 pub enum RefreshError {
+    /// The job has no source of this number that is asked.
+    #[error("no such source")]
+    NoSource,
     /// Another status than 200.
     #[error("status {0}")]
     Status(u16),
@@ -32,6 +35,7 @@ impl RefreshError {
         ensures { result.now ≡ refusal_name self.now }
     {
         match self {
+            RefreshError::NoSource => "NoSource",
             RefreshError::Status(_) => "Status",
             RefreshError::Media => "Media",
             RefreshError::Document(_) => "Document",

@@ -29,7 +29,7 @@ pub use get::Get;
 pub use laws::names_law;
 pub use refreshing::refresh;
 pub use reply::{FetchFault, Reply};
-pub use scrape::Scrape;
+pub use scrape::{Scrape, failures_after};
 pub use scrape_request::{get_in, get_of};
 pub use script::Script;
 pub use url::get_of_url;

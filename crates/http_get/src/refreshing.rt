@@ -1,5 +1,7 @@
 //! Refreshing what a discovery source lists.
-ghost use Rattle.std.specs.Prelude.{◌≡◌, ◌<◌, ◌≤◌, length, IfOk};
+ghost use Rattle.std.specs.Prelude.{◌≡◌, ◌<◌, ◌≤◌, length, IfOk, IfSome, slice_get};
+ghost use Rattle.std.specs.Option.{option_map};
+ghost use Rattle.http_get.specs.Urls.{url_get};
 ghost use Rattle.http_get.specs.Refreshing.{source_get, Refreshed};
 
 use crate::discovery::found;
@@ -8,12 +10,13 @@ use crate::get::Get;
 use crate::scrape::Scrape;
 use crate::url::get_of_url;
 use fleet_events::Event;
+use lists::Text;
 use relabel::Rules;
 use sd_documents::Job;
 use std::alloc::{AllocError, Global};
 
-/// Asks a job's source once for what it lists. Source 1 + i is the job's i-th URL. Where it is refused there is no event, so
-/// what the source listed before stays.
+/// Asks a job's source once for what it lists. Source 1 + i is the job's i-th URL, and no other source is asked. Where it is
+/// refused there is no event, so what the source listed before stays.
 pub fn refresh<S: Scrape>(
     alloc: Global,
     job: &Job,
@@ -21,22 +24,34 @@ pub fn refresh<S: Scrape>(
     source: u32,
     scrape: &mut S,
 ) -> Result<Event, RefreshError>
-    requires by_http { 0 < source }
-    requires listed { source ≤ length job.now.http_urls }
     ensures { Refreshed S.may_fetch scrape.old scrape.new job.now rules.now source result }
 {
-    let get = get_of_source(alloc, job, source)?;
+    let Some(get) = get_of_source(alloc, job, source)? else {
+        return Err(RefreshError::NoSource);
+    };
     match scrape.fetch(&get) {
         Ok(reply) => found(alloc, job, rules, source, &reply),
         Err(fault) => Err(RefreshError::from(fault)),
     }
 }
 
-fn get_of_source(alloc: Global, job: &Job, source: u32) -> Result<Get, AllocError>
-    requires by_http { 0 < source }
-    requires listed { source ≤ length job.now.http_urls }
-    ensures { IfOk result (λ get. get ≡ source_get job.now source) }
+/// How a source is asked, where the job has one of this number that is asked at all.
+fn get_of_source(alloc: Global, job: &Job, source: u32) -> Result<Option<Get>, AllocError>
+    ensures get { IfOk result (λ get. get ≡ source_get job.now source) }
+    ensures listed { IfOk result (λ get. IfSome get (λ _. source ≤ length job.now.http_urls)) }
 {
-    let urls = job.http_urls.as_slice();
-    get_of_url(alloc, urls[source as usize - 1].as_str())
+    match source.checked_sub(1) {
+        Some(index) => get_at(alloc, job.http_urls.as_slice(), index as usize),
+        None => Ok(None),
+    }
+}
+
+fn get_at(alloc: Global, urls: &[Text], index: usize) -> Result<Option<Get>, AllocError>
+    ensures get { IfOk result (λ get. get ≡ option_map url_get (slice_get urls.now index)) }
+    ensures listed { IfOk result (λ get. IfSome get (λ _. index < length urls.now)) }
+{
+    match urls.get(index) {
+        Some(url) => Ok(Some(get_of_url(alloc, url.as_str())?)),
+        None => Ok(None),
+    }
 }

@@ -3,6 +3,7 @@ ghost use Rattle.std.specs.Prelude.{◌≡◌, ◌<◌, ◌⊎◌, ℕ, Result};
 ghost use Rattle.http_get.specs.declared.get.Get.{Get as AnyGet};
 ghost use Rattle.http_get.specs.declared.reply.Reply.{Reply as AnyReply};
 ghost use Rattle.http_get.specs.declared.reply.FetchFault.{FetchFault as AnyFault};
+ghost use Rattle.http_get.specs.Scripts.{counted};
 
 use crate::get::Get;
 use crate::reply::{FetchFault, Reply};
@@ -22,4 +23,14 @@ pub trait Scrape {
     /// How many fetches came to `Device`.
     fn failures(&self) -> u64
         ensures { result ≡ failed self.now };
+}
+
+/// How many fetches came to `Device` once this one did or did not, up to the greatest number.
+pub fn failures_after(reply: &Result<Reply, FetchFault>, failures: u64) -> u64
+    ensures { result ≡ counted reply.now failures }
+{
+    match reply {
+        Err(FetchFault::Device) => failures.saturating_add(1),
+        _ => failures,
+    }
 }

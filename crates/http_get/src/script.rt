@@ -1,10 +1,10 @@
 //! A device over memory, for tests.
 ghost use Rattle.std.specs.Prelude.{◌≡◌, ◌++◌, ◌∷◌, [], drop, OnOk, OnErr};
-ghost use Rattle.http_get.specs.Scripts.{next_reply, counted};
+ghost use Rattle.http_get.specs.Scripts.{next_reply};
 
 use crate::get::Get;
 use crate::reply::{FetchFault, Reply};
-use crate::scrape::Scrape;
+use crate::scrape::{Scrape, failures_after};
 use lists::{List, Plain};
 use std::alloc::{AllocError, Global};
 use std::collections::VecDeque;
@@ -68,7 +68,7 @@ impl Scrape for Script {
             return Err(FetchFault::Memory);
         }
         let reply = next_of(&mut self.replies);
-        self.failures = one_more_failure(&reply, self.failures);
+        self.failures = failures_after(&reply, self.failures);
         reply
     }
 
@@ -92,14 +92,5 @@ fn next_of(replies: &mut VecDeque<Result<Reply, FetchFault>>) -> Result<Reply, F
     match replies.pop_front() {
         Some(reply) => reply,
         None => Err(FetchFault::Device),
-    }
-}
-
-fn one_more_failure(reply: &Result<Reply, FetchFault>, failures: u64) -> u64
-    ensures { result ≡ counted reply.now failures }
-{
-    match reply {
-        Err(FetchFault::Device) => failures.saturating_add(1),
-        _ => failures,
     }
 }

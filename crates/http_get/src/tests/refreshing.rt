@@ -142,9 +142,6 @@ fn refreshed(
 ) -> Result<String, Fail> {
     let job = config.jobs.as_slice().first().ok_or("a job")?;
     let rules = rules_of(alloc, job)?;
-    if source == 0 || source as usize > job.http_urls.len() {
-        return Err("a source")?;
-    }
     Ok(told(alloc, refresh(alloc, job, &rules, source, scrape))?)
 }
 
@@ -163,7 +160,9 @@ fn refreshes_sources(rt: HostRuntime) -> Result<(), Fail> {
     let config = read_config(rt.alloc(), CONFIG.as_bytes())?;
     let mut script = script_of(rt.alloc())?;
     for (source, expected, failures) in [
-        (1u32, "Device Device", 1u64),
+        (0u32, "NoSource NoSource", 0u64),
+        (3, "NoSource NoSource", 0),
+        (1, "Device Device", 1),
         (2, "j 2 h:1", 1),
         (1, "TooLong TooLong", 1),
         (1, "Status Status(503)", 1),
