@@ -16,13 +16,14 @@ def lines_in(files):
     return sum(sum(1 for line in file.read_text().splitlines() if line.strip()) for file in files)
 
 
+# whether a file of a crate holds tests, by its path from the folder of crates
 def is_test(file):
-    return "tests" in file.parts or file.name == "tests.rt"
+    return file.parts[0].endswith("_tests") or "tests" in file.parts or file.name == "tests.rt"
 
 
 def row(crate):
     code = sorted(crate.glob("src/**/*.rt"))
-    tests = [file for file in code if is_test(file.relative_to(crate))]
+    tests = [file for file in code if is_test(file.relative_to(ROOT))]
     return [
         lines_in(file for file in code if file not in tests),
         lines_in(tests),

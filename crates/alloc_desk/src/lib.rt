@@ -20,8 +20,6 @@ mod receipt;
 mod record;
 mod shelf;
 mod spare;
-#[cfg(test)]
-mod tests;
 mod view;
 
 pub use attempt::{Lost, ReallocateError, Reallocated};

@@ -11,8 +11,6 @@ mod limits;
 mod machine;
 mod renewal;
 mod runs;
-#[cfg(test)]
-mod tests;
 
 pub use fleet::{Collector, JobSpec, OpenError};
 pub use fleet_events::{Answer, CollectorId, Event, Outcome, Refusal, Report, TargetId};

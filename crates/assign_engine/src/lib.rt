@@ -12,8 +12,6 @@ mod search_tables;
 mod seating;
 mod start;
 mod table;
-#[cfg(test)]
-mod tests;
 mod walks;
 
 pub use engine::{Work, solve};

@@ -17,8 +17,6 @@ mod live;
 mod outcome;
 mod parts;
 mod share_limit;
-#[cfg(test)]
-mod tests;
 
 pub use collector::Collector;
 pub use error::OpenError;

@@ -8,8 +8,6 @@ mod allocation;
 mod instance;
 mod laws;
 mod table;
-#[cfg(test)]
-mod tests;
 
 pub use allocation::build_allocation;
 pub use instance::build_instance;

@@ -13,8 +13,6 @@ mod reading;
 mod refusal;
 mod report;
 mod target;
-#[cfg(test)]
-mod tests;
 mod writing;
 
 pub use answer::Answer;

@@ -11,8 +11,6 @@ mod listing;
 mod pairs;
 mod renewing;
 mod survivors;
-#[cfg(test)]
-mod tests;
 
 pub use error::RenewError;
 pub use renewing::{RenewedFleet, fleet_refusal, renew_fleet};

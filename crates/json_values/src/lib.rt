@@ -7,8 +7,6 @@
 
 mod parsing;
 mod spelled;
-#[cfg(test)]
-mod tests;
 mod written;
 
 pub use parsing::parse;

@@ -11,8 +11,6 @@ mod labels;
 mod laws;
 mod name;
 mod target;
-#[cfg(test)]
-mod tests;
 mod texts;
 
 pub use error::LabelError;

@@ -4,8 +4,6 @@
 
 mod list;
 mod plain;
-#[cfg(test)]
-mod tests;
 mod text;
 
 pub use list::List;

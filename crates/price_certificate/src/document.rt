@@ -6,8 +6,6 @@ ghost use Rattle.json_values.specs.Texts.{IsJson};
 ghost use Rattle.price_certificate.specs.Document.{IsInstanceDocument, IsDocument, document_data};
 
 mod reading;
-#[cfg(test)]
-mod tests;
 mod writing;
 
 use crate::instance::Instance;

@@ -9,8 +9,6 @@ mod instance;
 mod laws;
 mod plan;
 mod shape;
-#[cfg(test)]
-mod tests;
 mod verdict;
 mod version;
 

@@ -14,8 +14,6 @@ mod row;
 mod rule;
 mod spelled;
 mod table;
-#[cfg(test)]
-mod tests;
 
 pub use error::{NameError, ReachError};
 pub use has_target::HasTarget;

@@ -16,8 +16,6 @@ mod name;
 mod pattern;
 mod rule;
 mod rules;
-#[cfg(test)]
-mod tests;
 mod worker;
 
 pub use action::Action;

@@ -8,8 +8,6 @@ mod error;
 mod report;
 mod samples;
 mod standing;
-#[cfg(test)]
-mod tests;
 
 pub use books::{Books, rounds_rise};
 pub use error::BooksError;

@@ -14,8 +14,6 @@ mod labelling;
 mod laws;
 mod limits;
 mod media;
-#[cfg(test)]
-mod tests;
 mod written;
 
 pub use config::{Config, Job, Param, read_config, scrape_configs_text};

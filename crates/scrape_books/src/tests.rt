@@ -1,3 +1,0 @@
-//! Books and samples.
-mod books;
-mod samples;
