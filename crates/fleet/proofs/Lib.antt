@@ -1,6 +1,7 @@
 pub mod ChangeLemmas
 pub mod Chosen
 pub mod EnteredLemmas
+pub mod FaultLemmas
 pub mod KeptLemmas
 pub mod LiveLemmas
 pub mod Marks

@@ -1,5 +1,5 @@
 -- The rows of a fleet's collectors over its known targets: after a change, and what is read of them.
-use Rattle.std.proofs.Common.{◌≡◌, ℕ, zero, suc, List, [], ◌∷◌, ◌++◌, Bool, true, false, Option, Some, None, cond, drop, length, map, take, refl, sym, ap, ◌∙◌, arith}
+use Rattle.std.proofs.Common.{◌≡◌, ℕ, zero, suc, List, [], ◌∷◌, ◌++◌, Bool, true, false, cond, drop, length, map, take, refl, sym, ap, ◌∙◌, arith}
 use Rattle.std.specs.Prelude.{◌==◌, filter, not, slice_get, slice_index_or}
 use Rattle.std.specs.Option.{option_map_or}
 use Rattle.std.proofs.Math.Seq.{take-append_seam}
@@ -7,7 +7,7 @@ use Rattle.std.proofs.lemmas.List.{length-map, map-append, take-append-drop}
 use Rattle.label_sets.specs.Target.{FinalTarget}
 use Rattle.reach_rules.specs.declared.rule.ReachRule.{ReachRule}
 use Rattle.reach_rules.specs.Rules.{reaches}
-use Rattle.reach_rules.specs.Table.{ReachRow, answer_in, answers, is_reached_at, row_of, rows_without}
+use Rattle.reach_rules.specs.Table.{ReachRow, answers, is_reached_at, row_of, rows_without}
 use Rattle.fleet.specs.Reached.{reach_rows, reaches_in, rows_with, targets_of}
 use Rattle.fleet.specs.declared.known_target.KnownTarget.{KnownTarget}
 use Rattle.fleet.specs.declared.collector.Collector.{Collector}

@@ -1,5 +1,6 @@
 pub mod Changes
 pub mod Fleet
+pub mod Parts
 pub mod IsFleet
 pub mod Jobs
 pub mod KnownTarget

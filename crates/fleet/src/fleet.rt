@@ -1,16 +1,18 @@
 //! The fleet, and how it changes.
-ghost use Rattle.std.specs.Prelude.{◌≡◌, ◌<◌, ◌≤◌, ◌↔◌, Some, None, Ok, Err, false, true, length, slice_get, MatchOption, IfOk, OnOk, OnErr};
+ghost use Rattle.std.specs.Prelude.{◌≡◌, ◌<◌, ◌≤◌, ◌↔◌, ◌≢◌, if◌then◌else◌, Some, None, Ok, Err, false, true, length, slice_get, MatchOption, IfErr, IfOk, OnOk, OnErr};
 ghost use Rattle.fleet.specs.Fleet.{first_fleet, id_named, is_joined, is_live, live_of};
 ghost use Rattle.fleet.specs.IsFleet.{IsFleet};
 ghost use Rattle.fleet.specs.Jobs.{are_jobs, sources_at};
 ghost use Rattle.fleet.specs.Changes.{listing_of, fleet_after_list, joining_of, join_refusal, fleet_after_join, fleet_after_leave, draining_of, fleet_after_drain, limiting_of, fleet_after_limits, kept_unless, relisted, IsChange};
 ghost use Rattle.fleet.specs.Live.{AreMarks};
+ghost use Rattle.fleet.specs.Parts.{are_distinct, fleet_of, parts_fault};
 ghost use Rattle.fleet.specs.Reached.{reaches_at};
 
 use crate::collector::{
     Collector, begin_draining, has_id, id_named, is_draining, replace_limits, take_out,
 };
-use crate::error::OpenError;
+use crate::error::{OpenError, PartsError};
+use crate::fleet_parts::FleetParts;
 use crate::job::JobSpec;
 use crate::jobs::{are_for_jobs, are_jobs, job_named, nothing_listed, sources_at};
 use crate::known_target::KnownTarget;
@@ -21,6 +23,7 @@ use crate::outcome::{
     DrainRefusal, Draining, JoinRefusal, Joining, Limiting, LimitsRefusal, ListRefusal, Listing,
 };
 use crate::parts::{known_set, reach_table};
+use crate::restoring::fault_of;
 use indexmap::IndexSet;
 use label_sets::Target;
 use lists::List;
@@ -88,7 +91,10 @@ impl Fleet {
         requires named { are_jobs jobs.items ≡ true }
         ensures { IfOk result (λ f. f ≡ record { jobs = jobs.items; listed = listed.items; known = known.items; collectors = collectors.items; last_collector = last_collector }) }
     {
-        let known = known_set(alloc, known)?;
+        let known = match known_set(alloc, known)? {
+            Some(known) => known,
+            None => unreachable!(),
+        };
         let table = reach_table(alloc, collectors.as_slice(), known.as_slice())?;
         Ok(Fleet {
             alloc,
@@ -96,6 +102,47 @@ impl Fleet {
             listed,
             known,
             collectors,
+            last_collector,
+            table,
+        })
+    }
+
+    /// The fleet of these parts, or the first fault in them.
+    pub fn restored(alloc: Global, parts: FleetParts) -> Result<Fleet, PartsError>
+        ensures fleet { IfOk result (λ f. f ≡ fleet_of parts) }
+        ensures good { OnOk result (parts_fault (fleet_of parts) ≡ None) }
+        ensures fault { IfErr result (λ e. e ≢ PartsError.Memory → parts_fault (fleet_of parts) ≡ Some e) }
+    {
+        if let Some(fault) = fault_of(alloc, &parts)? {
+            return Err(fault);
+        }
+        Fleet::of_good(alloc, parts)
+    }
+
+    /// The fleet of parts that have no fault but that a target may be there twice.
+    fn of_good(alloc: Global, parts: FleetParts) -> Result<Fleet, PartsError>
+        requires { parts_fault (fleet_of parts) ≡ (if are_distinct parts.known then None else Some PartsError.RepeatedTarget) }
+        ensures fleet { IfOk result (λ f. f ≡ fleet_of parts) }
+        ensures good { OnOk result (parts_fault (fleet_of parts) ≡ None) }
+        ensures fault { IfErr result (λ e. e ≢ PartsError.Memory → parts_fault (fleet_of parts) ≡ Some e) }
+    {
+        let FleetParts {
+            jobs,
+            listed,
+            known,
+            collectors,
+            last_collector,
+        } = parts;
+        let Some(known) = known_set(alloc, known.into_vec())? else {
+            return Err(PartsError::RepeatedTarget);
+        };
+        let table = reach_table(alloc, collectors.as_slice(), known.as_slice())?;
+        Ok(Fleet {
+            alloc,
+            jobs,
+            listed: listed.into_vec(),
+            known,
+            collectors: collectors.into_vec(),
             last_collector,
             table,
         })
@@ -260,6 +307,7 @@ impl Fleet {
         ensures jobs { result.now ≡ self.now.jobs }
         ensures kept { IsFleet self.now }
         ensures named { are_jobs self.now.jobs ≡ true }
+        ensures good { parts_fault self.now ≡ None }
     {
         self.jobs.as_slice()
     }

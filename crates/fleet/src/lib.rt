@@ -7,6 +7,7 @@
 mod collector;
 mod error;
 mod fleet;
+mod fleet_parts;
 mod job;
 mod jobs;
 mod known_target;
@@ -16,11 +17,13 @@ mod listing;
 mod live;
 mod outcome;
 mod parts;
+mod restoring;
 mod share_limit;
 
 pub use collector::Collector;
-pub use error::OpenError;
+pub use error::{OpenError, PartsError};
 pub use fleet::Fleet;
+pub use fleet_parts::FleetParts;
 pub use job::JobSpec;
 pub use jobs::{are_jobs, has_job, job_named};
 pub use known_target::KnownTarget;

@@ -1,8 +1,7 @@
 //! The set of known targets and the table of answers, made of lists.
-ghost use Rattle.std.specs.Prelude.{◌≡◌, AllPairs, IfOk, false};
-ghost use Rattle.fleet.specs.KnownTarget.{same_known};
+ghost use Rattle.std.specs.Prelude.{◌≡◌, IfNone, IfOk, IfSome, false, true};
+ghost use Rattle.fleet.specs.Parts.{are_distinct};
 ghost use Rattle.fleet.specs.Reached.{reach_rows};
-ghost use Rattle.fleet.specs.declared.known_target.KnownTarget.{KnownTarget};
 
 use crate::collector::Collector;
 use crate::known_target::KnownTarget;
@@ -10,19 +9,22 @@ use indexmap::IndexSet;
 use reach_rules::ReachTable;
 use std::alloc::{AllocError, Global};
 
-/// The set of these targets, in their order.
+/// The set of these targets, in their order, unless one is there twice.
 pub(crate) fn known_set(
     alloc: Global,
     targets: Vec<KnownTarget>,
-) -> Result<IndexSet<KnownTarget>, AllocError>
-    requires { AllPairs (λ (a b : KnownTarget). same_known b a ≡ false) targets.items }
-    ensures { IfOk result (λ s. s.keys ≡ targets.items) }
+) -> Result<Option<IndexSet<KnownTarget>>, AllocError>
+    ensures some { IfOk result (λ o. IfSome o (λ s. (s.keys ≡ targets.items) × (are_distinct targets.items ≡ true))) }
+    ensures none { IfOk result (λ o. IfNone o (are_distinct targets.items ≡ false)) }
 {
     let mut known = IndexSet::new(alloc);
     for target in targets {
-        let _ = known.insert_full(target)?;
+        let (_, is_new) = known.insert_full(target)?;
+        if !is_new {
+            return Ok(None);
+        }
     }
-    Ok(known)
+    Ok(Some(known))
 }
 
 /// The answers of the collectors' rules for the known targets.

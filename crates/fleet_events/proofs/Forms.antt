@@ -27,7 +27,7 @@ labels_no_float : (labels : LabelList) → members_have_float (label_members lab
 labels_no_float [] = refl
 labels_no_float (l ∷ labels) = labels_no_float labels
 
-target_no_float : (target : FinalTarget) → has_float (target_data target) ≡ false
+pub target_no_float : (target : FinalTarget) → has_float (target_data target) ≡ false
 target_no_float target = or_from _ _ (labels_no_float target.labels) refl
 
 test_no_float : (allow : _) (test : ReachTest) → has_float (rule_data_of allow test) ≡ false
@@ -35,10 +35,10 @@ test_no_float allow Any = refl
 test_no_float allow (Present label) = refl
 test_no_float allow (Equals label text) = refl
 
-reach_no_float : (reach : List ReachRule) → has_float (reach_data reach) ≡ false
+pub reach_no_float : (reach : List ReachRule) → has_float (reach_data reach) ≡ false
 reach_no_float = no_float rule_data (λ rule. test_no_float rule.allow rule.test)
 
-limits_no_float : (limits : LimitList) → members_have_float (limit_members limits) ≡ false
+pub limits_no_float : (limits : LimitList) → members_have_float (limit_members limits) ≡ false
 limits_no_float [] = refl
 limits_no_float (entry ∷ limits) = limits_no_float limits
 
@@ -68,7 +68,7 @@ labels_levels : (labels : LabelList) → members_depth (label_members labels) �
 labels_levels [] = omega arith
 labels_levels (l ∷ labels) = max-le (omega arith) (labels_levels labels)
 
-target_levels : (target : FinalTarget) → depth (target_data target) ≤ 2
+pub target_levels : (target : FinalTarget) → depth (target_data target) ≤ 2
 target_levels target = omega (arith, labels_levels target.labels)
 
 test_levels : (allow : _) (test : ReachTest) → depth (rule_data_of allow test) ≤ 1
@@ -76,10 +76,10 @@ test_levels allow Any = omega arith
 test_levels allow (Present label) = omega arith
 test_levels allow (Equals label text) = omega arith
 
-reach_levels : (reach : List ReachRule) → depth (reach_data reach) ≤ 2
+pub reach_levels : (reach : List ReachRule) → depth (reach_data reach) ≤ 2
 reach_levels reach = omega (arith, levels rule_data 1 (λ rule. test_levels rule.allow rule.test) reach)
 
-limits_levels : (limits : LimitList) → members_depth (limit_members limits) ≤ 0
+pub limits_levels : (limits : LimitList) → members_depth (limit_members limits) ≤ 0
 limits_levels [] = omega arith
 limits_levels (entry ∷ limits) = max-le (omega arith) (limits_levels limits)
 

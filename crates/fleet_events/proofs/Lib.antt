@@ -1,2 +1,2 @@
-mod TargetLemmas
-mod Forms
+pub mod TargetLemmas
+pub mod Forms

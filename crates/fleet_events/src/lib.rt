@@ -22,3 +22,5 @@ pub use reading::{read_event, read_report};
 pub use refusal::Refusal;
 pub use report::Report;
 pub use scrape_books::Outcome;
+pub use target::read_target;
+pub use writing::target_value;

@@ -34,9 +34,9 @@ fn read_each(alloc: Global, values: &[Value]) -> Result<Option<List<Target>>, Al
     Ok(Some(targets))
 }
 
-/// A target group with one target.
+/// The target that a JSON value says, if it says one: a target group with exactly one target text, which is not empty.
 #[tactic(auto, unfolding(crate::specs::Targets::target_in))]
-fn read_target(alloc: Global, value: &Value) -> Result<Option<Target>, AllocError>
+pub fn read_target(alloc: Global, value: &Value) -> Result<Option<Target>, AllocError>
     ensures { IfOk result (λ o. o ≡ target_in (view value.now)) }
 {
     match read_one_group(alloc, value)? {

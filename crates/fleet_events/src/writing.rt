@@ -84,8 +84,8 @@ fn target_values(alloc: Global, targets: &[Target]) -> Result<Vec<Value>, AllocE
     Ok(values)
 }
 
-/// The target's group, which is finished to the target again.
-fn target_value(alloc: Global, target: &Target) -> Result<Value, AllocError>
+/// The target's group as a JSON value, which says the target again.
+pub fn target_value(alloc: Global, target: &Target) -> Result<Value, AllocError>
     ensures form { IfOk result (λ v. view v ≡ target_data target.now) }
     ensures reads_back { IfOk result (λ v. target_in (view v) ≡ Some target.now) }
 {

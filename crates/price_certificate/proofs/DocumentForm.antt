@@ -27,8 +27,8 @@ has_float-document_data p pairs item_prices bin_prices =
     let both = no_float pair_data (λ q. refl) in
     no_float_by p.version _ _ _ _ _ _ _ (both (pairs_from 0 p.before)) (numbers bin_prices) (numbers p.limits) (numbers (marked_from 0 p.draining)) (numbers item_prices) (both pairs) (no_float (list_data number_data) numbers p.rows)
 
-pub depth-document_data : (p : Problem) (pairs : List (ℕ × ℕ)) (item_prices bin_prices : List ℕ) → depth (document_data p pairs item_prices bin_prices) ≤ max_depth
-depth-document_data p pairs item_prices bin_prices =
+pub levels-document_data : (p : Problem) (pairs : List (ℕ × ℕ)) (item_prices bin_prices : List ℕ) → depth (document_data p pairs item_prices bin_prices) ≤ 3
+levels-document_data p pairs item_prices bin_prices =
     let numbers = levels number_data 0 (λ n. omega arith) in
     let both = levels pair_data 1 (λ q. omega arith) in
     let rows = levels (list_data number_data) 1 (λ row. omega (arith, levels number_data 0 (λ n. omega arith) row)) p.rows in
@@ -37,6 +37,9 @@ depth-document_data p pairs item_prices bin_prices =
     let table : depth (list_data (list_data number_data) p.rows) ≤ 2 = omega (arith, rows) in
     let most = levels_by p.version (list_data pair_data (pairs_from 0 p.before)) (list_data number_data bin_prices) (list_data number_data p.limits) (list_data number_data (marked_from 0 p.draining)) (list_data number_data item_prices) (list_data pair_data pairs) (list_data (list_data number_data) p.rows) 2 (two (pairs_from 0 p.before)) (low bin_prices) (low p.limits) (low (marked_from 0 p.draining)) (low item_prices) (two pairs) table in
     omega (arith, most)
+
+pub depth-document_data : (p : Problem) (pairs : List (ℕ × ℕ)) (item_prices bin_prices : List ℕ) → depth (document_data p pairs item_prices bin_prices) ≤ max_depth
+depth-document_data p pairs item_prices bin_prices = omega (arith, levels-document_data p pairs item_prices bin_prices)
 
 -- the text of what has the form
 pub text_of_form : (b : List ℕ) (p : Problem) (pairs : List (ℕ × ℕ)) (item_prices bin_prices : List ℕ) (d : Data) → d ≡ document_data p pairs item_prices bin_prices → (has_float d ≡ false → b ≡ compact_text d) → b ≡ compact_text (document_data p pairs item_prices bin_prices)

@@ -28,7 +28,7 @@ same_marks bins draining xs ys h k =
 same_parts : (v w : Version) (limits ls : List ℕ) (marks ms : List Bool) (rows rs : List (List ℕ)) (places ps : List (Option ℕ)) → v ≡ w → limits ≡ ls → marks ≡ ms → rows ≡ rs → places ≡ ps → ◌≡◌ {A = Problem} (record { version = v; limits = limits; draining = marks; rows = rows; before = places }) (record { version = w; limits = ls; draining = ms; rows = rs; before = ps })
 same_parts v w limits ls marks ms rows rs places ps d e f g h = cc
 
-one_problem : (version : Version) (limits draining : List ℕ) (rows : List (List ℕ)) (pairs : List (ℕ × ℕ)) (p q : Problem) → IsProblemOf p version limits draining rows pairs → IsProblemOf q version limits draining rows pairs → p ≡ q
+pub one_problem : (version : Version) (limits draining : List ℕ) (rows : List (List ℕ)) (pairs : List (ℕ × ℕ)) (p q : Problem) → IsProblemOf p version limits draining rows pairs → IsProblemOf q version limits draining rows pairs → p ≡ q
 one_problem version limits draining rows pairs p q h k =
     same_parts p.version q.version p.limits q.limits p.draining q.draining p.rows q.rows p.before q.before (h.same_version ∙ sym k.same_version) (h.same_limits ∙ sym k.same_limits) (same_marks (length limits) draining p.draining q.draining h.same_draining k.same_draining) (h.same_rows ∙ sym k.same_rows) (same_places (length rows) pairs p.before q.before h.before k.before)
 
@@ -38,7 +38,7 @@ one_version One Two e = absurd (omega (arith, e))
 one_version Two One e = absurd (omega (arith, e))
 one_version Two Two e = refl
 
-one_spelled : (d : Data) (p q : Problem) → SpellsInstance d p → SpellsInstance d q → p ≡ q
+pub one_spelled : (d : Data) (p q : Problem) → SpellsInstance d p → SpellsInstance d q → p ≡ q
 one_spelled d p q h k =
     let version = one_version k.version h.version (some_same _ (version_number k.version) (version_number h.version) k.parts.number h.parts.number) in
     let limits = some_same _ k.limits h.limits k.parts.bins h.parts.bins in

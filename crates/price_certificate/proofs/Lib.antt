@@ -14,3 +14,4 @@ pub mod Finding
 pub mod Verdicts
 pub mod LeastFault
 pub mod Marking
+pub mod InstanceLemmas

@@ -1,5 +1,5 @@
 -- An object says a plan exactly if its members spell the plan's lists.
-use Rattle.std.proofs.Common.{◌≡◌, ℕ, List, Option, Some, None, option_map, option_and_then, IfSome, IfNone, sym, ap}
+use Rattle.std.proofs.Common.{◌≡◌, ℕ, List, Option, Some, None, option_map, option_and_then, IfSome, IfNone, refl, sym, ap}
 use Rattle.serde_json.specs.Data.{Data}
 use Rattle.price_certificate.specs.Document.{SpellsPlan}
 use Rattle.price_certificate.specs.Plan.{plan_of, plan_in}
@@ -30,3 +30,10 @@ pub is_not_spelled : (d : Data) (o : Option Plan) → o ≡ plan_in d → IfNone
 unfolding plan_in
 is_not_spelled d None e = λ pairs item_prices bin_prices spelled. not_by _ _ _ pairs item_prices bin_prices (sym e) spelled.pairs spelled.item_prices spelled.bin_prices
 is_not_spelled d (Some plan) e = tt
+
+plan_by : (o : Option (List (ℕ × ℕ))) (p q : Option (List ℕ)) (plan : Plan) → o ≡ Some plan.pairs → p ≡ Some plan.item_prices → q ≡ Some plan.bin_prices → option_and_then (λ pairs. option_and_then (λ item_prices. option_map (plan_of pairs item_prices) q) p) o ≡ Some plan
+plan_by o p q plan e f g = rw e (rw f (rw g refl))
+
+pub spelled_plan : (d : Data) (plan : Plan) → SpellsPlan d plan.pairs plan.item_prices plan.bin_prices → plan_in d ≡ Some plan
+unfolding plan_in
+spelled_plan d plan spelled = plan_by _ _ _ plan spelled.pairs spelled.item_prices spelled.bin_prices

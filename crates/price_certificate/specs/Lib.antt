@@ -5,3 +5,4 @@ pub mod Certificate
 pub mod Faults
 pub mod Lines
 pub mod Plan
+pub mod Instances

@@ -1,8 +1,11 @@
 //! The JSON document of a certificate: an instance and a plan.
-ghost use Rattle.std.specs.Prelude.{◌≡◌, ℕ, List, IfOk};
+ghost use Rattle.std.specs.Prelude.{◌≡◌, ℕ, List, Some, IfOk};
+ghost use Rattle.serde_json.specs.View.{view};
 ghost use Rattle.serde_json.specs.Written.{compact_text};
 ghost use Rattle.price_certificate.specs.Problem.{Problem};
 ghost use Rattle.json_values.specs.Texts.{IsJson};
+ghost use Rattle.price_certificate.specs.Instances.{problem_in};
+ghost use Rattle.price_certificate.specs.Plan.{plan_in};
 ghost use Rattle.price_certificate.specs.Document.{IsInstanceDocument, IsDocument, document_data};
 
 mod reading;
@@ -11,6 +14,7 @@ mod writing;
 use crate::instance::Instance;
 use crate::plan::Plan;
 use reading::{instance_in, json_in, plan_in};
+use serde_json::Value;
 use std::alloc::{AllocError, Global};
 use thiserror::Error;
 use writing::value_of;
@@ -81,6 +85,22 @@ pub fn write_document(
     ensures reads_back { IfOk result (λ b. IsDocument b.items instance.now plan.now.pairs plan.now.item_prices plan.now.bin_prices) }
 {
     value_of(alloc, instance, plan)?.to_vec(alloc)
+}
+
+/// The instance that a JSON value spells, if it spells one. Members of a plan are ignored, whatever they hold.
+pub fn instance_of(alloc: Global, value: &Value) -> Result<Option<Instance>, AllocError>
+    ensures { IfOk result (λ o. o ≡ problem_in (view value.now)) }
+{
+    instance_in(alloc, value)
+}
+
+/// The document of an instance and a plan as a JSON value.
+pub fn document_value(alloc: Global, instance: &Instance, plan: &Plan) -> Result<Value, AllocError>
+    ensures form { IfOk result (λ v. view v ≡ document_data instance.now plan.now.pairs plan.now.item_prices plan.now.bin_prices) }
+    ensures instance { IfOk result (λ v. problem_in (view v) ≡ Some instance.now) }
+    ensures plan { IfOk result (λ v. plan_in (view v) ≡ Some plan.now) }
+{
+    value_of(alloc, instance, plan)
 }
 
 /// A text is the document of one instance and one plan at most, so what is written reads back as what it was written of.

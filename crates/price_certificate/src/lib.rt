@@ -14,7 +14,8 @@ mod version;
 
 pub use checker::check;
 pub use document::{
-    DocumentError, one_document, one_instance, read_document, read_instance, write_document,
+    DocumentError, document_value, instance_of, one_document, one_instance, read_document,
+    read_instance, write_document,
 };
 pub use instance::Instance;
 pub use laws::{
