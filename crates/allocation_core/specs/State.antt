@@ -3,7 +3,7 @@ use Rattle.std.specs.Prelude.{ℕ, List, [], length}
 use Rattle.price_certificate.specs.Problem.{Problem}
 use Rattle.price_certificate.specs.declared.plan.Plan.{Plan}
 use Rattle.price_certificate.specs.declared.version.Version.TheVariants.{Two}
-use Rattle.handover.specs.Handover.{last_of, held_in}
+use Rattle.handover.specs.Handover.{last_of, held_in, only}
 use Rattle.scrape_books.specs.declared.report.Entry.{Entry}
 use Rattle.fleet.specs.Fleet.{FleetState, first_fleet}
 use Rattle.fleet.specs.declared.job.JobSpec.{JobSpec}
@@ -37,6 +37,11 @@ first_state jobs =
       round = 1;
       booked = [];
     }
+
+-- The state that a renewal leaves, from what it keeps: the allocation is the first and only one, or there is none where it is
+-- empty. Nobody has taken anything, and nothing is booked.
+abbrev pub restored : FleetState → List (ℕ × ℕ) → Problem → Plan → ℕ → State
+restored fleet pairs problem plan round = record { fleet = fleet; published = only pairs; problem = problem; plan = plan; taken = []; round = round; booked = [] }
 
 -- the number of the current allocation
 abbrev pub current_of : State → ℕ

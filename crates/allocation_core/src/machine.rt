@@ -14,6 +14,7 @@ mod installing;
 mod joining;
 mod renewing;
 mod reporting;
+mod restoring;
 mod taking;
 
 use crate::certificate::{empty_instance, empty_plan};

@@ -1,0 +1,56 @@
+//! A core from what a renewal keeps, and readers of that.
+ghost use Rattle.std.specs.Prelude.{◌≡◌, ◌<◌, ◌≤◌, ℕ, AllPairs, IfOk};
+ghost use Rattle.allocation_core.specs.State.{current_pairs, restored};
+
+use super::Core;
+use fleet::Fleet;
+use fleet_events::{CollectorId, TargetId};
+use handover::Holders;
+use lists::List;
+use price_certificate::{Instance, Plan};
+use scrape_books::Books;
+use std::alloc::{AllocError, Global};
+
+impl Core {
+    /// The allocator as a renewal leaves it: these pairs are its only allocation, in order of target. Nobody has taken anything, and
+    /// nothing is booked.
+    pub fn restored(
+        alloc: Global,
+        fleet: Fleet,
+        pairs: List<(TargetId, CollectorId)>,
+        round: u32,
+        instance: Instance,
+        plan: Plan,
+    ) -> Result<Core, AllocError>
+        requires ascending { AllPairs (λ (a b : ℕ × ℕ). a.0 < b.0) pairs }
+        requires opened { 1 ≤ round }
+        ensures { IfOk result (λ c. c ≡ restored fleet pairs instance plan round) }
+    {
+        let _jobs = fleet.jobs();
+        let holders = Holders::carried_over(alloc, pairs)?;
+        Ok(Core {
+            alloc,
+            fleet,
+            holders,
+            instance,
+            plan,
+            round,
+            books: Books::open(alloc),
+        })
+    }
+
+    /// Who and what there is.
+    pub fn fleet(&self) -> &Fleet
+        ensures { result.now ≡ self.now.fleet }
+    {
+        &self.fleet
+    }
+
+    /// The current allocation, in order of target.
+    pub fn allocation(&self) -> &[(TargetId, CollectorId)]
+        ensures pairs { result.now ≡ current_pairs self.now }
+        ensures ascending { AllPairs (λ (a b : ℕ × ℕ). a.0 < b.0) result.now }
+    {
+        self.holders.current_pairs()
+    }
+}
