@@ -63,7 +63,7 @@ asked_at place.Reports path query = Ok Report
 -- 404 by path, and then 405
 abbrev pub asked_by : Option Place → List ℕ → List ℕ → Option (List ℕ) → Result Ask RequestError
 asked_by None method path query = Err NoRoute
-asked_by (Some place) method path query = if bytes_eq method (method_of place) then asked_at place path query else Err Method
+asked_by (Some place) method path query = if bytes_eq method (method_of place) then asked_at place path query else Err (Method place)
 
 abbrev pub asked : List ℕ → List ℕ → Option (List ℕ) → Result Ask RequestError
 asked method path query = asked_by (place_of path) method path query

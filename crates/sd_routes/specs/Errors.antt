@@ -5,7 +5,7 @@ use Rattle.sd_routes.specs.declared.request_error.RequestError.TheVariants.{NoRo
 
 abbrev pub status_of : RequestError → ℕ
 status_of NoRoute = 404
-status_of Method = 405
+status_of (Method place) = 405
 status_of Shape = 400
 status_of BadName = 400
 status_of TooManyRules = 400
@@ -15,7 +15,7 @@ status_of Memory = 503
 
 abbrev pub name_of : RequestError → List ℕ
 name_of NoRoute = codes "NoRoute"
-name_of Method = codes "Method"
+name_of (Method place) = codes "Method"
 name_of Shape = codes "Shape"
 name_of BadName = codes "BadName"
 name_of TooManyRules = codes "TooManyRules"

@@ -6,7 +6,7 @@ use Rattle.sd_routes.specs.declared.request_error.RequestError.TheVariants.{NoRo
 -- a refusal is given where it is said; that memory ran out says nothing
 abbrev pub Fails : {T : Type 0} → RequestError → Result T RequestError → Type 0
 Fails NoRoute said = said ≡ Err NoRoute
-Fails Method said = said ≡ Err Method
+Fails (Method place) said = said ≡ Err (Method place)
 Fails Shape said = said ≡ Err Shape
 Fails BadName said = said ≡ Err BadName
 Fails TooManyRules said = said ≡ Err TooManyRules

@@ -13,6 +13,9 @@ use Rattle.fleet_events.specs.declared.answer.Answer.TheVariants.{Not}
 use Rattle.fleet_events.specs.declared.refusal.Refusal.{Refusal}
 use Rattle.fleet_events.specs.declared.refusal.Refusal.TheVariants.{UnknownJob, UnknownCollector}
 use Rattle.sd_routes.specs.Errors.{status_of, name_of}
+use Rattle.sd_routes.specs.Table.{method_of}
+use Rattle.sd_routes.specs.declared.request_error.RequestError.{RequestError}
+use Rattle.sd_routes.specs.declared.request_error.RequestError.TheVariants.{Method}
 use Rattle.sd_routes.specs.declared.responding.Said.{Said}
 use Rattle.sd_routes.specs.declared.responding.Said.TheVariants.{Answer as Answered, Page, Taken, Refused}
 
@@ -38,6 +41,11 @@ taken_headers allocation round =
     (codes "content-type", plain_value (codes "application/json") ∷ [])
     ∷ (codes "x-allocation-number", plain_value (decimal allocation) ∷ [])
     ∷ (codes "x-scrape-round", plain_value (decimal round) ∷ []) ∷ []
+
+-- where the path has another method, that method (RFC 9110, section 15.5.6)
+abbrev pub refused_headers : RequestError → Entries FieldValue
+refused_headers (Method place) = (codes "content-type", plain_value (codes "application/json") ∷ []) ∷ (codes "allow", plain_value (method_of place) ∷ []) ∷ []
+refused_headers _ = json_headers
 
 -- ---- answers of the allocator
 
@@ -71,6 +79,7 @@ status_said (Refused error) = status_of error
 
 abbrev pub headers_said : Said → Entries FieldValue
 headers_said (Taken allocation round groups) = taken_headers allocation round
+headers_said (Refused error) = refused_headers error
 headers_said _ = json_headers
 
 abbrev pub body_said : Said → List ℕ

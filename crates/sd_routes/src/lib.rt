@@ -23,6 +23,7 @@ mod tests;
 pub use ask::Ask;
 pub use event::event_of;
 pub use pages::{job_page, jobs_page, targets_page};
+pub use place::Place;
 pub use request_error::RequestError;
 pub use responding::{Said, answer};
 pub use routes::Routes;

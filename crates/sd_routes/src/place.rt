@@ -1,10 +1,11 @@
 //! The places that paths name.
-ghost use Rattle.std.specs.Prelude.{◌≡◌};
+ghost use Rattle.std.specs.Prelude.{◌≡◌, IsTrue};
+ghost use Rattle.http_header.specs.FieldValue.{is_visible_text};
 ghost use Rattle.sd_routes.specs.Table.{method_of};
 
 /// What a path names.
 #[derive(Clone, Copy, Debug, PartialEq, Eq)]
-pub(crate) enum Place {
+pub enum Place {
     ScrapeConfigs,
     Jobs,
     JobTargets,
@@ -18,8 +19,9 @@ pub(crate) enum Place {
 
 impl Place {
     /// The one method that a place answers.
-    pub(crate) fn method(self) -> &'static str
-        ensures { result.now ≡ method_of self }
+    pub fn method(self) -> &'static str
+        ensures method { result.now ≡ method_of self }
+        ensures visible { IsTrue (is_visible_text result.now) }
     {
         match self {
             Place::ScrapeConfigs | Place::Jobs | Place::JobTargets | Place::Certificate => "GET",

@@ -2,6 +2,7 @@
 ghost use Rattle.std.specs.Prelude.{◌≡◌};
 ghost use Rattle.sd_routes.specs.Errors.{status_of, name_of};
 
+use crate::place::Place;
 use http::StatusCode;
 use std::alloc::AllocError;
 
@@ -11,7 +12,7 @@ pub enum RequestError {
     /// No place has the path.
     NoRoute,
     /// The place of the path has another method.
-    Method,
+    Method(Place),
     /// A segment of the path, or the body, is not of the documented shape.
     Shape,
     /// A collector's name is empty or longer than 128 bytes.
@@ -33,7 +34,7 @@ impl RequestError {
     {
         match self {
             RequestError::NoRoute => StatusCode::NOT_FOUND,
-            RequestError::Method => StatusCode::METHOD_NOT_ALLOWED,
+            RequestError::Method(_) => StatusCode::METHOD_NOT_ALLOWED,
             RequestError::Shape | RequestError::BadName | RequestError::TooManyRules => {
                 StatusCode::BAD_REQUEST
             }
@@ -49,7 +50,7 @@ impl RequestError {
     {
         match self {
             RequestError::NoRoute => "NoRoute",
-            RequestError::Method => "Method",
+            RequestError::Method(_) => "Method",
             RequestError::Shape => "Shape",
             RequestError::BadName => "BadName",
             RequestError::TooManyRules => "TooManyRules",

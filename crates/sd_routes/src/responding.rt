@@ -1,11 +1,12 @@
 //! How an answer is written.
 ghost use Rattle.std.specs.Prelude.{◌≡◌, IfOk, string_bytes};
-ghost use Rattle.sd_routes.specs.Responses.{IsResponse, IsHead, json_headers, taken_headers, refused_text, answer_text, status_answered, status_said, headers_said, body_said};
+ghost use Rattle.sd_routes.specs.Errors.{status_of};
+ghost use Rattle.sd_routes.specs.Responses.{IsResponse, IsHead, json_headers, taken_headers, refused_headers, refused_text, answer_text, status_answered, status_said, headers_said, body_said};
 
 use crate::request_error::RequestError;
 use bytes::Bytes;
 use fleet_events::{AllocationNumber, Answer, Refusal, Round};
-use http::header::{CONTENT_TYPE, HeaderName, HeaderValue};
+use http::header::{ALLOW, CONTENT_TYPE, HeaderName, HeaderValue};
 use http::response::Parts;
 use http::{Response, StatusCode};
 use http_body_util::Full;
@@ -46,7 +47,7 @@ pub fn answer(alloc: Global, said: Said) -> Result<Response<Full<Bytes>>, AllocE
             groups,
         } => response(taken_head(alloc, allocation, round)?, groups.into_string()),
         Said::Refused(error) => {
-            let head = json_head(alloc, error.status())?;
+            let head = refused_head(alloc, error)?;
             response(head, refused_text(alloc, error.name())?)
         }
     }
@@ -80,6 +81,19 @@ fn json_head(alloc: Global, status: StatusCode) -> Result<Parts, AllocError>
         Ok(_) => Ok(head),
         Err(_) => Err(AllocError),
     }
+}
+
+fn refused_head(alloc: Global, error: RequestError) -> Result<Parts, AllocError>
+    ensures { IfOk result (IsHead (status_of error) (refused_headers error)) }
+{
+    let mut head = json_head(alloc, error.status())?;
+    if let RequestError::Method(place) = error {
+        let allowed = HeaderValue::from_static(place.method());
+        if head.headers.insert(ALLOW, allowed).is_err() {
+            return Err(AllocError);
+        }
+    }
+    Ok(head)
 }
 
 fn taken_head(

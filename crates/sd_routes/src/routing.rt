@@ -30,7 +30,7 @@ pub fn route(
     let path = target.path();
     let place = routes.place(path).ok_or(RequestError::NoRoute)?;
     if method.as_str() != place.method() {
-        return Err(RequestError::Method);
+        return Err(RequestError::Method(place));
     }
     ask_at(alloc, place, path, target.query())
 }

@@ -2,16 +2,18 @@
 ghost use Rattle.std.specs.Prelude.{◌≡◌, IfOk, IfErr};
 ghost use Rattle.std.specs.Arc.{arc_value};
 ghost use Rattle.fleet.specs.Fleet.{id_named};
+ghost use Rattle.alloc_desk.specs.Views.{numbered_of, shares_of};
 ghost use Rattle.sd_server.specs.Jobs.{place_of};
 ghost use Rattle.sd_server.specs.Texts.{certificate_text, groups_text, job_text};
 ghost use Rattle.sd_server.specs.Says.{IsEntered, OfSome, Says, SaysCollector, SaysCopy, SaysEvent, SaysHeld, SaysJob, SaysListed, SaysNot, SaysPage, SaysTake, SaysText};
 
 use crate::certificate_page::certificate_page;
 use crate::config_pages::ConfigPages;
-use alloc_desk::{Desk, DeskName, EnterError, Pass, Receipt};
+use alloc_desk::{Desk, DeskName, EnterError, NumberedTarget, Pass, Receipt, Share};
 use allocation_core::{Answer, Event, Refusal};
 use fleet_events::{CollectorId, TargetId};
-use lists::{Plain, Text};
+use lists::{List, Plain, Text};
+use price_certificate::{Instance, Plan};
 use reach_rules::CollectorName;
 use sd_routes::{Ask, RequestError, Said, event_of, job_page, targets_page};
 use std::alloc::{AllocError, Global};
@@ -87,9 +89,15 @@ impl<R: Wait + Copy, L: Ledger, B: Ledger, N: DeskName> Handler<R, L, B, N> {
     fn certificate_text(&self) -> Result<Text, AllocError>
         ensures { IfOk result (λ t. OfSome N.opening (λ h. t ≡ certificate_text h)) }
     {
-        let mut pass = self.pass.lock(&self.rt);
-        let (instance, plan) = self.desk.certificate(&self.rt, &mut *pass)?;
+        let (instance, plan) = self.published()?;
         certificate_page(self.alloc, &instance, &plan)
+    }
+
+    fn published(&self) -> Result<(Instance, Plan), AllocError>
+        ensures { IfOk result (λ c. OfSome N.opening (λ h. (c.0 ≡ h.state.problem) × (c.1 ≡ h.state.plan))) }
+    {
+        let mut pass = self.pass.lock(&self.rt);
+        self.desk.certificate(&self.rt, &mut *pass)
     }
 
     fn job(&self, job: &str) -> Said
@@ -107,9 +115,15 @@ impl<R: Wait + Copy, L: Ledger, B: Ledger, N: DeskName> Handler<R, L, B, N> {
     fn job_text(&self, job: &str, place: usize) -> Result<Text, AllocError>
         ensures { IfOk result (λ t. OfSome N.opening (λ h. t ≡ job_text job.now place h)) }
     {
-        let mut pass = self.pass.lock(&self.rt);
-        let shares = self.desk.shares(&self.rt, self.alloc, &mut *pass, place)?;
+        let shares = self.shares(place)?;
         job_page(self.alloc, job, shares.as_slice())
+    }
+
+    fn shares(&self, place: usize) -> Result<List<Share>, AllocError>
+        ensures { IfOk result (λ l. OfSome N.opening (λ h. l ≡ shares_of h.state place)) }
+    {
+        let mut pass = self.pass.lock(&self.rt);
+        self.desk.shares(&self.rt, self.alloc, &mut *pass, place)
     }
 
     fn collector(&self, job: &str, name: &CollectorName) -> Said
@@ -169,11 +183,16 @@ impl<R: Wait + Copy, L: Ledger, B: Ledger, N: DeskName> Handler<R, L, B, N> {
     fn groups(&self, place: usize, held: &[TargetId]) -> Result<Text, AllocError>
         ensures { IfOk result (λ t. OfSome N.opening (λ h. t ≡ groups_text place held.now h)) }
     {
-        let mut pass = self.pass.lock(&self.rt);
-        let targets = self
-            .desk
-            .numbered(&self.rt, self.alloc, &mut *pass, place, held)?;
+        let targets = self.numbered(place, held)?;
         targets_page(self.alloc, targets.as_slice())
+    }
+
+    fn numbered(&self, place: usize, held: &[TargetId]) -> Result<List<NumberedTarget>, AllocError>
+        ensures { IfOk result (λ l. OfSome N.opening (λ h. l ≡ numbered_of h.state place held.now)) }
+    {
+        let mut pass = self.pass.lock(&self.rt);
+        self.desk
+            .numbered(&self.rt, self.alloc, &mut *pass, place, held)
     }
 
     fn submitted(&self, event: Event) -> Result<Receipt, RequestError>

@@ -5,18 +5,25 @@
 //! opening state. Of connections, time and order they say nothing.
 #![tactic(auto)]
 
+mod by_workers;
 mod certificate_page;
 mod config_pages;
 mod handler;
+mod lingering;
 mod one_by_one;
+mod pace;
 mod reply;
 mod service;
 mod spoken;
+mod timed;
+mod times;
 mod workers;
 
+pub use by_workers::serve_by_workers;
 pub use config_pages::ConfigPages;
 pub use handler::Handler;
 pub use one_by_one::serve_one_by_one;
 pub use reply::{LONGEST_BODY, Reply};
 pub use service::AllocatorService;
-pub use workers::{DEFAULT_WORKERS, serve_by_workers};
+pub use times::Times;
+pub use workers::{DEFAULT_WORKERS, Workers};

@@ -5,6 +5,12 @@
 #[cfg(test)]
 mod client;
 #[cfg(test)]
+mod desks;
+#[cfg(test)]
 mod loopback;
 #[cfg(test)]
 mod rows;
+#[cfg(test)]
+mod strangers;
+#[cfg(test)]
+mod talks;

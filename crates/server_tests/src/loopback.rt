@@ -2,26 +2,23 @@
 ghost use Rattle.std.specs.Prelude.{◌≡◌};
 
 use crate::client::says;
+use crate::desks::{core_of, handler_of};
 use crate::rows::ROWS;
-use alloc_desk::{Desk, DeskName};
-use allocation_core::{Core, JobSpec};
-use lists::Text;
-use sd_documents::read_config;
-use sd_server::{ConfigPages, Handler, serve_one_by_one};
+use alloc_desk::DeskName;
+use allocation_core::Core;
+use sd_server::serve_one_by_one;
 use std::alloc::{AllocGlobal, Global};
 use std::marker::Brand;
 use std::net::{Ipv4Addr, Net, SocketAddr, TcpListener, TcpStream};
 use std::random::RandomSource;
+use std::sync::Wait;
 use std::sync::atomic::{AtomicBool, Ordering};
 use std::sync::ledger::{Blank, Ledger};
-use std::sync::{Arc, Mutex, Wait};
 use std::test::Fail;
 use std::thread;
 use std::thread::Threads;
 use std::time::Clock;
 use tokio::runtime::LocalRuntime;
-
-const CONFIG: &str = r#"{"scrape_configs":[{"job_name":"j","target_limit":1}]}"#;
 
 #[test]
 fn each_row_is_answered_over_loopback(rt: HostRuntime) -> Result<(), Fail> {
@@ -60,15 +57,7 @@ where
     requires calls { (calls.name ≡ L.name) × (calls.parts ≡ L.parts) × (L.parts ≡ 1) }
     requires samples { (samples.name ≡ B.name) × (samples.parts ≡ B.parts) × (B.parts ≡ 1) }
 {
-    let (desk, mut passes) = Desk::<L, B, N>::open(alloc, core, 1, calls, samples).ok()?;
-    let pass = passes.pop()?;
-    let handler = Handler {
-        rt: *rt,
-        alloc,
-        desk: Arc::new(alloc, desk).ok()?,
-        pass: Arc::new(alloc, Mutex::new(pass)).ok()?,
-        pages: Arc::new(alloc, pages_of(alloc)?).ok()?,
-    };
+    let handler = handler_of::<R, L, B, N>(rt, alloc, core, calls, samples)?;
     let mut runtime = LocalRuntime::new(rt).ok()?;
     let any = SocketAddr::from((Ipv4Addr::LOCALHOST, 0));
     let listener = tokio::net::TcpListener::bind(rt, any, runtime.handle().reactor()).ok()?;
@@ -93,22 +82,4 @@ fn ask_all_then_stop<R: Net<Listener = TcpListener, Stream = TcpStream>>(
     stop.store(true, Ordering::SeqCst);
     let _last = TcpStream::connect(rt, here);
     wrong
-}
-
-fn core_of(alloc: Global) -> Option<Core> {
-    let name = Text::from_str(alloc, "j").ok()?;
-    let jobs = vec![in alloc;
-        JobSpec {
-            name,
-            target_limit: 1,
-            sources: 1
-        },
-    ]
-    .ok()?;
-    Core::open(alloc, jobs).ok()
-}
-
-fn pages_of(alloc: Global) -> Option<ConfigPages> {
-    let config = read_config(alloc, CONFIG.as_bytes()).ok()?;
-    ConfigPages::of(alloc, &config).ok()
 }

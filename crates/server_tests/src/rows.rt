@@ -9,7 +9,7 @@ pub(crate) const ROWS: [Row; 12] = [
     },
     Row {
         request: "POST /jobs HTTP/1.1\r\nhost: h\r\ncontent-length: 0\r\n\r\n",
-        begins: "HTTP/1.1 405 Method Not Allowed\r\n",
+        begins: "HTTP/1.1 405 Method Not Allowed\r\ncontent-type: application/json\r\nallow: GET\r\n",
         ends: "\r\n\r\n{\"refused\":\"Method\"}",
     },
     Row {

@@ -1,5 +1,5 @@
 //! How answers are written.
-use crate::{RequestError, Said, answer};
+use crate::{Place, RequestError, Said, answer};
 use bytes::Bytes;
 use fleet_events::{Answer, Refusal};
 use http_body_util::Full;
@@ -16,9 +16,21 @@ fn tells(
     status: u16,
     body: &'static str,
 ) -> Result<(), Fail> {
+    tells_with(rt, alloc, said, status, body, 1)
+}
+
+/// The answer has this status code, this body, its media type, and so many headers.
+fn tells_with(
+    rt: &impl Abort,
+    alloc: Global,
+    said: Said,
+    status: u16,
+    body: &'static str,
+    headers: usize,
+) -> Result<(), Fail> {
     let response = answer(alloc, said)?;
     assert_eq!(rt; response.status().as_u16(), status);
-    assert_eq!(rt; response.headers().len(), 1);
+    assert_eq!(rt; response.headers().len(), headers);
     let json = response.headers().get("content-type").ok_or("no type")?;
     assert!(rt; json.as_bytes() == b"application/json".as_slice());
     let told = format!(in alloc; "{:?}", response.body())?;
@@ -133,12 +145,24 @@ fn no_route_is_404(rt: HostRuntime) -> Result<(), Fail> {
 
 #[test]
 fn another_method_is_405(rt: HostRuntime) -> Result<(), Fail> {
-    tells(
+    tells_with(
         &rt,
         rt.alloc(),
-        Said::Refused(RequestError::Method),
+        Said::Refused(RequestError::Method(Place::Limits)),
         405,
         "{\"refused\":\"Method\"}",
+        2,
+    )
+}
+
+#[test]
+fn a_405_says_which_method_is_allowed(rt: HostRuntime) -> Result<(), Fail> {
+    has_header(
+        &rt,
+        rt.alloc(),
+        Said::Refused(RequestError::Method(Place::Limits)),
+        "allow",
+        "PUT",
     )
 }
 

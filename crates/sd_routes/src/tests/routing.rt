@@ -87,15 +87,15 @@ fn other_paths_are_no_routes(rt: HostRuntime) -> Result<(), Fail> {
     holds(&rt, rt.alloc(), OTHER_PATHS)
 }
 
-const OTHER_METHODS: &str = "HEAD /jobs = Method
-POST /jobs = Method
-get /jobs = Method
-POST /jobs/%FF/targets = Method
-GET /collectors = Method
-GET /collectors/z = Method
-GET /collectors/1/drain = Method
-POST /collectors/1/limits = Method
-OPTIONS /reports = Method";
+const OTHER_METHODS: &str = "HEAD /jobs = Method(Jobs)
+POST /jobs = Method(Jobs)
+get /jobs = Method(Jobs)
+POST /jobs/%FF/targets = Method(JobTargets)
+GET /collectors = Method(Collectors)
+GET /collectors/z = Method(Collector)
+GET /collectors/1/drain = Method(Drain)
+POST /collectors/1/limits = Method(Limits)
+OPTIONS /reports = Method(Reports)";
 
 #[test]
 fn a_place_has_one_method(rt: HostRuntime) -> Result<(), Fail> {

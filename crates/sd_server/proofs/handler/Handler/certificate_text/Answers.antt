@@ -4,4 +4,5 @@ use Rattle.sd_server.proofs.handler.Handler.certificate_text.Goals as goal
 
 pub returns : goal.returns
 returns g c =
-    certificate_of g.N.DeskName.opening c.deref_mut.result.now c.in_ok-instance.instance c.in_ok-instance.plan c.certificate_page.result c.in_ok-instance.ensures.read c.certificate_page.ensures
+    let told = c.in_ok-instance.ensures in
+    certificate_of g.N.DeskName.opening told.0 c.in_ok-instance.instance c.in_ok-instance.plan c.certificate_page.result told.1 c.certificate_page.ensures

@@ -1,0 +1,156 @@
+//! The server that strangers talk to: worker threads over one listener, each with a runtime of its own, and one connection at a time.
+use crate::handler::Handler;
+use crate::lingering::linger;
+use crate::pace::{Exchanges, Paced};
+use crate::service::AllocatorService;
+use crate::spoken::Spoken;
+use crate::timed::{Limits, Timed};
+use crate::workers::Workers;
+use alloc_desk::DeskName;
+use hyper::rt::TokioTimer;
+use hyper::server::conn::http1;
+use sd_routes::Routes;
+use std::alloc::{AllocGlobal, Global};
+use std::hash::RandomState;
+use std::net::{Net, TcpListener, TcpStream};
+use std::random::RandomSource;
+use std::sync::ledger::Ledger;
+use std::sync::{Arc, Wait};
+use std::thread::Threads;
+use std::time::{Clock, Duration};
+use std::{io, thread};
+use tokio::runtime::LocalRuntime;
+use tokio::time::{Handle, Sleep};
+
+/// How long no connection is taken after one could not be.
+const PAUSE_MILLIS: u64 = 100;
+
+/// Serves connections by threads until they are told to stop.
+pub fn serve_by_workers<
+    R,
+    L: Ledger + Send + Sync,
+    B: Ledger + Send + Sync,
+    N: DeskName + Send + Sync,
+>(
+    rt: &R,
+    alloc: Global,
+    workers: &Workers,
+    listener: &TcpListener,
+    handler: &Handler<R, L, B, N>,
+) -> io::Result<()>
+where
+    R: Wait
+        + Threads
+        + Clock
+        + Net<Listener = TcpListener, Stream = TcpStream>
+        + RandomSource
+        + AllocGlobal
+        + Sync
+        + Send
+        + Copy
+        + Drop,
+{
+    let ended = thread::map_indices(
+        rt,
+        alloc,
+        workers.number(),
+        &|_| { serve_here(rt, workers, listener, handler) },
+    )?;
+    for one in ended {
+        one?;
+    }
+    Ok(())
+}
+
+fn serve_here<R, L: Ledger, B: Ledger, N: DeskName>(
+    rt: &R,
+    workers: &Workers,
+    listener: &TcpListener,
+    handler: &Handler<R, L, B, N>,
+) -> io::Result<()>
+where
+    R: Wait
+        + Clock
+        + Net<Listener = TcpListener, Stream = TcpStream>
+        + RandomSource
+        + AllocGlobal
+        + Copy
+        + Drop,
+{
+    let mut runtime = LocalRuntime::new(rt)?;
+    let routes = Arc::new(rt.alloc(), Routes::open(rt.alloc())?)?;
+    let timer = TokioTimer::new(*rt, runtime.handle().time().clone()?);
+    let mut http = http1::Builder::new(rt.alloc(), RandomState::new(rt)?).timer(timer);
+    http.header_read_timeout(Some(Duration::from_millis(workers.times().head)));
+    for _ in rt.forever() {
+        if workers.is_stopped() {
+            return Ok(());
+        }
+        match listener.accept() {
+            Ok((stream, _from)) => {
+                workers.hold();
+                // A connection that failed is dropped, and the next is served.
+                drop(serve_one(rt, &mut runtime, &http, stream, handler, &routes, workers));
+                workers.release();
+            }
+            Err(_) => thread::sleep(rt, Duration::from_millis(PAUSE_MILLIS)),
+        }
+    }
+    unreachable!()
+}
+
+fn serve_one<R, L: Ledger, B: Ledger, N: DeskName>(
+    rt: &R,
+    runtime: &mut LocalRuntime,
+    http: &http1::Builder<TokioTimer<R>>,
+    stream: TcpStream,
+    handler: &Handler<R, L, B, N>,
+    routes: &Arc<Routes>,
+    workers: &Workers,
+) -> io::Result<()>
+where
+    R: Wait + Clock + RandomSource + AllocGlobal + Copy + Drop,
+{
+    let limits = limits(rt, runtime.handle().time(), workers)?;
+    if workers.is_stopped() {
+        return Ok(());
+    }
+    let twin = stream.try_clone()?;
+    let service = AllocatorService {
+        handler: handler.another()?,
+        routes: Arc::try_clone(routes)?,
+    };
+    let service = Paced::new(service, Arc::try_clone(&limits.exchanges)?);
+    let socket = Spoken::new(tokio::net::TcpStream::from_std(stream, runtime.handle().reactor())?);
+    let conn = http.serve_connection(socket, service);
+    runtime.block_on(rt, Timed::new(conn, limits))?;
+    linger(rt, &twin, workers.is_stopped())
+}
+
+/// The limits of a connection that begins now.
+fn limits<'a, R: Clock + AllocGlobal + Copy>(
+    rt: &R,
+    time: &Handle,
+    workers: &'a Workers,
+) -> io::Result<Limits<'a, R>> {
+    let times = workers.times();
+    let longest = Duration::from_millis(times.request);
+    let exchanges = Arc::new(rt.alloc(), Exchanges::new(times.turn == 0))?;
+    let request = time.sleep(rt, longest)?;
+    Ok(Limits {
+        clock: *rt,
+        exchanges,
+        told: Some(workers.told()),
+        turn: turn(rt, time, times.turn)?,
+        request,
+        longest,
+    })
+}
+
+/// Ready so many milliseconds from now. None for 0.
+fn turn<R: Clock>(rt: &R, time: &Handle, millis: u64) -> io::Result<Option<Sleep>> {
+    if millis == 0 {
+        return Ok(None);
+    }
+    Ok(Some(time.sleep(rt, Duration::from_millis(millis))?))
+}
