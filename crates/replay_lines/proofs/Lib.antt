@@ -1,3 +1,4 @@
 mod LineLemmas
 mod Ahead
 pub mod RunLines
+mod JobLists

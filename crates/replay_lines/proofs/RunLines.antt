@@ -13,7 +13,7 @@ use Rattle.fleet.specs.declared.job.JobSpec.{JobSpec}
 use Rattle.replay_lines.specs.Configurations.{opened}
 use Rattle.fleet_events.specs.Reading.{event_of}
 use Rattle.replay_lines.specs.Replays.{Written, answered, answered_line, total_line, unreadable_at, unreadable_line, written_from, written_by, replay_of}
-use Rattle.replay_lines.specs.AsRuns.{answered_lines, events_of, IsRunFrom, IsRun, IsRunOf, ReplaysAreRuns}
+use Rattle.replay_lines.specs.AsRuns.{answered_lines, events_of, IsRunFrom, IsRun, IsRunOf, IsRunOfOpened, ReplaysAreRuns}
 
 one_more : (m : State) (event : Event) (events : List Event) (rest : Written) → IsRunFrom (state_after m event) events rest → IsRunFrom m (event ∷ events) (answered (answer_of m event) rest)
 one_more m event events rest run =
@@ -37,6 +37,10 @@ run_from number m [] = record { last = total_line m; text = refl; total = λ e. 
 run_from number m (line ∷ lines) =
     by_line m (bytes_eq line []) (events_of lines) _ (written_from (number + 1) m lines) _ (run_from (number + 1) m lines)
     (by_event number m (event_of line) (events_of lines) (λ event. written_from (number + 1) (state_after m event) lines) (λ event. run_from (number + 1) (state_after m event) lines))
+
+pub is_run_of_opened : (input : List ℕ) → IsRunOfOpened input (replay_of input)
+unfolding replay_of written_by
+is_run_of_opened input first lines m split e = subst (λ (ls : List (List ℕ)). IsRunFrom m (events_of lines) (written_by ls)) (sym split) (subst (λ (w : Written). IsRunFrom m (events_of lines) w) (sym (ap (λ (o : Option State). option_map_or (λ s. written_from 2 s lines) o (unreadable_at 1)) e)) (run_from 2 m lines))
 
 opens : (lines : List (List ℕ)) (jobs : List JobSpec) (found : Option State) → found ≡ Some (first_state jobs) → option_map_or (λ m. written_from 2 m lines) found (unreadable_at 1) ≡ written_from 2 (first_state jobs) lines
 opens lines jobs found e = ap (λ (o : Option State). option_map_or (λ m. written_from 2 m lines) o (unreadable_at 1)) e

@@ -39,6 +39,10 @@ pub record IsRun (jobs : List JobSpec) (events : List Event) (written : Written)
 abbrev pub ReplaysAreRuns : Type 0
 ReplaysAreRuns = (first : List ℕ) (lines : List (List ℕ)) (jobs : List JobSpec) → opened first ≡ Some (first_state jobs) → IsRun jobs (events_of lines) (written_by (first ∷ lines))
 
+-- from whatever state the first line opens
+abbrev pub IsRunOfOpened : List ℕ → Written → Type 0
+IsRunOfOpened input written = (first : List ℕ) (lines : List (List ℕ)) (m : State) → lines_in input ≡ first ∷ lines → opened first ≡ Some m → IsRunFrom m (events_of lines) written
+
 -- what is written for this input
 abbrev pub IsRunOf : List ℕ → Written → Type 0
 IsRunOf input written = (first : List ℕ) (lines : List (List ℕ)) (jobs : List JobSpec) → lines_in input ≡ first ∷ lines → opened first ≡ Some (first_state jobs) → IsRun jobs (events_of lines) written

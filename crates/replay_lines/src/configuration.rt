@@ -1,13 +1,19 @@
 //! The allocator that the first line of a replay opens.
-ghost use Rattle.std.specs.Prelude.{◌≡◌, IfOk, All, map, option_map};
+ghost use Rattle.std.specs.Prelude.{◌≡◌, IfOk, Ok, All, codes, map, option_map};
+ghost use Rattle.serde_json.specs.Find.{get};
+ghost use Rattle.serde_json.specs.View.{view};
+ghost use Rattle.core_history.specs.History.{history_in};
 ghost use Rattle.sd_documents.specs.Config.{job_data};
 ghost use Rattle.sd_documents.specs.Limits.{IsWithinLimits};
-ghost use Rattle.replay_lines.specs.Configurations.{spec_of as spec_of_data, jobs_in as jobs_said, opened, opened_with};
+ghost use Rattle.replay_lines.specs.Configurations.{spec_of as spec_of_data, jobs_in as jobs_said, history_of, opened, opened_from, opened_with, resumed_with, same_job, same_jobs};
 
 use allocation_core::Core;
+use core_history::{HistoryError, history_in};
 use fleet::{JobSpec, OpenError};
+use json_values::parse;
 use lists::Plain;
 use sd_documents::{Job, SdError, read_config};
+use serde_json::Value;
 use std::alloc::{AllocError, Global};
 
 /// The allocator that the document of a configuration opens.
@@ -16,9 +22,70 @@ pub(crate) fn open_core(alloc: Global, line: &[u8]) -> Result<Option<Core>, Allo
     ensures { IfOk result (λ o. o ≡ opened line.now) }
 {
     match jobs_in(alloc, line)? {
-        Some(jobs) => open_with(alloc, jobs),
+        Some(jobs) => open_line(alloc, line, jobs),
         None => Ok(None),
     }
+}
+
+/// The allocator of a line whose jobs are these.
+fn open_line(alloc: Global, line: &[u8], jobs: Vec<JobSpec>) -> Result<Option<Core>, AllocError>
+    ensures { IfOk result (λ o. o ≡ opened_from (history_of line.now) jobs.items) }
+{
+    match parse(alloc, line)? {
+        Some(value) => open_value(alloc, &value, jobs),
+        None => open_with(alloc, jobs),
+    }
+}
+
+fn open_value(alloc: Global, value: &Value, jobs: Vec<JobSpec>) -> Result<Option<Core>, AllocError>
+    ensures { IfOk result (λ o. o ≡ opened_from (get (codes "history") (view value.now)) jobs.items) }
+{
+    match value.get("history") {
+        Some(history) => resume(alloc, history, jobs.as_slice()),
+        None => open_with(alloc, jobs),
+    }
+}
+
+/// The allocator that goes on from a history, if the jobs are its own.
+fn resume(alloc: Global, history: &Value, jobs: &[JobSpec]) -> Result<Option<Core>, AllocError>
+    ensures { IfOk result (λ o. o ≡ resumed_with jobs.now (history_in (view history.now))) }
+{
+    match history_in(alloc, history) {
+        Ok(core) => Ok(with_jobs(core, jobs)),
+        Err(HistoryError::Memory) => Err(AllocError),
+        Err(_) => Ok(None),
+    }
+}
+
+fn with_jobs(core: Core, jobs: &[JobSpec]) -> Option<Core>
+    ensures { result ≡ resumed_with jobs.now (Ok core) }
+{
+    if same_jobs(core.fleet().jobs(), jobs) {
+        return Some(core);
+    }
+    None
+}
+
+fn same_jobs(jobs: &[JobSpec], others: &[JobSpec]) -> bool
+    ensures { result ≡ same_jobs jobs.now others.now }
+{
+    if jobs.len() != others.len() {
+        return false;
+    }
+    for i in 0..jobs.len() {
+        if !same_job(&jobs[i], &others[i]) {
+            return false;
+        }
+    }
+    true
+}
+
+fn same_job(job: &JobSpec, other: &JobSpec) -> bool
+    ensures { result ≡ same_job job.now other.now }
+{
+    job.name.as_str() == other.name.as_str()
+        && job.target_limit == other.target_limit
+        && job.sources == other.sources
 }
 
 fn open_with(alloc: Global, jobs: Vec<JobSpec>) -> Result<Option<Core>, AllocError>

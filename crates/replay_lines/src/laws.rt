@@ -1,5 +1,7 @@
 //! A replay is a run of the machine.
-ghost use Rattle.replay_lines.specs.AsRuns.{ReplaysAreRuns};
+ghost use Rattle.std.specs.Prelude.{List, ℕ};
+ghost use Rattle.replay_lines.specs.AsRuns.{IsRunOfOpened, ReplaysAreRuns};
+ghost use Rattle.replay_lines.specs.Replays.{replay_of};
 
 use allocation_core::{booked_by_holders, published_are_best};
 
@@ -11,3 +13,9 @@ pub fn replays_are_runs()
     published_are_best();
     booked_by_holders();
 }
+
+/// What a replay writes are the answers of the machine's run from the state that its first line opens, be it the first state of a
+/// configuration or that of a history.
+pub fn replays_are_runs_of_opened()
+    ensures { (input : List ℕ) → IsRunOfOpened input (replay_of input) }
+{}

@@ -10,5 +10,5 @@ mod run;
 #[cfg(test)]
 mod tests;
 
-pub use laws::replays_are_runs;
+pub use laws::{replays_are_runs, replays_are_runs_of_opened};
 pub use run::{Ended, replay};

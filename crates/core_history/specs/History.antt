@@ -1,0 +1,111 @@
+-- A renewed core as JSON: `allocation`, pairs of a target and its collector, `certificate`, a certificate document, `fleet`, and
+-- `round`. What a line says is a state, or the first fault in this order: the shape, the fleet's parts, the allocation, the round.
+use Rattle.std.specs.Prelude.{◌≡◌, true, ℕ, ◌==◌, List, Bool, not, ◌&&◌, nat_lt, if◌then◌else◌, length, map, Option, Some, None, option_map, option_and_then, Result, Ok, Err, codes}
+use Rattle.std.specs.List.{list_all}
+use Rattle.lists.specs.Rising.{rises}
+use Rattle.serde_json.specs.Data.{Data, object, no_members, member}
+use Rattle.serde_json.specs.Find.{get}
+use Rattle.serde_json.specs.Written.{compact_text}
+use Rattle.json_values.specs.Spelling.{number_in, pair_in, list_in, member_in, number_data, pair_data, list_data}
+use Rattle.json_values.specs.Texts.{json_of}
+use Rattle.price_certificate.specs.Document.{document_data}
+use Rattle.price_certificate.specs.Instances.{problem_in}
+use Rattle.price_certificate.specs.Plan.{plan_in}
+use Rattle.price_certificate.specs.Problem.{Problem}
+use Rattle.price_certificate.specs.declared.plan.Plan.{Plan}
+use Rattle.fleet.specs.Fleet.{FleetState, is_joined}
+use Rattle.fleet.specs.Parts.{fleet_of, parts_fault}
+use Rattle.fleet.specs.declared.error.PartsError.{PartsError}
+use Rattle.fleet.specs.declared.error.PartsError.TheVariants as fleet
+use Rattle.fleet.specs.declared.fleet_parts.FleetParts.{FleetParts}
+use Rattle.allocation_core.specs.State.{State, current_pairs, restored}
+use Rattle.core_history.specs.Parts.{fleet_data, fleet_parts_in, parts_of}
+use Rattle.core_history.specs.declared.error.HistoryError.{HistoryError}
+use Rattle.core_history.specs.declared.error.HistoryError.TheVariants.{Shape, BadJobs, BadTargets, BadLists, BadCollectors, RepeatedTarget, BadAllocation, BadRound, Memory}
+use Rattle.core_history.specs.declared.history.Certificate.{Certificate}
+use Rattle.core_history.specs.declared.history.History.{History}
+
+-- ---- the shape
+
+abbrev pub certificate_of : Problem → Plan → Certificate
+certificate_of problem plan = record { instance = problem; plan = plan }
+
+unfoldable pub certificate_in : Data → Option Certificate
+certificate_in d = option_and_then (λ problem. option_map (certificate_of problem) (plan_in d)) (problem_in d)
+
+abbrev pub history_of : List (ℕ × ℕ) → Certificate → FleetParts → ℕ → History
+history_of allocation certificate fleet round = record { allocation = allocation; certificate = certificate; fleet = fleet; round = round }
+
+-- the members of a history; others don't matter
+unfoldable pub parts_in : Data → Option History
+parts_in d =
+    option_and_then (λ allocation. option_and_then (λ certificate. option_and_then (λ fleet. option_map (history_of allocation certificate fleet) (member_in number_in (codes "round") d))
+    (member_in fleet_parts_in (codes "fleet") d)) (member_in certificate_in (codes "certificate") d)) (member_in (list_in pair_in) (codes "allocation") d)
+
+-- ---- the state
+
+abbrev pub fleet_error : PartsError → HistoryError
+fleet_error fleet.BadJobs = BadJobs
+fleet_error fleet.BadTargets = BadTargets
+fleet_error fleet.BadLists = BadLists
+fleet_error fleet.BadCollectors = BadCollectors
+fleet_error fleet.RepeatedTarget = RepeatedTarget
+fleet_error fleet.Memory = Memory
+
+-- the fleet's first fault has this name
+abbrev pub IsFaultOf : FleetState → HistoryError → Type 0
+IsFaultOf fleet error = (fault : PartsError) × (parts_fault fleet ≡ Some fault) × (error ≡ fleet_error fault)
+
+-- the pairs name known targets, in ascending order, and live collectors
+abbrev pub is_allocation : FleetState → List (ℕ × ℕ) → Bool
+is_allocation fleet pairs = list_all (λ (q : ℕ × ℕ). nat_lt q.0 (length fleet.known) && is_joined fleet q.1) pairs && rises (map (λ (q : ℕ × ℕ). q.0) pairs)
+
+abbrev pub state_of : History → State
+state_of history = restored (fleet_of history.fleet) history.allocation history.certificate.instance history.certificate.plan history.round
+
+-- what a history comes to whose fleet has no fault
+abbrev pub with_fleet : History → Result State HistoryError
+with_fleet history = if not (is_allocation (fleet_of history.fleet) history.allocation) then Err BadAllocation else (if history.round == 0 then Err BadRound else Ok (state_of history))
+
+abbrev pub by_fault : Option PartsError → History → Result State HistoryError
+by_fault None history = with_fleet history
+by_fault (Some fault) history = Err (fleet_error fault)
+
+unfoldable pub checked : History → Result State HistoryError
+checked history = by_fault (parts_fault (fleet_of history.fleet)) history
+
+abbrev pub checked_in : Option History → Result State HistoryError
+checked_in None = Err Shape
+checked_in (Some history) = checked history
+
+-- what a value says
+unfoldable pub history_in : Data → Result State HistoryError
+history_in d = checked_in (parts_in d)
+
+abbrev pub said_by : Option Data → Result State HistoryError
+said_by None = Err Shape
+said_by (Some d) = history_in d
+
+-- what a line says
+unfoldable pub history_said : List ℕ → Result State HistoryError
+history_said line = said_by (json_of line)
+
+-- ---- and the one form in which a state is written: members in order of their names
+
+abbrev pub history_object : Data → Data → Data → Data → Data
+history_object allocation certificate fleet round = object (member (codes "allocation") allocation (member (codes "certificate") certificate (member (codes "fleet") fleet (member (codes "round") round no_members))))
+
+abbrev pub history_data : State → Data
+history_data m = history_object (list_data pair_data (current_pairs m)) (document_data m.problem m.plan.pairs m.plan.item_prices m.plan.bin_prices) (fleet_data m.fleet) (number_data m.round)
+
+abbrev pub history_text : State → List ℕ
+history_text m = compact_text (history_data m)
+
+-- what is written of a state
+abbrev pub kept_of : State → History
+kept_of m = history_of (current_pairs m) (certificate_of m.problem m.plan) (parts_of m.fleet) m.round
+
+-- What is written of a state where its allocation names known targets and live collectors reads back as the state without its
+-- earlier allocations, takes and reports: so a renewed state reads back whole.
+abbrev pub ReadsBack : State → Result State HistoryError → Type 0
+ReadsBack m said = is_allocation m.fleet (current_pairs m) ≡ true → said ≡ Ok (restored m.fleet (current_pairs m) m.problem m.plan m.round)

@@ -1,0 +1,22 @@
+//! A renewed core as one line of JSON, in both directions.
+//!
+//! Contracts see a line as its bytes and a core as its state. What a line says is a function of its bytes: a state, or the first
+//! fault.
+#![tactic(auto)]
+
+mod collector;
+mod error;
+mod fleet_parts;
+mod history;
+mod job;
+mod known_target;
+mod part;
+mod reading;
+mod restoring;
+#[cfg(test)]
+mod tests;
+mod writing;
+
+pub use error::HistoryError;
+pub use reading::{history_in, read_history};
+pub use writing::{history_value, write_history};

@@ -1,0 +1,86 @@
+//! A core made of a history's parts, once there is no fault in them.
+ghost use Rattle.std.specs.Prelude.{◌≡◌, ◌≢◌, ◌&&◌, ◌<◌, ℕ, AllPairs, IfErr, IfOk, Ok, Err, None, true, length, map, nat_lt};
+ghost use Rattle.std.specs.List.{list_all};
+ghost use Rattle.lists.specs.Rising.{rises};
+ghost use Rattle.fleet.specs.Fleet.{is_joined};
+ghost use Rattle.fleet.specs.Parts.{fleet_of, parts_fault};
+ghost use Rattle.core_history.specs.History.{checked, IsFaultOf, is_allocation};
+ghost use Rattle.core_history.specs.declared.error.HistoryError.TheVariants.{Memory};
+
+use crate::error::HistoryError;
+use crate::history::{Certificate, History};
+use allocation_core::Core;
+use fleet::{Fleet, FleetParts};
+use std::alloc::Global;
+
+/// The core of a history, or the first fault.
+#[tactic(auto, unfolding(crate::specs::History::checked))]
+pub(crate) fn restored(alloc: Global, history: History) -> Result<Core, HistoryError>
+    ensures state { IfOk result (λ c. checked history ≡ Ok c) }
+    ensures fault { IfErr result (λ e. e ≢ Memory → checked history ≡ Err e) }
+{
+    let History {
+        allocation,
+        certificate,
+        fleet,
+        round,
+    } = history;
+    let fleet = fleet_restored(alloc, fleet)?;
+    if !is_allocation(&fleet, allocation.as_slice()) {
+        return Err(HistoryError::BadAllocation);
+    }
+    if round == 0 {
+        return Err(HistoryError::BadRound);
+    }
+    let Certificate { instance, plan } = certificate;
+    let core = Core::restored(alloc, fleet, allocation, round, instance, plan)?;
+    Ok(core)
+}
+
+/// The fleet of the parts, or their first fault.
+fn fleet_restored(alloc: Global, parts: FleetParts) -> Result<Fleet, HistoryError>
+    ensures fleet { IfOk result (λ f. (f ≡ fleet_of parts) × (parts_fault (fleet_of parts) ≡ None)) }
+    ensures fault { IfErr result (λ e. e ≢ Memory → IsFaultOf (fleet_of parts) e) }
+{
+    let fleet = Fleet::restored(alloc, parts)?;
+    Ok(fleet)
+}
+
+/// Whether the pairs name known targets, in ascending order, and live collectors.
+fn is_allocation(fleet: &Fleet, pairs: &[(u32, u32)]) -> bool
+    ensures is { result ≡ is_allocation fleet.now pairs.now }
+    ensures ascending { result ≡ true → AllPairs (λ (a b : ℕ × ℕ). a.0 < b.0) pairs.now }
+{
+    if !are_known(fleet, pairs) {
+        return false;
+    }
+    rises(pairs)
+}
+
+fn are_known(fleet: &Fleet, pairs: &[(u32, u32)]) -> bool
+    ensures { result ≡ list_all (λ (q : ℕ × ℕ). nat_lt q.0 (length fleet.now.known) && is_joined fleet.now q.1) pairs.now }
+{
+    pairs.iter().all(|pair| is_known(fleet, *pair))
+}
+
+fn is_known(fleet: &Fleet, pair: (u32, u32)) -> bool
+    ensures { result ≡ (nat_lt pair.0 (length fleet.now.known) && is_joined fleet.now pair.1) }
+{
+    if pair.0 as usize >= fleet.known().len() {
+        return false;
+    }
+    fleet.is_joined(pair.1)
+}
+
+/// Whether the pairs are in ascending order of target.
+fn rises(pairs: &[(u32, u32)]) -> bool
+    ensures rises { result ≡ rises (map (λ (q : ℕ × ℕ). q.0) pairs.now) }
+    ensures ascending { result ≡ true → AllPairs (λ (a b : ℕ × ℕ). a.0 < b.0) pairs.now }
+{
+    for i in 1..pairs.len() {
+        if pairs[i].0 <= pairs[i - 1].0 {
+            return false;
+        }
+    }
+    true
+}

@@ -1,0 +1,73 @@
+//! Histories as JSON.
+ghost use Rattle.std.specs.Prelude.{◌≡◌, Some, IfOk, false};
+ghost use Rattle.std.specs.List.{list_any};
+ghost use Rattle.serde_json.specs.View.{view};
+ghost use Rattle.json_values.specs.Texts.{is_line_feed};
+ghost use Rattle.price_certificate.specs.Document.{document_data};
+ghost use Rattle.core_history.specs.History.{ReadsBack, certificate_in, certificate_of, history_data, history_in, history_object, history_said, history_text, kept_of, parts_in};
+
+use crate::fleet_parts::fleet_value;
+use allocation_core::Core;
+use json_values::{Spelled, array_of, text_of};
+use lists::Text;
+use price_certificate::document_value;
+use serde_json::{Value, json};
+use std::alloc::{AllocError, Global};
+
+/// What a renewed core has, as one line of JSON without a line feed, which reads back as the core. Of any other core it has what
+/// `read_history` gives back: not the earlier allocations, who took which, or what is booked.
+pub fn write_history(alloc: Global, core: &Core) -> Result<Text, AllocError>
+    ensures form { IfOk result (λ t. t ≡ history_text core.now) }
+    ensures one_line { IfOk result (λ t. list_any is_line_feed t ≡ false) }
+    ensures reads_back { IfOk result (λ t. ReadsBack core.now (history_said t)) }
+{
+    let value = history_value(alloc, core)?;
+    text_of(alloc, &value)
+}
+
+/// The same as a JSON value.
+pub fn history_value(alloc: Global, core: &Core) -> Result<Value, AllocError>
+    ensures form { IfOk result (λ v. view v ≡ history_data core.now) }
+    ensures reads_back { IfOk result (λ v. ReadsBack core.now (history_in (view v))) }
+{
+    let _number = core.current();
+    let _jobs = core.fleet().jobs();
+    parts_value(alloc, core)
+}
+
+fn parts_value(alloc: Global, core: &Core) -> Result<Value, AllocError>
+    ensures form { IfOk result (λ v. view v ≡ history_data core.now) }
+    ensures parts { IfOk result (λ v. parts_in (view v) ≡ Some (kept_of core.now)) }
+{
+    let allocation = array_of(alloc, core.allocation())?;
+    let certificate = certificate_value(alloc, core)?;
+    let fleet = fleet_value(alloc, core.fleet())?;
+    let round = core.round().write(alloc)?;
+    object_of(alloc, allocation, certificate, fleet, round)
+}
+
+fn object_of(
+    alloc: Global,
+    allocation: Value,
+    certificate: Value,
+    fleet: Value,
+    round: Value,
+) -> Result<Value, AllocError>
+    ensures { IfOk result (λ v. view v ≡ history_object (view allocation) (view certificate) (view fleet) (view round)) }
+{
+    json!(in alloc; {
+        "allocation": allocation,
+        "certificate": certificate,
+        "fleet": fleet,
+        "round": round
+    })
+}
+
+#[tactic(auto, unfolding(crate::specs::History::certificate_in))]
+fn certificate_value(alloc: Global, core: &Core) -> Result<Value, AllocError>
+    ensures form { IfOk result (λ v. view v ≡ document_data core.now.problem core.now.plan.pairs core.now.plan.item_prices core.now.plan.bin_prices) }
+    ensures parts { IfOk result (λ v. certificate_in (view v) ≡ Some (certificate_of core.now.problem core.now.plan)) }
+{
+    let (instance, plan) = core.certificate()?;
+    document_value(alloc, &instance, &plan)
+}
