@@ -1,2 +1,3 @@
 mod Forms
 mod Checking
+mod RenewedWhole

@@ -10,6 +10,7 @@ mod fleet_parts;
 mod history;
 mod job;
 mod known_target;
+mod laws;
 mod part;
 mod reading;
 mod restoring;
@@ -18,5 +19,6 @@ mod tests;
 mod writing;
 
 pub use error::HistoryError;
+pub use laws::renewed_read_back;
 pub use reading::{history_in, read_history};
 pub use writing::{history_value, write_history};
