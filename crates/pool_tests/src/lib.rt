@@ -1,0 +1,12 @@
+//! Tests of collectors over a desk and a device in memory. They stand apart from `collector_pool`, since a crate with tests is proved
+//! once more with them.
+#![tactic(auto)]
+
+#[cfg(test)]
+mod holding;
+#[cfg(test)]
+mod opening;
+#[cfg(test)]
+mod rounds;
+#[cfg(test)]
+mod turns;

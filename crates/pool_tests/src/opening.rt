@@ -1,0 +1,69 @@
+//! What the tests open a desk with, and what its devices answer.
+use alloc_desk::{Desk, DeskName, Pass};
+use allocation_core::{Core, JobSpec};
+use fleet_events::read_event;
+use http_get::{FetchFault, Reply};
+use lists::{List, Text};
+use sd_documents::{Config, read_config};
+use std::alloc::{AllocError, Global};
+use std::sync::Wait;
+use std::sync::ledger::Ledger;
+
+/// The allocator of the job `j` with this limit.
+pub(crate) fn core_of(alloc: Global, target_limit: u32) -> Option<Core> {
+    let name = Text::from_str(alloc, "j").ok()?;
+    let jobs = vec![in alloc;
+        JobSpec {
+            name,
+            target_limit,
+            sources: 1
+        },
+    ]
+    .ok()?;
+    Core::open(alloc, jobs).ok()
+}
+
+/// The same job as its targets are asked.
+pub(crate) fn config_of(alloc: Global) -> Option<Config> {
+    read_config(
+        alloc,
+        br#"{"scrape_configs":[{"job_name":"j","params":{"m":["p"]}}]}"#,
+    )
+    .ok()
+}
+
+/// Every target is reached.
+pub(crate) const JOIN_A: &str =
+    r#"{"event":"join","name":"a","reach":[{"allow":true,"test":"any"}]}"#;
+
+/// The targets of one zone are reached.
+pub(crate) const JOIN_B_IN_ZONE: &str =
+    r#"{"event":"join","name":"b","reach":[{"allow":true,"label":"zone","test":"equals","value":"x"}]}"#;
+
+/// Submits the event of a line.
+pub(crate) fn submit_line<L: Ledger, B: Ledger, N: DeskName, R: Wait>(
+    rt: &R,
+    alloc: Global,
+    desk: &Desk<L, B, N>,
+    pass: &mut Pass<L, B, N>,
+    line: &str,
+) -> Option<()> {
+    let event = read_event(alloc, line.as_bytes()).ok()??;
+    let _receipt = desk.submit(rt, pass, event).ok()?;
+    Some(())
+}
+
+/// An answer of this status and body.
+pub(crate) fn reply_of(
+    alloc: Global,
+    status: u16,
+    body: &[u8],
+) -> Result<Result<Reply, FetchFault>, AllocError> {
+    let media = Text::from_str(alloc, "text/plain")?;
+    let body = List::from_vec(Vec::from_slice(alloc, body)?);
+    Ok(Ok(Reply {
+        status,
+        media,
+        body,
+    }))
+}
