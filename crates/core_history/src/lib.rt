@@ -14,8 +14,6 @@ mod laws;
 mod part;
 mod reading;
 mod restoring;
-#[cfg(test)]
-mod tests;
 mod writing;
 
 pub use error::HistoryError;
