@@ -27,10 +27,6 @@ use Rattle.sd_server.specs.declared.service.Begun.TheVariants as begun
 abbrev pub Writes : Said → Response (Full (List ℕ)) → Type 0
 Writes said = IsResponse (status_said said) (headers_said said) (body_said said)
 
--- that, or that memory ran out
-abbrev pub WritesAtMost : Said → Response (Full (List ℕ)) → Type 0
-WritesAtMost said response = Writes said response ⊎ Writes (Refused Memory) response
-
 -- what is said once a body was read, or could not be
 abbrev pub SaysRead : State → ConfigPages → Ask → Said → Type 0
 SaysRead opening pages asked said =
@@ -81,9 +77,9 @@ module _ {R L B N I : Type 0} {l : Ledger.Ghosts L} {b : Ledger.Ghosts B} {n : D
   MaySay (stage.Said (Some saying)) said = said ≡ saying
   MaySay (stage.Reading reading) said = SaysRead n.opening (arc_value reading.handler.pages) reading.ask said
 
-  -- the written form of something that it may say, or that memory ran out
+  -- the written form of something that it may say
   abbrev pub Gives : Reply R L B N I l b n → Result (Response (Full (List ℕ))) AllocError → Type 0
-  Gives reply given = IfOk given (λ response. (said : Said) × MaySay reply.stage said × WritesAtMost said response)
+  Gives reply given = IfOk given (λ response. (said : Said) × MaySay reply.stage said × Writes said response)
 
   -- whatever the reply to such a request says is what is said to it
   abbrev pub IsReplyTo : State → ConfigPages → Result Ask RequestError → Reply R L B N I l b n → Type 0

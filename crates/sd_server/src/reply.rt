@@ -1,8 +1,8 @@
 //! A reply: the response to a request, once its body has come.
-ghost use Rattle.std.specs.Prelude.{◌≡◌, IfOk};
+ghost use Rattle.std.specs.Prelude.{◌≡◌};
 ghost use Rattle.std.specs.Arc.{arc_value};
 ghost use Rattle.sd_routes.specs.declared.responding.Said.{Said};
-ghost use Rattle.sd_server.specs.Replies.{CanRead, Gives, MaySay, SaysRead, WritesAtMost};
+ghost use Rattle.sd_server.specs.Replies.{CanRead, Gives, MaySay, SaysRead};
 
 use crate::handler::Handler;
 use alloc_desk::DeskName;
@@ -105,16 +105,6 @@ impl<R: Wait + Copy + Drop, L: Ledger, B: Ledger, N: DeskName, I: Drop> Future
                 reading.said(read)
             }
         };
-        Poll::Ready(answered(self.alloc, said))
-    }
-}
-
-/// The response that says it, or that memory ran out.
-fn answered(alloc: Global, said: Said) -> Result<Response<Full<Bytes>>, AllocError>
-    ensures { IfOk result (WritesAtMost said) }
-{
-    match answer(alloc, said) {
-        Ok(response) => Ok(response),
-        Err(_) => answer(alloc, Said::Refused(RequestError::Memory)),
+        Poll::Ready(answer(self.alloc, said))
     }
 }
