@@ -22,4 +22,6 @@ mod relabelling;
 #[cfg(test)]
 mod samples;
 #[cfg(test)]
+mod service;
+#[cfg(test)]
 mod values;

@@ -1,0 +1,5 @@
+pub mod Behind
+pub mod Numbers
+pub mod Lengths
+pub mod Beside
+pub mod Spelled

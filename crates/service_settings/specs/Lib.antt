@@ -1,0 +1,12 @@
+pub mod Texts
+pub mod Digits
+pub mod Durations
+pub mod Spelled
+pub mod Addresses
+pub mod Arguments
+pub mod Lines
+pub mod Reading
+pub mod Members
+pub mod Collectors
+pub mod Settings
+pub mod Beside

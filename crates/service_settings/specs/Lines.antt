@@ -1,0 +1,74 @@
+-- The text of each fault: the way to the member, and what is wrong with it.
+use Rattle.std.specs.Prelude.{ℕ, List, ◌++◌, codes}
+use Rattle.std.specs.Fmt.{decimal}
+use Rattle.service_settings.specs.declared.error.SettingsError.{SettingsError}
+use Rattle.service_settings.specs.declared.error.SettingsError.TheVariants.{NotJson, Shape, Unknown, RepeatedCollector, Memory}
+use Rattle.service_settings.specs.declared.error.Member.{Member}
+use Rattle.service_settings.specs.declared.error.Member.TheVariants.{Document, Global, ScrapeInterval, ScrapeConfigs, ScrapeConfig, HttpSdConfigs, HttpSdConfig, RefreshInterval, Allocator, Listen, Lifecycle, Journal, Keep, Settle, Collectors, Collector, CollectorName, CollectorReach, CollectorLimits, CollectorTimeout, FetchTimeout}
+
+-- without indices
+abbrev pub member_path : Member → List ℕ
+member_path Document = codes "document"
+member_path Global = codes "global"
+member_path ScrapeInterval = codes "global.scrape_interval"
+member_path ScrapeConfigs = codes "scrape_configs"
+member_path (ScrapeConfig job) = codes "scrape_configs"
+member_path (HttpSdConfigs job) = codes "scrape_configs"
+member_path (HttpSdConfig job entry) = codes "scrape_configs"
+member_path (RefreshInterval job entry) = codes "scrape_configs"
+member_path Allocator = codes "allocator"
+member_path Listen = codes "allocator.listen"
+member_path Lifecycle = codes "allocator.lifecycle"
+member_path Journal = codes "allocator.journal"
+member_path Keep = codes "allocator.keep"
+member_path Settle = codes "allocator.settle"
+member_path Collectors = codes "allocator.collectors"
+member_path (Collector index) = codes "allocator.collectors"
+member_path (CollectorName index) = codes "allocator.collectors"
+member_path (CollectorReach index) = codes "allocator.collectors"
+member_path (CollectorLimits index) = codes "allocator.collectors"
+member_path CollectorTimeout = codes "allocator.collector_timeout"
+member_path FetchTimeout = codes "allocator.fetch_timeout"
+
+-- the way to the member from the document
+abbrev pub member_text : Member → List ℕ
+member_text (ScrapeConfig job) = codes "scrape_configs[" ++ (decimal job ++ codes "]")
+member_text (HttpSdConfigs job) = codes "scrape_configs[" ++ (decimal job ++ codes "].http_sd_configs")
+member_text (HttpSdConfig job entry) = codes "scrape_configs[" ++ (decimal job ++ (codes "].http_sd_configs[" ++ (decimal entry ++ codes "]")))
+member_text (RefreshInterval job entry) = codes "scrape_configs[" ++ (decimal job ++ (codes "].http_sd_configs[" ++ (decimal entry ++ codes "].refresh_interval")))
+member_text (Collector index) = codes "allocator.collectors[" ++ (decimal index ++ codes "]")
+member_text (CollectorName index) = codes "allocator.collectors[" ++ (decimal index ++ codes "].name")
+member_text (CollectorReach index) = codes "allocator.collectors[" ++ (decimal index ++ codes "].reach")
+member_text (CollectorLimits index) = codes "allocator.collectors[" ++ (decimal index ++ codes "].limits")
+member_text other = member_path other
+
+-- what the member is not
+abbrev pub missing : Member → List ℕ
+missing Document = codes "no object"
+missing Global = codes "no object"
+missing ScrapeInterval = codes "no duration above 0"
+missing ScrapeConfigs = codes "no list"
+missing (ScrapeConfig job) = codes "no object"
+missing (HttpSdConfigs job) = codes "no list"
+missing (HttpSdConfig job entry) = codes "no object"
+missing (RefreshInterval job entry) = codes "no duration above 0"
+missing Allocator = codes "no object"
+missing Listen = codes "no address with a port"
+missing Lifecycle = codes "neither true nor false"
+missing Journal = codes "no text"
+missing Keep = codes "no whole number of 32 bits"
+missing Settle = codes "no duration"
+missing Collectors = codes "no list"
+missing (Collector index) = codes "no object"
+missing (CollectorName index) = codes "no name of a collector"
+missing (CollectorReach index) = codes "no list of reach rules"
+missing (CollectorLimits index) = codes "no object of limits"
+missing CollectorTimeout = codes "no duration above 0"
+missing FetchTimeout = codes "no duration above 0"
+
+abbrev pub error_line : SettingsError → List ℕ
+error_line NotJson = codes "no JSON"
+error_line (Shape member) = (member_text member ++ codes ": ") ++ missing member
+error_line (Unknown member name) = ((member_text member ++ codes ".") ++ name) ++ codes ": unknown member"
+error_line (RepeatedCollector index) = codes "allocator.collectors[" ++ (decimal index ++ codes "].name: the name of an earlier collector")
+error_line Memory = codes "no memory"

@@ -1,0 +1,88 @@
+-- The settings of the service: members of the document of a configuration. Null is no absent member.
+use Rattle.std.specs.Prelude.{ℕ, List, Option, false, Result, Ok, Err, is_some, codes, if◌then◌else◌}
+use Rattle.serde_json.specs.Data.{Data}
+use Rattle.serde_json.specs.Find.{get, as_str, as_bool, as_object}
+use Rattle.json_values.specs.Spelling.{number_in}
+use Rattle.service_settings.specs.declared.error.SettingsError.{SettingsError}
+use Rattle.service_settings.specs.declared.error.SettingsError.TheVariants.{Shape}
+use Rattle.service_settings.specs.declared.error.Member.TheVariants as part
+use Rattle.service_settings.specs.declared.settings.Settings.{Settings}
+use Rattle.service_settings.specs.declared.settings.TheConstants.{DEFAULT_INTERVAL, DEFAULT_SETTLE, DEFAULT_FETCH_TIMEOUT, DEFAULT_LISTEN}
+use Rattle.service_settings.specs.declared.settings.allocator.Housekeeping.{Housekeeping}
+use Rattle.service_settings.specs.declared.settings.allocator.Collecting.{Collecting}
+use Rattle.service_settings.specs.declared.settings.members.Kind.TheVariants as kind
+use Rattle.service_settings.specs.Collectors.{collectors_said}
+use Rattle.service_settings.specs.Members.{known_said}
+use Rattle.service_settings.specs.Reading.{◌>>=◌, json_said, member_at, duration_in, time_in, address_in, said_or, said_or_none, object_said, items_said, each_from}
+
+-- ---- rounds, and the sources of the jobs
+
+-- `scrape_interval` of `global`
+abbrev pub scrape_interval_said : Data → Result ℕ SettingsError
+scrape_interval_said d =
+    object_said part.Global (get (codes "global") d) >>= λ global.
+    said_or DEFAULT_INTERVAL time_in part.ScrapeInterval (member_at (codes "scrape_interval") global)
+
+-- `refresh_interval` of an entry of `http_sd_configs`
+abbrev pub source_said : ℕ → ℕ → Data → Result ℕ SettingsError
+source_said job entry d =
+    if is_some (as_object d) then said_or DEFAULT_INTERVAL time_in (part.RefreshInterval job entry) (get (codes "refresh_interval") d)
+    else Err (Shape (part.HttpSdConfig job entry))
+
+abbrev pub sources_said : ℕ → Data → Result (List ℕ) SettingsError
+sources_said job d =
+    if is_some (as_object d) then (items_said (part.HttpSdConfigs job) (get (codes "http_sd_configs") d) >>= each_from (source_said job) 0)
+    else Err (Shape (part.ScrapeConfig job))
+
+abbrev pub refresh_said : Data → Result (List (List ℕ)) SettingsError
+refresh_said d = items_said part.ScrapeConfigs (get (codes "scrape_configs") d) >>= each_from sources_said 0
+
+-- ---- the members of `allocator`, if it is there
+
+unfoldable pub housekeeping_said : Option Data → Result Housekeeping SettingsError
+housekeeping_said allocator =
+    said_or DEFAULT_LISTEN address_in part.Listen (member_at (codes "listen") allocator) >>= λ listen.
+    said_or false as_bool part.Lifecycle (member_at (codes "lifecycle") allocator) >>= λ lifecycle.
+    said_or_none as_str part.Journal (member_at (codes "journal") allocator) >>= λ journal.
+    said_or_none number_in part.Keep (member_at (codes "keep") allocator) >>= λ keep.
+    said_or DEFAULT_SETTLE duration_in part.Settle (member_at (codes "settle") allocator) >>= λ settle.
+    Ok (record { listen = listen; lifecycle = lifecycle; journal = journal; keep = keep; settle = settle })
+
+unfoldable pub collecting_said : Option Data → Result Collecting SettingsError
+collecting_said allocator =
+    collectors_said (member_at (codes "collectors") allocator) >>= λ collectors.
+    said_or_none time_in part.CollectorTimeout (member_at (codes "collector_timeout") allocator) >>= λ collector_timeout.
+    said_or DEFAULT_FETCH_TIMEOUT time_in part.FetchTimeout (member_at (codes "fetch_timeout") allocator) >>= λ fetch_timeout.
+    Ok (record { collectors = collectors; collector_timeout = collector_timeout; fetch_timeout = fetch_timeout })
+
+-- ---- all of them
+
+abbrev pub settings_of : ℕ → List (List ℕ) → Housekeeping → Collecting → Settings
+settings_of scrape_interval refresh house fleet = record {
+  scrape_interval = scrape_interval;
+  refresh = refresh;
+  listen = house.listen;
+  lifecycle = house.lifecycle;
+  journal = house.journal;
+  keep = house.keep;
+  settle = house.settle;
+  collectors = fleet.collectors;
+  collector_timeout = fleet.collector_timeout;
+  fetch_timeout = fleet.fetch_timeout;
+}
+
+abbrev pub members_said : Data → Result Settings SettingsError
+members_said d =
+    scrape_interval_said d >>= λ scrape_interval.
+    refresh_said d >>= λ refresh.
+    known_said kind.Allocator part.Allocator (get (codes "allocator") d) >>= λ allocator.
+    housekeeping_said allocator >>= λ house.
+    collecting_said allocator >>= λ fleet.
+    Ok (settings_of scrape_interval refresh house fleet)
+
+unfoldable pub settings_said : Data → Result Settings SettingsError
+settings_said d = if is_some (as_object d) then members_said d else Err (Shape part.Document)
+
+-- the document of a configuration
+abbrev pub settings_read : List ℕ → Result Settings SettingsError
+settings_read bytes = json_said bytes >>= settings_said

@@ -1,0 +1,180 @@
+//! Why settings are refused, and the text of it.
+ghost use Rattle.std.specs.Prelude.{◌≡◌, IfOk, string_bytes};
+ghost use Rattle.service_settings.specs.Lines.{member_path, member_text, missing, error_line};
+
+use lists::Text;
+use std::alloc::{AllocError, Global};
+
+/// Why settings were not read.
+#[derive(Debug, Drop)]
+pub enum SettingsError {
+    NotJson,
+    /// The member is not what it has to be.
+    Shape(Member),
+    /// The object at this member has another member of this name, which says nothing.
+    Unknown(Member, Text),
+    /// The collector at this index has the name of an earlier one.
+    RepeatedCollector(usize),
+    Memory,
+}
+
+/// A member of the document. The indices are those of a scrape config and of an entry of its `http_sd_configs`, or of a
+/// collector.
+#[derive(Clone, Copy, Debug, PartialEq, Eq)]
+pub enum Member {
+    Document,
+    Global,
+    ScrapeInterval,
+    ScrapeConfigs,
+    ScrapeConfig(usize),
+    HttpSdConfigs(usize),
+    HttpSdConfig(usize, usize),
+    RefreshInterval(usize, usize),
+    Allocator,
+    Listen,
+    Lifecycle,
+    Journal,
+    Keep,
+    Settle,
+    Collectors,
+    Collector(usize),
+    CollectorName(usize),
+    CollectorReach(usize),
+    CollectorLimits(usize),
+    CollectorTimeout,
+    FetchTimeout,
+}
+
+impl SettingsError {
+    /// The line that names the member and says what is wrong with it.
+    pub fn line(&self, alloc: Global) -> Result<String, AllocError>
+        ensures { IfOk result (λ s. string_bytes s ≡ error_line self.now) }
+    {
+        match self {
+            SettingsError::NotJson => String::from_str(alloc, "no JSON"),
+            SettingsError::Shape(member) => shape_line(alloc, *member),
+            SettingsError::Unknown(member, name) => unknown_line(alloc, *member, name.as_str()),
+            SettingsError::RepeatedCollector(index) => {
+                format!(in alloc;
+                    "allocator.collectors[{index}].name: the name of an earlier collector"
+                )
+            }
+            SettingsError::Memory => String::from_str(alloc, "no memory"),
+        }
+    }
+}
+
+fn shape_line(alloc: Global, member: Member) -> Result<String, AllocError>
+    ensures { IfOk result (λ s. string_bytes s ≡ error_line (SettingsError.Shape member)) }
+{
+    let mut line = member.text(alloc)?;
+    line.push_str(": ")?;
+    line.push_str(member.missing())?;
+    Ok(line)
+}
+
+fn unknown_line(alloc: Global, member: Member, name: &str) -> Result<String, AllocError>
+    ensures { IfOk result (λ s. string_bytes s ≡ error_line (SettingsError.Unknown member name.now)) }
+{
+    let mut line = member.text(alloc)?;
+    line.push_str(".")?;
+    line.push_str(name)?;
+    line.push_str(": unknown member")?;
+    Ok(line)
+}
+
+impl Member {
+    /// The way to the member from the document.
+    fn text(self, alloc: Global) -> Result<String, AllocError>
+        ensures { IfOk result (λ s. string_bytes s ≡ member_text self) }
+    {
+        match self {
+            Member::ScrapeConfig(job) => format!(in alloc; "scrape_configs[{job}]"),
+            Member::HttpSdConfigs(job) => {
+                format!(in alloc; "scrape_configs[{job}].http_sd_configs")
+            }
+            Member::HttpSdConfig(job, entry) => {
+                format!(in alloc; "scrape_configs[{job}].http_sd_configs[{entry}]")
+            }
+            Member::RefreshInterval(job, entry) => {
+                format!(in alloc; "scrape_configs[{job}].http_sd_configs[{entry}].refresh_interval")
+            }
+            Member::Collector(index) => format!(in alloc; "allocator.collectors[{index}]"),
+            Member::CollectorName(index) => format!(in alloc; "allocator.collectors[{index}].name"),
+            Member::CollectorReach(index) => {
+                format!(in alloc; "allocator.collectors[{index}].reach")
+            }
+            Member::CollectorLimits(index) => {
+                format!(in alloc; "allocator.collectors[{index}].limits")
+            }
+            other => String::from_str(alloc, other.path()),
+        }
+    }
+
+    /// The way to a member that is not of a list, and the list's for another.
+    fn path(self) -> &'static str
+        ensures { result.now ≡ member_path self }
+    {
+        match self {
+            Member::Document => "document",
+            Member::Global => "global",
+            Member::ScrapeInterval => "global.scrape_interval",
+            Member::ScrapeConfigs
+            | Member::ScrapeConfig(_)
+            | Member::HttpSdConfigs(_)
+            | Member::HttpSdConfig(_, _)
+            | Member::RefreshInterval(_, _) => "scrape_configs",
+            Member::Allocator => "allocator",
+            Member::Listen => "allocator.listen",
+            Member::Lifecycle => "allocator.lifecycle",
+            Member::Journal => "allocator.journal",
+            Member::Keep => "allocator.keep",
+            Member::Settle => "allocator.settle",
+            Member::Collectors
+            | Member::Collector(_)
+            | Member::CollectorName(_)
+            | Member::CollectorReach(_)
+            | Member::CollectorLimits(_) => "allocator.collectors",
+            Member::CollectorTimeout => "allocator.collector_timeout",
+            Member::FetchTimeout => "allocator.fetch_timeout",
+        }
+    }
+
+    /// What the member is not.
+    fn missing(self) -> &'static str
+        ensures { result.now ≡ missing self }
+    {
+        match self {
+            Member::Document
+            | Member::Global
+            | Member::ScrapeConfig(_)
+            | Member::HttpSdConfig(_, _)
+            | Member::Allocator
+            | Member::Collector(_) => "no object",
+            Member::ScrapeConfigs | Member::HttpSdConfigs(_) | Member::Collectors => "no list",
+            Member::ScrapeInterval
+            | Member::RefreshInterval(_, _)
+            | Member::CollectorTimeout
+            | Member::FetchTimeout => "no duration above 0",
+            Member::Settle => "no duration",
+            Member::Listen => "no address with a port",
+            Member::Lifecycle => "neither true nor false",
+            Member::Journal => "no text",
+            Member::Keep => "no whole number of 32 bits",
+            Member::CollectorName(_) => "no name of a collector",
+            Member::CollectorReach(_) => "no list of reach rules",
+            Member::CollectorLimits(_) => "no object of limits",
+        }
+    }
+}
+
+impl From<AllocError> for SettingsError {
+    ghost use Rattle.std.specs.Prelude.{◌≡◌};
+    ghost use Rattle.service_settings.specs.declared.error.SettingsError.TheVariants.{Memory};
+
+    ghost from_gives = { λ _ e. e ≡ Memory };
+
+    fn from(_refused: AllocError) -> SettingsError {
+        SettingsError::Memory
+    }
+}

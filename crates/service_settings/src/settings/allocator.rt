@@ -1,0 +1,77 @@
+//! The members of `allocator`.
+ghost use Rattle.std.specs.Prelude.{option_map};
+ghost use Rattle.serde_json.specs.View.{view};
+ghost use Rattle.service_settings.specs.Reading.{Gives};
+ghost use Rattle.service_settings.specs.Settings.{housekeeping_said, collecting_said};
+
+use crate::address::Address;
+use crate::error::{Member, SettingsError};
+use crate::reading::{
+    address_or, duration_or, flag_or, member_of, number_or_none, text_or_none, time_or,
+    time_or_none,
+};
+use crate::settings::collectors::{Collector, collectors_in};
+use crate::settings::{DEFAULT_FETCH_TIMEOUT, DEFAULT_LISTEN, DEFAULT_SETTLE};
+use lists::{List, Text};
+use serde_json::Value;
+use std::alloc::Global;
+
+/// How the service runs.
+#[derive(Drop)]
+pub(crate) struct Housekeeping {
+    pub(crate) listen: Address,
+    pub(crate) lifecycle: bool,
+    pub(crate) journal: Option<Text>,
+    pub(crate) keep: Option<u32>,
+    pub(crate) settle: u64,
+}
+
+/// Who collects, and how long it may take.
+#[derive(Drop)]
+pub(crate) struct Collecting {
+    pub(crate) collectors: List<Collector>,
+    pub(crate) collector_timeout: Option<u64>,
+    pub(crate) fetch_timeout: u64,
+}
+
+#[tactic(auto, unfolding(crate::specs::Settings::housekeeping_said))]
+pub(crate) fn housekeeping_in(
+    alloc: Global,
+    allocator: Option<&Value>,
+) -> Result<Housekeeping, SettingsError>
+    ensures { Gives (λ h. h) result (housekeeping_said (option_map (λ v. view v.now) allocator.entry)) }
+{
+    let listen = member_of(allocator, "listen");
+    let listen = address_or(DEFAULT_LISTEN, Member::Listen, listen)?;
+    let lifecycle = flag_or(false, Member::Lifecycle, member_of(allocator, "lifecycle"))?;
+    let journal = text_or_none(alloc, Member::Journal, member_of(allocator, "journal"))?;
+    let keep = number_or_none(Member::Keep, member_of(allocator, "keep"))?;
+    let settle = member_of(allocator, "settle");
+    let settle = duration_or(DEFAULT_SETTLE, Member::Settle, settle)?;
+    Ok(Housekeeping {
+        listen,
+        lifecycle,
+        journal,
+        keep,
+        settle,
+    })
+}
+
+#[tactic(auto, unfolding(crate::specs::Settings::collecting_said))]
+pub(crate) fn collecting_in(
+    alloc: Global,
+    allocator: Option<&Value>,
+) -> Result<Collecting, SettingsError>
+    ensures { Gives (λ c. c) result (collecting_said (option_map (λ v. view v.now) allocator.entry)) }
+{
+    let collectors = collectors_in(alloc, member_of(allocator, "collectors"))?;
+    let collector_timeout = member_of(allocator, "collector_timeout");
+    let collector_timeout = time_or_none(Member::CollectorTimeout, collector_timeout)?;
+    let fetch_timeout = member_of(allocator, "fetch_timeout");
+    let fetch_timeout = time_or(DEFAULT_FETCH_TIMEOUT, Member::FetchTimeout, fetch_timeout)?;
+    Ok(Collecting {
+        collectors,
+        collector_timeout,
+        fetch_timeout,
+    })
+}
