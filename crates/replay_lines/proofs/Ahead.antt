@@ -13,7 +13,7 @@ use Rattle.replay_lines.specs.Replays.{Written, written_from, written_by, replay
 use Rattle.replay_lines.specs.Lines.{is_read, text_of_line, state_past, IsAhead}
 
 -- a text, and then the rest
-before : List ℕ → Written → Written
+unfoldable pub before : List ℕ → Written → Written
 before front rest = record { text = front ++ rest.text; ended = rest.ended }
 
 read_by : (empty : Bool) (o : Option Event) (number : ℕ) (m : State) (lines : List (List ℕ)) → (empty || is_some o) ≡ true
@@ -31,12 +31,12 @@ unread_by false (Some event) number m lines h = cc
 unread_by false None number m lines h = refl
 
 -- at a line that is read
-written_on : (number : ℕ) (m : State) (line : List ℕ) (lines : List (List ℕ)) → is_read line ≡ true → written_from number m (line ∷ lines) ≡ before (text_of_line m line) (written_from (number + 1) (state_past m line) lines)
+pub written_on : (number : ℕ) (m : State) (line : List ℕ) (lines : List (List ℕ)) → is_read line ≡ true → written_from number m (line ∷ lines) ≡ before (text_of_line m line) (written_from (number + 1) (state_past m line) lines)
 unfolding written_from
 written_on number m line lines h = read_by (bytes_eq line []) (event_of line) number m lines h
 
 -- at a line that is not
-written_off : (number : ℕ) (m : State) (line : List ℕ) (lines : List (List ℕ)) → is_read line ≡ false → written_from number m (line ∷ lines) ≡ unreadable_at number
+pub written_off : (number : ℕ) (m : State) (line : List ℕ) (lines : List (List ℕ)) → is_read line ≡ false → written_from number m (line ∷ lines) ≡ unreadable_at number
 unfolding written_from
 written_off number m line lines h = unread_by (bytes_eq line []) (event_of line) number m lines h
 

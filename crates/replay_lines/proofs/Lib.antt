@@ -2,3 +2,4 @@ mod LineLemmas
 mod Ahead
 pub mod RunLines
 mod JobLists
+pub mod Resumptions

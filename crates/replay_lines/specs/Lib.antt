@@ -2,3 +2,4 @@ pub mod Configurations
 pub mod Replays
 pub mod Lines
 pub mod AsRuns
+pub mod Resumes

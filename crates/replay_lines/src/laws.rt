@@ -2,6 +2,7 @@
 ghost use Rattle.std.specs.Prelude.{List, ℕ};
 ghost use Rattle.replay_lines.specs.AsRuns.{IsRunOfOpened, ReplaysAreRuns};
 ghost use Rattle.replay_lines.specs.Replays.{replay_of};
+ghost use Rattle.replay_lines.specs.Resumes.{ResumesWhereDone};
 
 use allocation_core::{booked_by_holders, published_are_best};
 
@@ -18,4 +19,10 @@ pub fn replays_are_runs()
 /// configuration or that of a history.
 pub fn replays_are_runs_of_opened()
     ensures { (input : List ℕ) → IsRunOfOpened input (replay_of input) }
+{}
+
+/// Where a replay is done, its text leads to the state after the events that it answered.
+#[tactic(auto, using(crate::proofs::Resumptions::resumes_where_done))]
+pub fn resumes_where_done()
+    ensures { ResumesWhereDone }
 {}
