@@ -1,0 +1,133 @@
+-- A line with the history of a state: how deep it is, and what it opens.
+use Rattle.std.proofs.Common.{◌≡◌, ◌≤◌, ℕ, Bool, true, false, cond, List, length, Option, Some, None, IfSome, String, BTreeMap, Global, Result, Ok, Ordering, Less, Equal, Greater, refl, sym, ap, subst, ◌∙◌, arith}
+use Rattle.std.specs.Prelude.{option_map, option_and_then, codes, if◌then◌else◌, unwrap_or}
+use Rattle.std.specs.Cmp.Lexicographic.{slice_cmp}
+use Rattle.std.specs.Ordering.{match_ordering, nat_cmp}
+use Rattle.std.specs.Option.{ok_or}
+use Rattle.std.specs.Result.{result_ok}
+use Rattle.std.specs.List.{list_any}
+use Rattle.serde_json.specs.Data.{Data, Members, null, boolean, number, string, array, object, no_members, member, put, depth, members_depth}
+use Rattle.serde_json.specs.Find.{get}
+use Rattle.serde_json.specs.Read.{max_depth}
+use Rattle.serde_json.specs.View.{view, members_view}
+use Rattle.serde_json.specs.declared.value.Value.{Value, Object}
+use Rattle.serde_json.proofs.Views.{get_member-put, get_member-put_other, view-Object}
+use Rattle.json_values.specs.Spelling.{number_data, pair_data, list_data}
+use Rattle.json_values.specs.Texts.{is_line_feed, json_of}
+use Rattle.json_values.proofs.Lists.{levels}
+use Rattle.price_certificate.proofs.DocumentForm.{levels-document_data}
+use Rattle.fleet.specs.Fleet.{FleetState}
+use Rattle.fleet.specs.declared.collector.Collector.{Collector}
+use Rattle.fleet.specs.declared.job.JobSpec.{JobSpec}
+use Rattle.fleet.specs.declared.known_target.KnownTarget.{KnownTarget}
+use Rattle.fleet_events.proofs.Forms.{target_levels, reach_levels, limits_levels}
+use Rattle.allocation_core.specs.State.{State, current_pairs, restored}
+use Rattle.core_history.specs.Parts.{job_data, known_data, collector_data, fleet_data}
+use Rattle.core_history.specs.History.{ReadsBack, history_data, history_in}
+use Rattle.core_history.specs.declared.error.HistoryError.{HistoryError}
+use Rattle.sd_documents.specs.Config.{config_said}
+use Rattle.sd_documents.specs.Reading.{◌>>=◌}
+use Rattle.sd_documents.specs.declared.error.SdError.TheVariants.{NotJson}
+use Rattle.replay_lines.specs.Configurations.{jobs_in, opened, opened_from, resumed_with, same_jobs, specs_of}
+use Rattle.durable_journal.specs.Configured.{OpensAgain, goes_on, with_history}
+use Rattle.durable_journal.proofs.Opening.{shallow}
+
+-- ---- how deep it is
+
+known_levels : (known : KnownTarget) → depth (known_data known) ≤ 3
+known_levels known = omega (arith, target_levels known.target)
+
+collector_levels : (c : Collector) → depth (collector_data c) ≤ 3
+collector_levels c = omega (arith, limits_levels c.limits, reach_levels c.reach)
+
+numbers_levels : (numbers : List ℕ) → depth (list_data number_data numbers) ≤ 1
+numbers_levels numbers = omega (arith, levels number_data 0 (λ n. omega arith) numbers)
+
+sources_levels : (sources : List (List ℕ)) → depth (list_data (list_data number_data) sources) ≤ 2
+sources_levels sources = omega (arith, levels (list_data number_data) 1 numbers_levels sources)
+
+fleet_levels : (fleet : FleetState) → depth (fleet_data fleet) ≤ 5
+fleet_levels fleet =
+    omega (arith, levels collector_data 3 collector_levels fleet.collectors, levels job_data 1 (λ job. omega arith) fleet.jobs, levels (list_data (list_data number_data)) 2 sources_levels fleet.listed, levels known_data 3 known_levels fleet.known)
+
+history_levels : (m : State) → depth (history_data m) ≤ 6
+history_levels m =
+    omega (arith, levels pair_data 1 (λ q. omega arith) (current_pairs m), levels-document_data m.problem m.plan.pairs m.plan.item_prices m.plan.bin_prices, fleet_levels m.fleet)
+
+put_levels_at : (o : Ordering) (n : ℕ) (k l : List ℕ) (d e : Data) (ms : Members) → depth d ≤ n → depth e ≤ n → members_depth ms ≤ n → members_depth (put k d ms) ≤ n
+    → members_depth (match_ordering o (member k d (member l e ms)) (member l d ms) (member l e (put k d ms))) ≤ n
+put_levels_at Less n k l d e ms hd he hms later = omega arith
+put_levels_at Equal n k l d e ms hd he hms later = omega arith
+put_levels_at Greater n k l d e ms hd he hms later = omega arith
+
+put_levels : (n : ℕ) (k : List ℕ) (d : Data) (ms : Members) → depth d ≤ n → members_depth ms ≤ n → members_depth (put k d ms) ≤ n
+put_levels n k d no_members hd hms = omega arith
+put_levels n k d (member l e ms) hd hms =
+    let he : depth e ≤ n = omega arith in
+    let rest : members_depth ms ≤ n = omega arith in
+    put_levels_at (slice_cmp nat_cmp k l) n k l d e ms hd he rest (put_levels n k d ms hd rest)
+
+renewed_levels : (m : State) (d r : Data) → depth d ≤ max_depth → with_history m d ≡ Some r → depth r ≤ max_depth
+renewed_levels m null r h e = cc
+renewed_levels m (boolean b) r h e = cc
+renewed_levels m (number n) r h e = cc
+renewed_levels m (string s) r h e = cc
+renewed_levels m (array ds) r h e = cc
+renewed_levels m (object ms) r h e =
+    let inside : members_depth ms ≤ 126 = omega (arith, h) in
+    let low : depth (history_data m) ≤ 126 = omega (arith, history_levels m) in
+    let deep : members_depth (put (codes "history") (history_data m) ms) ≤ 126 = put_levels 126 (codes "history") (history_data m) ms low inside in
+    subst (λ (x : Data). depth x ≤ max_depth) (ap (λ (o : Option Data). unwrap_or o null) e) (omega (arith, deep))
+
+-- ---- as a value
+
+pub put_form : (value : Value) (old new : BTreeMap (String Global) Value) (h : Data) (m : State) → value ≡ Object old → members_view new.entries ≡ put (codes "history") h (members_view old.entries) → h ≡ history_data m
+    → Some (view (Object new)) ≡ with_history m (view value)
+put_form value old new h m is added form =
+    ap Some (view-Object new ∙ ap object (added ∙ ap (λ (x : Data). put (codes "history") x (members_view old.entries)) form)) ∙ sym (ap (with_history m) (ap view is ∙ view-Object old))
+
+-- ---- what it opens
+
+said_same : (h : Data) (ms : Members) → config_said (object (put (codes "history") h ms)) ≡ config_said (object ms)
+unfolding config_said
+said_same h ms = rw (get_member-put_other (codes "scrape_configs") (codes "history") h ms (λ e. omega (arith, ap length e))) refl
+
+opened_with_history : (line document : List ℕ) (h : Data) (ms : Members) → json_of document ≡ Some (object ms) → json_of line ≡ Some (object (put (codes "history") h ms))
+    → opened line ≡ option_and_then (λ jobs. resumed_with jobs (history_in h)) (jobs_in document)
+unfolding opened
+opened_with_history line document h ms before after =
+    ap (λ (o : Option Data). option_and_then (opened_from (option_and_then (get (codes "history")) o)) (option_map specs_of (result_ok (ok_or o NotJson >>= config_said)))) after
+    ∙ ap (λ (o : Option Data). option_and_then (opened_from o) (option_map specs_of (result_ok (config_said (object (put (codes "history") h ms)))))) (get_member-put (codes "history") h ms)
+    ∙ ap (λ r. option_and_then (opened_from (Some h)) (option_map specs_of (result_ok r))) (said_same h ms)
+    ∙ ap (λ (o : Option Data). option_and_then (opened_from (Some h)) (option_map specs_of (result_ok (ok_or o NotJson >>= config_said)))) (sym before)
+
+renewed_opens : (line document : List ℕ) (m : State) (d r : Data) → json_of document ≡ Some d → with_history m d ≡ Some r → json_of line ≡ Some r → opened line ≡ goes_on m document
+renewed_opens line document m null r before e after = cc
+renewed_opens line document m (boolean b) r before e after = cc
+renewed_opens line document m (number n) r before e after = cc
+renewed_opens line document m (string s) r before e after = cc
+renewed_opens line document m (array ds) r before e after = cc
+renewed_opens line document m (object ms) r before e after = opened_with_history line document (history_data m) ms before (after ∙ sym e)
+
+again_by : (m : State) (document : List ℕ) (said : Result State HistoryError) (jobs : List JobSpec) → said ≡ Ok (restored m.fleet (current_pairs m) m.problem m.plan m.round) → jobs_in document ≡ Some jobs → same_jobs m.fleet.jobs jobs ≡ true
+    → option_and_then (λ jobs. resumed_with jobs said) (jobs_in document) ≡ Some (restored m.fleet (current_pairs m) m.problem m.plan m.round)
+again_by m document said jobs reads jobs_are same =
+    ap (λ (o : Option (List JobSpec)). option_and_then (λ js. resumed_with js said) o) jobs_are ∙ ap (resumed_with jobs) reads
+    ∙ ap (λ b. if b then Some (restored m.fleet (current_pairs m) m.problem m.plan m.round) else None) same
+
+-- ---- the line that is given, if one is
+
+line_by : (fed : Bool) (P : List ℕ → Type 0) (text : List ℕ) (o : Option (List ℕ)) → P text → o ≡ cond fed None (Some text) → IfSome o P
+line_by true P text o holds e = subst (λ (q : Option (List ℕ)). IfSome q P) (sym e) tt
+line_by false P text o holds e = subst (λ (q : Option (List ℕ)). IfSome q P) (sym e) holds
+
+pub renewed_line_opens : (document text : List ℕ) (m : State) (d r : Data) (o : Option (List ℕ)) → json_of document ≡ Some d → with_history m d ≡ Some r → (depth r ≤ max_depth → json_of text ≡ Some r)
+    → o ≡ (if list_any is_line_feed text then None else Some text) → IfSome o (λ line. opened line ≡ goes_on m document)
+renewed_line_opens document text m d r o before e back is =
+    line_by (list_any is_line_feed text) (λ line. opened line ≡ goes_on m document) text o (renewed_opens text document m d r before e (back (renewed_levels m d r (shallow document d before) e))) is
+
+pub renewed_line_again : (document text : List ℕ) (m : State) (d r : Data) (o : Option (List ℕ)) → ReadsBack m (history_in (history_data m)) → json_of document ≡ Some d → with_history m d ≡ Some r → (depth r ≤ max_depth → json_of text ≡ Some r)
+    → o ≡ (if list_any is_line_feed text then None else Some text) → IfSome o (OpensAgain m document)
+renewed_line_again document text m d r o reads before e back is =
+    line_by (list_any is_line_feed text) (OpensAgain m document) text o
+    (λ jobs good jobs_are same. renewed_opens text document m d r before e (back (renewed_levels m d r (shallow document d before) e)) ∙ again_by m document (history_in (history_data m)) jobs (reads good) jobs_are same) is

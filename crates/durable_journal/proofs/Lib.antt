@@ -1,0 +1,6 @@
+pub mod WholeParts
+pub mod Found
+pub mod EventLines
+pub mod Crashes
+pub mod Opening
+pub mod Histories

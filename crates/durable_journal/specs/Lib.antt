@@ -1,0 +1,4 @@
+pub mod Lines
+pub mod Events
+pub mod Journals
+pub mod Configured

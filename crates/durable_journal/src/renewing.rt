@@ -1,0 +1,48 @@
+//! The first line of the journal of an allocator that was renewed.
+ghost use Rattle.std.specs.Prelude.{◌≡◌, IfOk, IfSome, option_and_then, option_map};
+ghost use Rattle.core_history.specs.History.{ReadsBack, history_data, history_in};
+ghost use Rattle.json_values.specs.Texts.{json_of};
+ghost use Rattle.serde_json.specs.View.{view};
+ghost use Rattle.replay_lines.specs.Configurations.{opened};
+ghost use Rattle.durable_journal.specs.Configured.{IsLineGiven, OpensAgain, goes_on, with_history};
+ghost use Rattle.durable_journal.specs.Lines.{HasNoFeed};
+
+use crate::configuring::one_line;
+use allocation_core::Core;
+use core_history::history_value;
+use json_values::{parse, text_of};
+use lists::Text;
+use serde_json::{Value, put};
+use std::alloc::{AllocError, Global};
+
+/// The document of a configuration with the core's history, as `configuration_line` gives it. It opens the core again, if the core was
+/// just renewed and the jobs of the document are its own.
+pub fn renewed_line(alloc: Global, document: &[u8], core: &Core) -> Result<Option<Text>, AllocError>
+    ensures opens { IfOk result (λ o. IfSome o (λ line. opened line ≡ goes_on core.now document.now)) }
+    ensures again { IfOk result (λ o. IfSome o (OpensAgain core.now document.now)) }
+    ensures one_line { IfOk result (λ o. IfSome o (λ line. HasNoFeed line)) }
+    ensures given { IfOk result (IsLineGiven (option_and_then (with_history core.now) (json_of document.now))) }
+{
+    let Some(value) = parse(alloc, document)? else {
+        return Ok(None);
+    };
+    let Some(renewed) = with_history(alloc, value, core)? else {
+        return Ok(None);
+    };
+    Ok(one_line(text_of(alloc, &renewed)?))
+}
+
+/// The object with the core's history as its member.
+fn with_history(alloc: Global, value: Value, core: &Core) -> Result<Option<Value>, AllocError>
+    ensures form { IfOk result (λ o. option_map view o ≡ with_history core.now (view value)) }
+    ensures reads_back { IfOk result (λ o. IfSome o (λ v. ReadsBack core.now (history_in (history_data core.now)))) }
+{
+    match value {
+        Value::Object(mut members) => {
+            let history = history_value(alloc, core)?;
+            put(&mut members, alloc, "history", history)?;
+            Ok(Some(Value::Object(members)))
+        }
+        _ => Ok(None),
+    }
+}
