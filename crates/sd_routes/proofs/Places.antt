@@ -31,70 +31,110 @@ agrees-text w t h a = agrees-prefix w t (text-from w h) a
 -- ---- the routes by number, as a tree
 
 abbrev orders : Rows
-orders = prepend (codes "drain") (ends (Some 1)) ++ prepend (codes "limits") (ends (Some 2))
+orders = prepend (codes "drain") (ends (Some 4)) ++ prepend (codes "limits") (ends (Some 5))
 
 abbrev of_collector : Rows
-of_collector = prepend (256 ∷ []) (after orders (Some 3))
+of_collector = prepend (256 ∷ []) (after orders (Some 6))
 
 abbrev collectors : Rows
-collectors = prepend (codes "/") of_collector ++ ends (Some 4)
+collectors = prepend (codes "/") of_collector ++ ends (Some 7)
 
 abbrev targets : Rows
-targets = prepend (codes "targets") (ends (Some 5))
+targets = prepend (codes "targets") (ends (Some 8))
 
 abbrev of_job : Rows
 of_job = prepend (256 ∷ []) (after targets None)
 
 abbrev jobs : Rows
-jobs = prepend (codes "/") of_job ++ ends (Some 6)
+jobs = prepend (codes "/") of_job ++ ends (Some 9)
 
 abbrev with_c : Rows
-with_c = prepend (codes "ertificate") (ends (Some 0)) ++ prepend (codes "ollectors") collectors
+with_c = prepend (codes "ertificate") (ends (Some 3)) ++ prepend (codes "ollectors") collectors
+
+abbrev with_qr : Rows
+with_qr = prepend (codes "quit") (ends (Some 1)) ++ prepend (codes "ready") (ends (Some 2))
+
+abbrev with_hqr : Rows
+with_hqr = prepend (codes "healthy") (ends (Some 0)) ++ with_qr
+
+abbrev with_re : Rows
+with_re = prepend (codes "adyz") (ends (Some 12)) ++ prepend (codes "ports") (ends (Some 13))
 
 abbrev with_rs : Rows
-with_rs = prepend (codes "reports") (ends (Some 7)) ++ prepend (codes "scrape_configs") (ends (Some 8))
+with_rs = prepend (codes "re") with_re ++ prepend (codes "scrape_configs") (ends (Some 14))
 
-abbrev with_jrs : Rows
-with_jrs = prepend (codes "jobs") jobs ++ with_rs
+abbrev with_mrs : Rows
+with_mrs = prepend (codes "metrics") (ends (Some 11)) ++ with_rs
+
+abbrev with_lmrs : Rows
+with_lmrs = prepend (codes "livez") (ends (Some 10)) ++ with_mrs
+
+abbrev with_jlmrs : Rows
+with_jlmrs = prepend (codes "jobs") jobs ++ with_lmrs
+
+abbrev with_cjlmrs : Rows
+with_cjlmrs = prepend (codes "c") with_c ++ with_jlmrs
 
 abbrev tree : Rows
-tree = prepend (codes "/") (prepend (codes "c") with_c ++ with_jrs)
+tree = prepend (codes "/") (prepend (codes "-/") with_hqr ++ with_cjlmrs)
 
 agrees-word : (w : List ℕ) (k : ℕ) → all_bytes w ≡ true → Agrees (prepend w (ends (Some k)))
 agrees-word w k h = agrees-text w (ends (Some k)) h (agrees-end k)
 
 agrees-orders : Agrees orders
-agrees-orders = agrees-or 100 (codes "rain") (ends (Some 1)) (prepend (codes "limits") (ends (Some 2))) (omega arith) refl (agrees-word (codes "drain") 1 refl) (agrees-word (codes "limits") 2 refl)
+agrees-orders = agrees-or 100 (codes "rain") (ends (Some 4)) (prepend (codes "limits") (ends (Some 5))) (omega arith) refl (agrees-word (codes "drain") 4 refl) (agrees-word (codes "limits") 5 refl)
 
 agrees-collectors : Agrees collectors
 agrees-collectors =
-    agrees-or 47 [] of_collector (ends (Some 4)) (omega arith) refl
-    (agrees-text (codes "/") of_collector refl (agrees-segment orders (Some 3) (omega arith) (agrees-text (codes "/") orders refl agrees-orders)))
-    (agrees-end 4)
+    agrees-or 47 [] of_collector (ends (Some 7)) (omega arith) refl
+    (agrees-text (codes "/") of_collector refl (agrees-segment orders (Some 6) (omega arith) (agrees-text (codes "/") orders refl agrees-orders)))
+    (agrees-end 7)
 
 agrees-jobs : Agrees jobs
 agrees-jobs =
-    agrees-or 47 [] of_job (ends (Some 6)) (omega arith) refl
-    (agrees-text (codes "/") of_job refl (agrees-segment targets None (omega arith) (agrees-text (codes "/") targets refl (agrees-word (codes "targets") 5 refl))))
-    (agrees-end 6)
+    agrees-or 47 [] of_job (ends (Some 9)) (omega arith) refl
+    (agrees-text (codes "/") of_job refl (agrees-segment targets None (omega arith) (agrees-text (codes "/") targets refl (agrees-word (codes "targets") 8 refl))))
+    (agrees-end 9)
 
 agrees-with_c : Agrees with_c
 agrees-with_c =
-    agrees-or 101 (codes "rtificate") (ends (Some 0)) (prepend (codes "ollectors") collectors) (omega arith) refl
-    (agrees-word (codes "ertificate") 0 refl) (agrees-text (codes "ollectors") collectors refl agrees-collectors)
+    agrees-or 101 (codes "rtificate") (ends (Some 3)) (prepend (codes "ollectors") collectors) (omega arith) refl
+    (agrees-word (codes "ertificate") 3 refl) (agrees-text (codes "ollectors") collectors refl agrees-collectors)
+
+agrees-with_qr : Agrees with_qr
+agrees-with_qr =
+    agrees-or 113 (codes "uit") (ends (Some 1)) (prepend (codes "ready") (ends (Some 2))) (omega arith) refl
+    (agrees-word (codes "quit") 1 refl) (agrees-word (codes "ready") 2 refl)
+
+agrees-with_hqr : Agrees with_hqr
+agrees-with_hqr = agrees-or 104 (codes "ealthy") (ends (Some 0)) with_qr (omega arith) refl (agrees-word (codes "healthy") 0 refl) agrees-with_qr
+
+agrees-with_re : Agrees with_re
+agrees-with_re =
+    agrees-or 97 (codes "dyz") (ends (Some 12)) (prepend (codes "ports") (ends (Some 13))) (omega arith) refl
+    (agrees-word (codes "adyz") 12 refl) (agrees-word (codes "ports") 13 refl)
 
 agrees-with_rs : Agrees with_rs
 agrees-with_rs =
-    agrees-or 114 (codes "eports") (ends (Some 7)) (prepend (codes "scrape_configs") (ends (Some 8))) (omega arith) refl
-    (agrees-word (codes "reports") 7 refl) (agrees-word (codes "scrape_configs") 8 refl)
+    agrees-or 114 (codes "e") with_re (prepend (codes "scrape_configs") (ends (Some 14))) (omega arith) refl
+    (agrees-text (codes "re") with_re refl agrees-with_re) (agrees-word (codes "scrape_configs") 14 refl)
 
-agrees-with_jrs : Agrees with_jrs
-agrees-with_jrs = agrees-or 106 (codes "obs") jobs with_rs (omega arith) refl (agrees-text (codes "jobs") jobs refl agrees-jobs) agrees-with_rs
+agrees-with_mrs : Agrees with_mrs
+agrees-with_mrs = agrees-or 109 (codes "etrics") (ends (Some 11)) with_rs (omega arith) refl (agrees-word (codes "metrics") 11 refl) agrees-with_rs
+
+agrees-with_lmrs : Agrees with_lmrs
+agrees-with_lmrs = agrees-or 108 (codes "ivez") (ends (Some 10)) with_mrs (omega arith) refl (agrees-word (codes "livez") 10 refl) agrees-with_mrs
+
+agrees-with_jlmrs : Agrees with_jlmrs
+agrees-with_jlmrs = agrees-or 106 (codes "obs") jobs with_lmrs (omega arith) refl (agrees-text (codes "jobs") jobs refl agrees-jobs) agrees-with_lmrs
+
+agrees-with_cjlmrs : Agrees with_cjlmrs
+agrees-with_cjlmrs = agrees-or 99 [] with_c with_jlmrs (omega arith) refl (agrees-text (codes "c") with_c refl agrees-with_c) agrees-with_jlmrs
 
 agrees-tree : Agrees tree
 agrees-tree =
-    agrees-text (codes "/") (prepend (codes "c") with_c ++ with_jrs) refl
-    (agrees-or 99 [] with_c with_jrs (omega arith) refl (agrees-text (codes "c") with_c refl agrees-with_c) agrees-with_jrs)
+    agrees-text (codes "/") (prepend (codes "-/") with_hqr ++ with_cjlmrs) refl
+    (agrees-or 45 (codes "/") with_hqr with_cjlmrs (omega arith) refl (agrees-text (codes "-/") with_hqr refl agrees-with_hqr) agrees-with_cjlmrs)
 
 -- ---- the routes themselves
 

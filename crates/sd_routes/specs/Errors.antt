@@ -1,7 +1,7 @@
 -- The status code (RFC 9110, section 15; RFC 4918, section 11.5) and the name of each refusal without an event.
 use Rattle.std.specs.Prelude.{ℕ, List, codes}
 use Rattle.sd_routes.specs.declared.request_error.RequestError.{RequestError}
-use Rattle.sd_routes.specs.declared.request_error.RequestError.TheVariants.{NoRoute, Method, Shape, BadName, TooManyRules, TooLong, JournalFull, Memory}
+use Rattle.sd_routes.specs.declared.request_error.RequestError.TheVariants.{NoRoute, Method, Shape, BadName, TooManyRules, TooLong, JournalFull, NotKept, Memory}
 
 abbrev pub status_of : RequestError → ℕ
 status_of NoRoute = 404
@@ -11,6 +11,7 @@ status_of BadName = 400
 status_of TooManyRules = 400
 status_of TooLong = 413
 status_of JournalFull = 507
+status_of NotKept = 503
 status_of Memory = 503
 
 abbrev pub name_of : RequestError → List ℕ
@@ -21,4 +22,5 @@ name_of BadName = codes "BadName"
 name_of TooManyRules = codes "TooManyRules"
 name_of TooLong = codes "TooLong"
 name_of JournalFull = codes "JournalFull"
+name_of NotKept = codes "NotKept"
 name_of Memory = codes "Memory"

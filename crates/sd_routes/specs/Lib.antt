@@ -9,4 +9,5 @@ pub mod Asks
 pub mod Events
 pub mod Responses
 pub mod Links
+pub mod Notices
 pub mod Pages

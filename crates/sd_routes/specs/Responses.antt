@@ -13,11 +13,12 @@ use Rattle.fleet_events.specs.declared.answer.Answer.TheVariants.{Not}
 use Rattle.fleet_events.specs.declared.refusal.Refusal.{Refusal}
 use Rattle.fleet_events.specs.declared.refusal.Refusal.TheVariants.{UnknownJob, UnknownCollector}
 use Rattle.sd_routes.specs.Errors.{status_of, name_of}
+use Rattle.sd_routes.specs.Notices.{status_noticed, text_noticed}
 use Rattle.sd_routes.specs.Table.{method_of}
 use Rattle.sd_routes.specs.declared.request_error.RequestError.{RequestError}
 use Rattle.sd_routes.specs.declared.request_error.RequestError.TheVariants.{Method}
 use Rattle.sd_routes.specs.declared.responding.Said.{Said}
-use Rattle.sd_routes.specs.declared.responding.Said.TheVariants.{Answer as Answered, Page, Taken, Refused}
+use Rattle.sd_routes.specs.declared.responding.Said.TheVariants.{Answer as Answered, Page, Taken, Refused, Notice as Noticed, Metrics}
 
 -- a head with this status code and these headers
 pub record IsHead (code : ℕ) (fields : Entries FieldValue) (head : Parts) : Type 0 where
@@ -32,8 +33,11 @@ pub record IsResponse (code : ℕ) (fields : Entries FieldValue) (bytes : List �
 
 -- ---- headers
 
+abbrev pub media_headers : List ℕ → Entries FieldValue
+media_headers media = (codes "content-type", plain_value media ∷ []) ∷ []
+
 abbrev pub json_headers : Entries FieldValue
-json_headers = (codes "content-type", plain_value (codes "application/json") ∷ []) ∷ []
+json_headers = media_headers (codes "application/json")
 
 -- the number of the allocation that was taken, and the round that was open then
 abbrev pub taken_headers : ℕ → ℕ → Entries FieldValue
@@ -76,10 +80,14 @@ status_said (Answered answer) = status_answered answer
 status_said (Page text) = 200
 status_said (Taken allocation round groups) = 200
 status_said (Refused error) = status_of error
+status_said (Noticed notice) = status_noticed notice
+status_said (Metrics text) = 200
 
 abbrev pub headers_said : Said → Entries FieldValue
 headers_said (Taken allocation round groups) = taken_headers allocation round
 headers_said (Refused error) = refused_headers error
+headers_said (Noticed notice) = media_headers (codes "text/plain; charset=utf-8")
+headers_said (Metrics text) = media_headers (codes "text/plain; version=0.0.4; charset=utf-8")
 headers_said _ = json_headers
 
 abbrev pub body_said : Said → List ℕ
@@ -87,3 +95,5 @@ body_said (Answered answer) = answer_text answer
 body_said (Page text) = text
 body_said (Taken allocation round groups) = groups
 body_said (Refused error) = refused_text (name_of error)
+body_said (Noticed notice) = text_noticed notice
+body_said (Metrics text) = text

@@ -1,7 +1,7 @@
 -- The table of paths: which place each names, and the method of the place.
 use Rattle.std.specs.Prelude.{ℕ, ◌==◌, ◌&&◌, ◌++◌, List, [], ◌∷◌, Bool, true, false, not, codes, Option, Some, None, if◌then◌else◌}
 use Rattle.sd_routes.specs.declared.place.Place.{Place}
-use Rattle.sd_routes.specs.declared.place.Place.TheVariants.{ScrapeConfigs, Jobs, JobTargets, Certificate, Collectors, Collector, Drain, Limits, Reports}
+use Rattle.sd_routes.specs.declared.place.Place.TheVariants.{ScrapeConfigs, Jobs, JobTargets, Certificate, Collectors, Collector, Drain, Limits, Reports, Healthy, Ready, Metrics, Quit}
 
 -- in a route, what stands for one segment of a path. It is no byte
 abbrev pub segment : ℕ
@@ -13,13 +13,19 @@ slash = 47
 -- A row a route. No path fits two of them.
 abbrev pub table : List (List ℕ × Place)
 table =
-    (codes "/certificate", Certificate)
+    (codes "/-/healthy", Healthy)
+    ∷ (codes "/-/quit", Quit)
+    ∷ (codes "/-/ready", Ready)
+    ∷ (codes "/certificate", Certificate)
     ∷ (codes "/collectors/" ++ segment ∷ codes "/drain", Drain)
     ∷ (codes "/collectors/" ++ segment ∷ codes "/limits", Limits)
     ∷ (codes "/collectors/" ++ segment ∷ [], Collector)
     ∷ (codes "/collectors", Collectors)
     ∷ (codes "/jobs/" ++ segment ∷ codes "/targets", JobTargets)
     ∷ (codes "/jobs", Jobs)
+    ∷ (codes "/livez", Healthy)
+    ∷ (codes "/metrics", Metrics)
+    ∷ (codes "/readyz", Ready)
     ∷ (codes "/reports", Reports)
     ∷ (codes "/scrape_configs", ScrapeConfigs)
     ∷ []
@@ -34,6 +40,10 @@ method_of Collector = codes "DELETE"
 method_of Drain = codes "POST"
 method_of Limits = codes "PUT"
 method_of Reports = codes "POST"
+method_of Healthy = codes "GET"
+method_of Ready = codes "GET"
+method_of Metrics = codes "GET"
+method_of Quit = codes "POST"
 
 -- what follows the segment in front, from the next slash on
 abbrev pub past_segment : List ℕ → List ℕ

@@ -24,4 +24,12 @@ pub enum Ask {
     SetLimits(CollectorId),
     /// A scrape is reported; the body has it.
     Report,
+    /// Whether the service lives.
+    Healthy,
+    /// Whether the service is ready to answer.
+    Ready,
+    /// What the service counts.
+    Metrics,
+    /// The service is to end.
+    Quit,
 }

@@ -9,6 +9,7 @@ mod ask;
 mod decimal;
 mod event;
 mod link;
+mod notice;
 mod pages;
 mod place;
 mod query;
@@ -17,11 +18,10 @@ mod responding;
 mod routes;
 mod routing;
 mod segment;
-#[cfg(test)]
-mod tests;
 
 pub use ask::Ask;
 pub use event::event_of;
+pub use notice::Notice;
 pub use pages::{job_page, jobs_page, targets_page};
 pub use place::Place;
 pub use request_error::RequestError;

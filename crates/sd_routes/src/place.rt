@@ -15,6 +15,10 @@ pub enum Place {
     Drain,
     Limits,
     Reports,
+    Healthy,
+    Ready,
+    Metrics,
+    Quit,
 }
 
 impl Place {
@@ -25,7 +29,8 @@ impl Place {
     {
         match self {
             Place::ScrapeConfigs | Place::Jobs | Place::JobTargets | Place::Certificate => "GET",
-            Place::Collectors | Place::Drain | Place::Reports => "POST",
+            Place::Healthy | Place::Ready | Place::Metrics => "GET",
+            Place::Collectors | Place::Drain | Place::Reports | Place::Quit => "POST",
             Place::Collector => "DELETE",
             Place::Limits => "PUT",
         }

@@ -23,6 +23,8 @@ pub enum RequestError {
     TooLong,
     /// The journal takes no further event.
     JournalFull,
+    /// What was asked may have been done, and is not on the device that keeps the journal.
+    NotKept,
     /// A growth was refused.
     Memory,
 }
@@ -40,7 +42,7 @@ impl RequestError {
             }
             RequestError::TooLong => StatusCode::PAYLOAD_TOO_LARGE,
             RequestError::JournalFull => StatusCode::INSUFFICIENT_STORAGE,
-            RequestError::Memory => StatusCode::SERVICE_UNAVAILABLE,
+            RequestError::NotKept | RequestError::Memory => StatusCode::SERVICE_UNAVAILABLE,
         }
     }
 
@@ -56,6 +58,7 @@ impl RequestError {
             RequestError::TooManyRules => "TooManyRules",
             RequestError::TooLong => "TooLong",
             RequestError::JournalFull => "JournalFull",
+            RequestError::NotKept => "NotKept",
             RequestError::Memory => "Memory",
         }
     }

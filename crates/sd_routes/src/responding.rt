@@ -1,8 +1,10 @@
 //! How an answer is written.
-ghost use Rattle.std.specs.Prelude.{◌≡◌, IfOk, string_bytes};
+ghost use Rattle.std.specs.Prelude.{◌≡◌, IfOk, IsTrue, string_bytes};
+ghost use Rattle.http_header.specs.FieldValue.{is_visible_text};
 ghost use Rattle.sd_routes.specs.Errors.{status_of};
-ghost use Rattle.sd_routes.specs.Responses.{IsResponse, IsHead, json_headers, taken_headers, refused_headers, refused_text, answer_text, status_answered, status_said, headers_said, body_said};
+ghost use Rattle.sd_routes.specs.Responses.{IsResponse, IsHead, json_headers, media_headers, taken_headers, refused_headers, refused_text, answer_text, status_answered, status_said, headers_said, body_said};
 
+use crate::notice::Notice;
 use crate::request_error::RequestError;
 use bytes::Bytes;
 use fleet_events::{AllocationNumber, Answer, Refusal, Round};
@@ -29,9 +31,13 @@ pub enum Said {
     },
     /// The request is refused without an answer of the allocator.
     Refused(RequestError),
+    /// Something about the service itself.
+    Notice(Notice),
+    /// What the service counts, in the text exposition format of Prometheus, version 0.0.4.
+    Metrics(Text),
 }
 
-/// The response that says it. Each has the media type `application/json`.
+/// The response that says it. What is not plain text has the media type `application/json`.
 pub fn answer(alloc: Global, said: Said) -> Result<Response<Full<Bytes>>, AllocError>
     ensures { IfOk result (IsResponse (status_said said) (headers_said said) (body_said said)) }
 {
@@ -49,6 +55,15 @@ pub fn answer(alloc: Global, said: Said) -> Result<Response<Full<Bytes>>, AllocE
         Said::Refused(error) => {
             let head = refused_head(alloc, error)?;
             response(head, refused_text(alloc, error.name())?)
+        }
+        Said::Notice(notice) => {
+            let head = head_with(alloc, notice.status(), "text/plain; charset=utf-8")?;
+            response(head, String::from_str(alloc, notice.text())?)
+        }
+        Said::Metrics(text) => {
+            let media = "text/plain; version=0.0.4; charset=utf-8";
+            let head = head_with(alloc, StatusCode::OK, media)?;
+            response(head, text.into_string())
         }
     }
 }
@@ -74,10 +89,20 @@ fn response(head: Parts, text: String) -> Result<Response<Full<Bytes>>, AllocErr
 fn json_head(alloc: Global, status: StatusCode) -> Result<Parts, AllocError>
     ensures { IfOk result (IsHead status json_headers) }
 {
+    head_with(alloc, status, "application/json")
+}
+
+/// A head with a media type.
+fn head_with(alloc: Global, status: StatusCode, media: &'static str) -> Result<Parts, AllocError>
+    requires { IsTrue (is_visible_text media.now) }
+    ensures { IfOk result (IsHead status (media_headers media.now)) }
+{
     let mut head = Parts::new(alloc);
     head.status = status;
-    let json = HeaderValue::from_static("application/json");
-    match head.headers.insert(CONTENT_TYPE, json) {
+    match head
+        .headers
+        .insert(CONTENT_TYPE, HeaderValue::from_static(media))
+    {
         Ok(_) => Ok(head),
         Err(_) => Err(AllocError),
     }

@@ -59,5 +59,11 @@ fn router_of(alloc: Global) -> Result<Router<Place>, InsertError>
     router.insert("/collectors/{id}/drain", Place::Drain)?;
     router.insert("/collectors/{id}/limits", Place::Limits)?;
     router.insert("/reports", Place::Reports)?;
+    router.insert("/-/healthy", Place::Healthy)?;
+    router.insert("/livez", Place::Healthy)?;
+    router.insert("/-/ready", Place::Ready)?;
+    router.insert("/readyz", Place::Ready)?;
+    router.insert("/metrics", Place::Metrics)?;
+    router.insert("/-/quit", Place::Quit)?;
     Ok(router)
 }

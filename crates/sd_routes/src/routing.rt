@@ -48,6 +48,10 @@ fn ask_at(alloc: Global, place: Place, path: &str, query: Option<&str>) -> Resul
         Place::Drain => Ok(Ask::Drain(collector_id(path)?)),
         Place::Limits => Ok(Ask::SetLimits(collector_id(path)?)),
         Place::Reports => Ok(Ask::Report),
+        Place::Healthy => Ok(Ask::Healthy),
+        Place::Ready => Ok(Ask::Ready),
+        Place::Metrics => Ok(Ask::Metrics),
+        Place::Quit => Ok(Ask::Quit),
     }
 }
 

@@ -14,10 +14,11 @@ use Rattle.alloc_desk.specs.declared.receipt.Receipt.{Receipt}
 use Rattle.sd_routes.specs.Events.{event_said}
 use Rattle.sd_routes.specs.declared.ask.Ask.{Ask}
 use Rattle.sd_routes.specs.declared.ask.Ask.TheVariants as ask
+use Rattle.sd_routes.specs.declared.notice.Notice.TheVariants.{Healthy, Ready, NotReady, Quitting, NoLifecycle}
 use Rattle.sd_routes.specs.declared.request_error.RequestError.{RequestError}
-use Rattle.sd_routes.specs.declared.request_error.RequestError.TheVariants.{JournalFull, Memory}
+use Rattle.sd_routes.specs.declared.request_error.RequestError.TheVariants.{JournalFull, NotKept, Memory}
 use Rattle.sd_routes.specs.declared.responding.Said.{Said}
-use Rattle.sd_routes.specs.declared.responding.Said.TheVariants.{Answer as Answered, Page, Taken, Refused}
+use Rattle.sd_routes.specs.declared.responding.Said.TheVariants.{Answer as Answered, Page, Taken, Refused, Notice as Noticed, Metrics}
 use Rattle.sd_server.specs.Jobs.{place_of}
 use Rattle.sd_server.specs.Texts.{certificate_text, groups_text, job_text}
 use Rattle.sd_server.specs.declared.config_pages.ConfigPages.{ConfigPages}
@@ -30,9 +31,11 @@ OfSome opening Holds = (counts : Counts) × Reached opening counts Holds
 abbrev pub IsEntered : State → Event → Receipt → Type 0
 IsEntered opening event receipt = (counts : Counts) × Reached opening counts (IsReceipt event counts receipt)
 
--- why no event was entered: the journal is full, or memory was wanted
+-- why there is no answer to an event: it was not entered, since the journal is full or memory was wanted; or it may have been entered,
+-- and is not kept
 abbrev pub SaysNot : State → RequestError → Type 0
 SaysNot opening JournalFull = OfSome opening IsFull
+SaysNot opening NotKept = Unit {0}
 SaysNot opening Memory = Unit {0}
 SaysNot opening _ = ⊥
 
@@ -48,7 +51,7 @@ SaysListed opening place answer (Taken allocation round groups) =
     (held : List ℕ) × (answer ≡ HasTaken allocation round held) × OfSome opening (λ h. groups ≡ groups_text place held h)
 SaysListed opening place answer (Answered told) = told ≡ answer
 SaysListed opening place answer (Refused error) = error ≡ Memory
-SaysListed opening place answer (Page text) = ⊥
+SaysListed opening place answer _ = ⊥
 
 -- what a collector that takes the allocation is told of a job
 abbrev pub SaysTake : State → ℕ → ℕ → Said → Type 0
@@ -80,11 +83,27 @@ SaysCollector opening name (Some place) said = SaysHeld opening place name said
 abbrev pub SaysCopy : List ℕ → Said → Type 0
 SaysCopy text said = (said ≡ Page text) ⊎ (said ≡ Refused Memory)
 
+abbrev pub SaysReady : Said → Type 0
+SaysReady said = (said ≡ Noticed Ready) ⊎ (said ≡ Noticed NotReady)
+
+abbrev pub SaysQuit : Said → Type 0
+SaysQuit said = (said ≡ Noticed Quitting) ⊎ (said ≡ Noticed NoLifecycle)
+
+-- some figures, unless memory ran out
+abbrev pub SaysMetrics : Said → Type 0
+SaysMetrics (Metrics text) = Unit {0}
+SaysMetrics (Refused error) = error ≡ Memory
+SaysMetrics _ = ⊥
+
 -- what is told without an event of the body's
 abbrev pub SaysPage : State → ConfigPages → Ask → Said → Type 0
 SaysPage opening pages ask.ScrapeConfigs said = SaysCopy pages.scrape_configs said
 SaysPage opening pages ask.Jobs said = SaysCopy pages.jobs said
 SaysPage opening pages ask.Certificate said = SaysText opening certificate_text said
+SaysPage opening pages ask.Healthy said = said ≡ Noticed Healthy
+SaysPage opening pages ask.Ready said = SaysReady said
+SaysPage opening pages ask.Metrics said = SaysMetrics said
+SaysPage opening pages ask.Quit said = SaysQuit said
 SaysPage opening pages (ask.JobTargets job) said = SaysJob opening job (place_of job pages.names) said
 SaysPage opening pages (ask.CollectorTargets job name) said = SaysCollector opening name (place_of job pages.names) said
 SaysPage opening pages _ said = Unit {0}

@@ -5,17 +5,21 @@ ghost use Rattle.fleet.specs.Fleet.{id_named};
 ghost use Rattle.alloc_desk.specs.Views.{numbered_of, shares_of};
 ghost use Rattle.sd_server.specs.Jobs.{place_of};
 ghost use Rattle.sd_server.specs.Texts.{certificate_text, groups_text, job_text};
-ghost use Rattle.sd_server.specs.Says.{IsEntered, OfSome, Says, SaysCollector, SaysCopy, SaysEvent, SaysHeld, SaysJob, SaysListed, SaysNot, SaysPage, SaysTake, SaysText};
+ghost use Rattle.sd_server.specs.Says.{IsEntered, OfSome, Says, SaysCollector, SaysCopy, SaysEvent, SaysHeld, SaysJob, SaysListed, SaysMetrics, SaysNot, SaysPage, SaysQuit, SaysReady, SaysTake, SaysText};
 
 use crate::certificate_page::certificate_page;
 use crate::config_pages::ConfigPages;
+use crate::figures::{Figures, figures_of};
+use crate::kept::Kept;
+use crate::metrics_page::metrics_page;
+use crate::service_state::ServiceState;
 use alloc_desk::{Desk, DeskName, EnterError, NumberedTarget, Pass, Receipt, Share};
 use allocation_core::{Answer, Event, Refusal};
 use fleet_events::{CollectorId, TargetId};
 use lists::{List, Plain, Text};
 use price_certificate::{Instance, Plan};
 use reach_rules::CollectorName;
-use sd_routes::{Ask, RequestError, Said, event_of, job_page, targets_page};
+use sd_routes::{Ask, Notice, RequestError, Said, event_of, job_page, targets_page};
 use std::alloc::{AllocError, Global};
 use std::sync::ledger::Ledger;
 use std::sync::{Arc, Mutex, Wait};
@@ -28,6 +32,9 @@ pub struct Handler<R, L: Ledger, B: Ledger, N: DeskName> {
     pub desk: Arc<Desk<L, B, N>>,
     pub pass: Arc<Mutex<Pass<L, B, N>>>,
     pub pages: Arc<ConfigPages>,
+    pub state: Arc<ServiceState>,
+    /// How much of the journal is kept, where it is to be kept before an answer is given.
+    pub kept: Option<Arc<Kept>>,
 }
 
 impl<R: Wait + Copy, L: Ledger, B: Ledger, N: DeskName> Handler<R, L, B, N> {
@@ -41,6 +48,8 @@ impl<R: Wait + Copy, L: Ledger, B: Ledger, N: DeskName> Handler<R, L, B, N> {
             desk: Arc::try_clone(&self.desk)?,
             pass: Arc::try_clone(&self.pass)?,
             pages: Arc::try_clone(&self.pages)?,
+            state: Arc::try_clone(&self.state)?,
+            kept: another_kept(&self.kept)?,
         })
     }
 
@@ -71,10 +80,55 @@ impl<R: Wait + Copy, L: Ledger, B: Ledger, N: DeskName> Handler<R, L, B, N> {
             Ask::ScrapeConfigs => copied(&self.pages.scrape_configs),
             Ask::Jobs => copied(&self.pages.jobs),
             Ask::Certificate => self.certificate(),
+            Ask::Healthy => Said::Notice(Notice::Healthy),
+            Ask::Ready => self.ready(),
+            Ask::Metrics => self.metrics(),
+            Ask::Quit => self.quit(),
             Ask::JobTargets(job) => self.job(job.as_str()),
             Ask::CollectorTargets { job, name } => self.collector(job.as_str(), name),
             _ => Said::Refused(RequestError::Memory),
         }
+    }
+
+    fn ready(&self) -> Said
+        ensures { SaysReady result }
+    {
+        if self.state.is_ready() {
+            return Said::Notice(Notice::Ready);
+        }
+        Said::Notice(Notice::NotReady)
+    }
+
+    fn quit(&self) -> Said
+        ensures { SaysQuit result }
+    {
+        if self.state.quit() {
+            return Said::Notice(Notice::Quitting);
+        }
+        Said::Notice(Notice::NoLifecycle)
+    }
+
+    fn metrics(&self) -> Said
+        ensures { SaysMetrics result }
+    {
+        match self.metrics_text() {
+            Ok(text) => Said::Metrics(text),
+            Err(_) => Said::Refused(RequestError::Memory),
+        }
+    }
+
+    fn metrics_text(&self) -> Result<Text, AllocError> {
+        let figures = self.figures()?;
+        metrics_page(self.alloc, &figures, &self.state)
+    }
+
+    fn figures(&self) -> Result<Figures, AllocError> {
+        let mut pass = self.pass.lock(&self.rt);
+        self.desk.read(
+            &self.rt,
+            &mut *pass,
+            |record| figures_of(self.alloc, record),
+        )
     }
 
     fn certificate(&self) -> Said
@@ -195,7 +249,38 @@ impl<R: Wait + Copy, L: Ledger, B: Ledger, N: DeskName> Handler<R, L, B, N> {
             .numbered(&self.rt, self.alloc, &mut *pass, place, held)
     }
 
+    /// The receipt of an event that was entered and is kept.
     fn submitted(&self, event: Event) -> Result<Receipt, RequestError>
+        ensures receipt { IfOk result (IsEntered N.opening event) }
+        ensures not { IfErr result (SaysNot N.opening) }
+    {
+        if self.is_broken() {
+            return Err(RequestError::NotKept);
+        }
+        let receipt = self.entered_now(event)?;
+        if self.keeps(receipt.position) {
+            return Ok(receipt);
+        }
+        Err(RequestError::NotKept)
+    }
+
+    /// Whether what is submitted cannot be kept.
+    fn is_broken(&self) -> bool {
+        match &self.kept {
+            Some(kept) => kept.is_broken(&self.rt),
+            None => false,
+        }
+    }
+
+    /// Waits until the entry at a position is kept, where it is to be, and says whether it is.
+    fn keeps(&self, position: u64) -> bool {
+        match &self.kept {
+            Some(kept) => kept.wait(&self.rt, position),
+            None => true,
+        }
+    }
+
+    fn entered_now(&self, event: Event) -> Result<Receipt, RequestError>
         ensures receipt { IfOk result (IsEntered N.opening event) }
         ensures not { IfErr result (SaysNot N.opening) }
     {
@@ -205,6 +290,13 @@ impl<R: Wait + Copy, L: Ledger, B: Ledger, N: DeskName> Handler<R, L, B, N> {
             Err(EnterError::JournalFull) => Err(RequestError::JournalFull),
             Err(EnterError::Memory) => Err(RequestError::Memory),
         }
+    }
+}
+
+fn another_kept(kept: &Option<Arc<Kept>>) -> Result<Option<Arc<Kept>>, AllocError> {
+    match kept {
+        Some(kept) => Ok(Some(Arc::try_clone(kept)?)),
+        None => Ok(None),
     }
 }
 

@@ -67,6 +67,7 @@ impl<R: Wait + Copy + Drop, L: Ledger, B: Ledger, N: DeskName, I: Drop> Service<
         (asked (request.head_of req).method (uri_path (request.head_of req).uri) (uri_query (request.head_of req).uri)) future };
 
     fn call(&self, req: Request<Incoming<I>>) -> Reply<R, L, B, N, I> {
+        self.handler.state.count_request();
         let (head, body) = req.into_parts();
         match self.begin(&head) {
             Begun::Said(said) => Reply::of(self.handler.alloc, said),

@@ -9,6 +9,8 @@ mod desks;
 #[cfg(test)]
 mod loopback;
 #[cfg(test)]
+mod routes;
+#[cfg(test)]
 mod rows;
 #[cfg(test)]
 mod strangers;

@@ -1,5 +1,5 @@
 //! What bodies spell. Each line of a table is a body, and after ` => ` the event's line or how the body is refused.
-use crate::{Ask, RequestError, event_of};
+use sd_routes::{Ask, RequestError, event_of};
 use std::alloc::{AllocError, Global};
 use std::process::Abort;
 use std::test::Fail;

@@ -1,9 +1,9 @@
 //! How answers are written.
-use crate::{Place, RequestError, Said, answer};
 use bytes::Bytes;
 use fleet_events::{Answer, Refusal};
 use http_body_util::Full;
 use lists::Text;
+use sd_routes::{Notice, Place, RequestError, Said, answer};
 use std::alloc::Global;
 use std::process::Abort;
 use std::test::Fail;
@@ -293,4 +293,28 @@ fn a_list_is_json(rt: HostRuntime) -> Result<(), Fail> {
         "content-type",
         "application/json",
     )
+}
+
+#[test]
+fn metrics_are_a_text_exposition(rt: HostRuntime) -> Result<(), Fail> {
+    let text = Text::from_str(rt.alloc(), "allocd_round 1\n")?;
+    has_header(
+        &rt,
+        rt.alloc(),
+        Said::Metrics(text),
+        "content-type",
+        "text/plain; version=0.0.4; charset=utf-8",
+    )
+}
+
+#[test]
+fn a_service_that_is_not_ready_says_so(rt: HostRuntime) -> Result<(), Fail> {
+    let response = answer(rt.alloc(), Said::Notice(Notice::NotReady))?;
+    assert_eq!(rt; response.status().as_u16(), 503);
+    let told = format!(in rt.alloc(); "{:?}", response.body())?;
+    assert_eq!(rt;
+        told.as_str(),
+        expected(rt.alloc(), "allocd is not ready.\n")?.as_str()
+    );
+    Ok(())
 }

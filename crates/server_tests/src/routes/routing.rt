@@ -1,6 +1,6 @@
 //! What methods and targets ask for. Each line of a table is one request, and after ` = ` what it asks for or how it is refused.
-use crate::{Ask, RequestError, Routes, route};
 use http::{Method, Uri};
+use sd_routes::{Ask, RequestError, Routes, route};
 use std::alloc::{AllocError, Global};
 use std::process::Abort;
 use std::test::Fail;
@@ -42,6 +42,10 @@ fn spelled(alloc: Global, ask: &Ask) -> Result<String, AllocError> {
         Ask::Drain(collector) => format!(in alloc; "drain {collector}"),
         Ask::SetLimits(collector) => format!(in alloc; "limits of {collector}"),
         Ask::Report => String::from_str(alloc, "report"),
+        Ask::Healthy => String::from_str(alloc, "healthy"),
+        Ask::Ready => String::from_str(alloc, "ready"),
+        Ask::Metrics => String::from_str(alloc, "metrics"),
+        Ask::Quit => String::from_str(alloc, "quit"),
     }
 }
 
@@ -54,7 +58,13 @@ POST /collectors = join
 DELETE /collectors/1 = leave 1
 POST /collectors/1/drain = drain 1
 PUT /collectors/1/limits = limits of 1
-POST /reports = report";
+POST /reports = report
+GET /-/healthy = healthy
+GET /livez = healthy
+GET /-/ready = ready
+GET /readyz = ready
+GET /metrics = metrics
+POST /-/quit = quit";
 
 #[test]
 fn each_route_is_found(rt: HostRuntime) -> Result<(), Fail> {
@@ -80,7 +90,12 @@ GET /collectors/1/drain/ = NoRoute
 GET /collectors/1/drains = NoRoute
 GET /scrape_config = NoRoute
 GET /scrape_configs/x = NoRoute
-GET /certificates = NoRoute";
+GET /certificates = NoRoute
+GET /- = NoRoute
+GET /-/ = NoRoute
+GET /re = NoRoute
+GET /ready = NoRoute
+GET /readyz/ = NoRoute";
 
 #[test]
 fn other_paths_are_no_routes(rt: HostRuntime) -> Result<(), Fail> {
@@ -95,7 +110,9 @@ GET /collectors = Method(Collectors)
 GET /collectors/z = Method(Collector)
 GET /collectors/1/drain = Method(Drain)
 POST /collectors/1/limits = Method(Limits)
-OPTIONS /reports = Method(Reports)";
+OPTIONS /reports = Method(Reports)
+GET /-/quit = Method(Quit)
+POST /readyz = Method(Ready)";
 
 #[test]
 fn a_place_has_one_method(rt: HostRuntime) -> Result<(), Fail> {

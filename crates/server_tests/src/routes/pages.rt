@@ -1,10 +1,10 @@
 //! The texts of pages.
-use crate::{job_page, jobs_page, targets_page};
 use alloc_desk::{NumberedTarget, Share};
 use fleet_events::{Event, read_event};
 use lists::{List, Text};
 use reach_rules::CollectorName;
 use sd_documents::read_config;
+use sd_routes::{job_page, jobs_page, targets_page};
 use std::alloc::Global;
 use std::test::Fail;
 

@@ -1,5 +1,0 @@
-//! Requests and their answers.
-mod answers;
-mod events;
-mod pages;
-mod routing;

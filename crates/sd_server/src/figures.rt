@@ -1,0 +1,118 @@
+//! What a desk shows of itself in numbers.
+use alloc_desk::Record;
+use allocation_core::Core;
+use fleet_events::{AllocationNumber, CollectorId, Round};
+use lists::{List, Plain, Text};
+use reach_rules::CollectorName;
+use std::alloc::{AllocError, Global};
+
+/// What a desk shows of itself in numbers, from one state.
+#[derive(Debug, Drop)]
+pub(crate) struct Figures {
+    pub(crate) jobs: Vec<JobFigures>,
+    pub(crate) collectors: Vec<CollectorFigures>,
+    /// The number of the current allocation, 0 before the first.
+    pub(crate) allocation: AllocationNumber,
+    pub(crate) round: Round,
+    /// The samples of all reports that are booked.
+    pub(crate) samples: u128,
+    /// How many entries the journal has.
+    pub(crate) entries: usize,
+}
+
+#[derive(Debug, Drop)]
+pub(crate) struct JobFigures {
+    pub(crate) name: Text,
+    /// How many targets are live.
+    pub(crate) live: u64,
+    /// How many of them somebody holds in the current allocation.
+    pub(crate) covered: u64,
+}
+
+#[derive(Debug, Drop)]
+pub(crate) struct CollectorFigures {
+    pub(crate) name: CollectorName,
+    pub(crate) id: CollectorId,
+    pub(crate) draining: bool,
+    /// How many live targets it holds in the current allocation.
+    pub(crate) held: u64,
+}
+
+/// The numbers of a moment.
+pub(crate) fn figures_of(alloc: Global, record: &Record) -> Result<Figures, AllocError> {
+    let core = record.core();
+    let mut figures = Figures {
+        jobs: empty_jobs(alloc, core)?,
+        collectors: idle_collectors(alloc, core)?,
+        allocation: core.current(),
+        round: core.round(),
+        samples: core.total(),
+        entries: record.journal().len(),
+    };
+    let live = core.fleet().live_marks()?;
+    count_live(core, live.as_slice(), &mut figures);
+    count_covered(core, live.as_slice(), &mut figures);
+    Ok(figures)
+}
+
+fn empty_jobs(alloc: Global, core: &Core) -> Result<Vec<JobFigures>, AllocError> {
+    let mut jobs = Vec::new(alloc);
+    for job in core.fleet().jobs() {
+        let name = job.name.copy()?;
+        jobs.push(JobFigures {
+            name,
+            live: 0,
+            covered: 0,
+        })?;
+    }
+    Ok(jobs)
+}
+
+fn idle_collectors(alloc: Global, core: &Core) -> Result<Vec<CollectorFigures>, AllocError> {
+    let mut collectors = Vec::new(alloc);
+    for collector in core.collectors() {
+        let name = collector.name.copy()?;
+        collectors.push(CollectorFigures {
+            name,
+            id: collector.id,
+            draining: collector.draining,
+            held: 0,
+        })?;
+    }
+    Ok(collectors)
+}
+
+fn count_live(core: &Core, live: &[bool], figures: &mut Figures) {
+    for (target, is_live) in core.fleet().known().iter().zip(live.iter()) {
+        if *is_live {
+            if let Some(job) = figures.jobs.get_mut(target.job) {
+                job.live = job.live.saturating_add(1);
+            }
+        }
+    }
+}
+
+fn count_covered(core: &Core, live: &[bool], figures: &mut Figures) {
+    for (target, collector) in core.allocation() {
+        if live.get(*target as usize) == Some(&true) {
+            count_one(core, *target as usize, *collector, figures);
+        }
+    }
+}
+
+/// A live target is held by a collector.
+fn count_one(core: &Core, target: usize, collector: CollectorId, figures: &mut Figures) {
+    if let Some(known) = core.fleet().known().get(target) {
+        if let Some(job) = figures.jobs.get_mut(known.job) {
+            job.covered = job.covered.saturating_add(1);
+        }
+    }
+    let place = figures
+        .collectors
+        .binary_search_by(|other| other.id.cmp(&collector));
+    if let Ok(place) = place {
+        if let Some(holder) = figures.collectors.get_mut(place) {
+            holder.held = holder.held.saturating_add(1);
+        }
+    }
+}

@@ -1,0 +1,71 @@
+//! How much of a desk's journal a device keeps.
+use std::sync::{Condvar, Mutex, Wait};
+use std::time::{Clock, Duration};
+
+/// How much of a desk's journal a device keeps: who submits waits for his entry, and who writes tells how far he is.
+#[derive(Drop)]
+pub struct Kept {
+    progress: Mutex<Progress>,
+    changed: Condvar,
+}
+
+#[derive(Clone, Copy, Drop)]
+struct Progress {
+    /// How many entries somebody waits for.
+    wanted: u64,
+    /// How many entries the device keeps.
+    kept: u64,
+    /// Whether the device failed. Then no further entry is kept.
+    is_broken: bool,
+}
+
+impl Kept {
+    /// A device that keeps nothing yet.
+    pub fn new() -> Kept {
+        Kept {
+            progress: Mutex::new(Progress {
+                wanted: 0,
+                kept: 0,
+                is_broken: false,
+            }),
+            changed: Condvar::new(),
+        }
+    }
+
+    /// Waits until the entry at this position is kept, and says whether it is: it is not where the device failed before.
+    pub fn wait(&self, rt: &impl Wait, position: u64) -> bool {
+        let mut progress = self.progress.lock(rt);
+        progress.wanted = progress.wanted.max(position.saturating_add(1));
+        self.changed.notify_all();
+        let progress = self.changed.wait_while(rt, progress, |progress| {
+            progress.kept <= position && !progress.is_broken
+        });
+        progress.kept > position
+    }
+
+    /// So many entries from the first on are kept.
+    pub fn keep(&self, rt: &impl Wait, entries: u64) {
+        self.progress.lock(rt).kept = entries;
+        self.changed.notify_all();
+    }
+
+    /// The device failed.
+    pub fn fail(&self, rt: &impl Wait) {
+        self.progress.lock(rt).is_broken = true;
+        self.changed.notify_all();
+    }
+
+    pub fn is_broken(&self, rt: &impl Wait) -> bool {
+        self.progress.lock(rt).is_broken
+    }
+
+    /// Waits so long, or until somebody waits for an entry that is not kept.
+    pub fn wait_for_wish<R: Wait + Clock>(&self, rt: &R, time: Duration) {
+        let (_progress, _) = self.changed.wait_timeout_while(
+            rt,
+            self.progress.lock(rt),
+            time,
+            |progress| progress.wanted <= progress.kept,
+        );
+    }
+}

@@ -1,0 +1,130 @@
+//! The metrics of a service.
+use crate::figures::{CollectorFigures, Figures, JobFigures};
+use crate::service_state::ServiceState;
+use exposition::{Exposition, Kind};
+use lists::Text;
+use std::alloc::{AllocError, Global};
+
+/// The metrics of a service, in the text exposition format.
+pub(crate) fn metrics_page(
+    alloc: Global,
+    figures: &Figures,
+    state: &ServiceState,
+) -> Result<Text, AllocError> {
+    let mut page = Exposition::new(alloc);
+    write_jobs(&mut page, figures.jobs.as_slice())?;
+    write_collectors(&mut page, figures.collectors.as_slice())?;
+    write_allocation(&mut page, figures)?;
+    write_state(&mut page, state)?;
+    match page.into_string() {
+        Some(text) => Ok(Text::from_string(text)),
+        None => Err(AllocError),
+    }
+}
+
+fn write_jobs(page: &mut Exposition, jobs: &[JobFigures]) -> Result<(), AllocError> {
+    let live = "allocd_targets";
+    page.family(
+        live,
+        Kind::Gauge,
+        "Targets that some source of the job lists.",
+    )?;
+    for job in jobs {
+        page.labelled_sample(live, "job", job.name.as_str(), u128::from(job.live))?;
+    }
+    let covered = "allocd_targets_covered";
+    page.family(covered, Kind::Gauge, "Live targets that a collector holds.")?;
+    for job in jobs {
+        page.labelled_sample(covered, "job", job.name.as_str(), u128::from(job.covered))?;
+    }
+    Ok(())
+}
+
+fn write_collectors(
+    page: &mut Exposition,
+    collectors: &[CollectorFigures],
+) -> Result<(), AllocError> {
+    let held = "allocd_collector_targets";
+    page.family(held, Kind::Gauge, "Live targets that the collector holds.")?;
+    for collector in collectors {
+        let name = collector.name.as_str();
+        page.labelled_sample(held, "collector", name, u128::from(collector.held))?;
+    }
+    let draining = "allocd_collector_draining";
+    page.family(
+        draining,
+        Kind::Gauge,
+        "Whether the collector is being emptied.",
+    )?;
+    for collector in collectors {
+        let name = collector.name.as_str();
+        page.labelled_sample(draining, "collector", name, u128::from(collector.draining))?;
+    }
+    Ok(())
+}
+
+fn write_allocation(page: &mut Exposition, figures: &Figures) -> Result<(), AllocError> {
+    let allocation = u128::from(figures.allocation);
+    write_gauge(
+        page,
+        "allocd_allocation",
+        "Number of the current allocation.",
+        allocation,
+    )?;
+    let round = u128::from(figures.round);
+    write_gauge(page, "allocd_round", "Number of the open round.", round)?;
+    let entries = figures.entries as u128;
+    write_gauge(
+        page,
+        "allocd_journal_entries",
+        "Entries of the desk's journal.",
+        entries,
+    )?;
+    let samples = "allocd_samples_booked_total";
+    write_counter(
+        page,
+        samples,
+        "Samples of all booked reports.",
+        figures.samples,
+    )
+}
+
+fn write_state(page: &mut Exposition, state: &ServiceState) -> Result<(), AllocError> {
+    let name = "allocd_refreshes_total";
+    let count = u128::from(state.refreshes());
+    write_counter(page, name, "Refreshes of discovery sources.", count)?;
+    let name = "allocd_refresh_failures_total";
+    let count = u128::from(state.failed_refreshes());
+    write_counter(
+        page,
+        name,
+        "Refreshes of discovery sources that failed.",
+        count,
+    )?;
+    let name = "allocd_reallocations_total";
+    let count = u128::from(state.reallocations());
+    write_counter(page, name, "Searches for an allocation.", count)?;
+    let name = "allocd_http_requests_total";
+    let count = u128::from(state.requests());
+    write_counter(page, name, "Requests.", count)
+}
+
+fn write_gauge(
+    page: &mut Exposition,
+    name: &str,
+    help: &str,
+    value: u128,
+) -> Result<(), AllocError> {
+    page.family(name, Kind::Gauge, help)?;
+    page.sample(name, value)
+}
+
+fn write_counter(
+    page: &mut Exposition,
+    name: &str,
+    help: &str,
+    value: u128,
+) -> Result<(), AllocError> {
+    page.family(name, Kind::Counter, help)?;
+    page.sample(name, value)
+}
