@@ -9,6 +9,8 @@ usage: full_fleet.py replay         the lines for `allocd replay`
                                     each target by the collector that holds it, as `allocd replay` reads
        full_fleet.py installs N     the lines of a fleet of as many targets of one job in 16 zones, where each collector has three
                                     rules and reaches three zones, and of N plans, each refused for its lengths
+       full_fleet.py desk N         the lines of a fleet of as many targets of 16 jobs, and of 16 collectors, which take 64 of each job
+                                    at the most; a certified plan is installed, and each collector takes it
 """
 import json
 import sys
@@ -79,6 +81,21 @@ def installs(count):
         yield {"event": "install", "pairs": [], "item_prices": [], "bin_prices": []}
 
 
+def desk(count):
+    collectors, limit, each = 16, 64, count // JOBS
+    yield {"scrape_configs": [{"job_name": f"job-{j}", "target_limit": limit} for j in range(JOBS)]}
+    for c in range(collectors):
+        yield {"event": "join", "name": f"collector-{c}", "reach": [{"allow": True, "test": "any"}]}
+    for j in range(JOBS):
+        targets = [{"labels": {"zone": f"z{t % 4}"}, "targets": [f"10.{j}.{t // 256}.{t % 256}:9100"]} for t in range(each)]
+        yield {"event": "discover", "job": f"job-{j}", "source": 0, "targets": targets}
+    pairs = [[t, t % each % collectors * JOBS + t // each] for t in range(count)]
+    prices = {"item_prices": [(count + 1) ** 2 + count + 1] * count, "bin_prices": [0] * (collectors * JOBS)}
+    yield {"event": "install", "pairs": pairs, **prices}
+    for c in range(collectors):
+        yield {"event": "take", "collector": c + 1}
+
+
 def certificate(version):
     rows = [[c * JOBS + j for c in range(COLLECTORS)] for j in range(JOBS)]
     reach = [rows[t // EACH] for t in range(TARGETS)]
@@ -93,6 +110,9 @@ def main():
             print(compact(line))
     elif arguments[:1] == ["installs"] and len(arguments) == 2:
         for line in installs(int(arguments[1])):
+            print(compact(line))
+    elif arguments[:1] == ["desk"] and len(arguments) == 2:
+        for line in desk(int(arguments[1])):
             print(compact(line))
     elif arguments == ["certificate"]:
         print(compact(certificate(2)))
