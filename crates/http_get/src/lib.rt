@@ -18,8 +18,6 @@ mod reply;
 mod scrape;
 mod scrape_request;
 mod script;
-#[cfg(test)]
-mod tests;
 mod url;
 
 pub use address::{DEFAULT_PORT, address_of};

@@ -8,8 +8,6 @@ mod laws;
 mod line;
 mod resuming;
 mod run;
-#[cfg(test)]
-mod tests;
 
 pub use laws::{replays_are_runs, replays_are_runs_of_opened, resumes_where_done};
 pub use resuming::{Damage, Resumption, resume};

@@ -1,5 +1,5 @@
 //! Addresses, and how the source at a URL is asked.
-use crate::{address_of, get_of_url};
+use http_get::{address_of, get_of_url};
 use std::alloc::{AllocError, Global};
 use std::test::Fail;
 

@@ -4,7 +4,7 @@ mod limits;
 mod own_limits;
 mod rounds;
 
-use crate::{Ended, replay};
+use replay_lines::{Ended, replay};
 use std::alloc::Global;
 use std::process::Abort;
 

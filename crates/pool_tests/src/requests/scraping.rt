@@ -1,5 +1,5 @@
 //! How targets are asked for their metrics.
-use crate::{Get, get_in};
+use http_get::{Get, get_in};
 use label_sets::{Finished, Labels, Target, finish};
 use lists::{Plain, Text};
 use sd_documents::{Job, read_config};

@@ -1,6 +1,6 @@
 //! What the answers of discovery sources say.
-use crate::{FetchFault, RefreshError, Reply, Scrape, Script, found, get_of, refresh};
 use fleet_events::Event;
+use http_get::{FetchFault, RefreshError, Reply, Scrape, Script, found, get_of, refresh};
 use lists::{List, Text};
 use relabel::{RuleError, Rules, RulesError};
 use sd_documents::{Config, Job, read_config};
