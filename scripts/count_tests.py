@@ -10,6 +10,7 @@ import sys
 from marked import write_part
 
 ROOT = pathlib.Path(__file__).resolve().parent.parent / "crates"
+EDITS = ROOT.parent / "edits"
 
 
 def lines_in(files):
@@ -31,6 +32,7 @@ def row(crate):
         lines_in(crate.glob("proofs/**/*.antt")),
         sum(file.read_text().count("#[test]") for file in code),
         len(list(crate.glob("must-fail/*.edit"))),
+        len(list((EDITS / crate.name).glob("*.edit"))),
         int((crate / "stdout").is_file()),
     ]
 
@@ -38,8 +40,8 @@ def row(crate):
 def table():
     crates = sorted(it for it in ROOT.iterdir() if (it / "src").is_dir())
     rows = [(crate.name, row(crate)) for crate in crates]
-    yield "| Crate | Code | Lines of tests | Definitions | Proofs | Tests | Edits that must fail | Stored runs |\n"
-    yield "|---|---|---|---|---|---|---|---|\n"
+    yield "| Crate | Code | Lines of tests | Definitions | Proofs | Tests | Edits of the gate | Other edits | Stored runs |\n"
+    yield "|---|---|---|---|---|---|---|---|---|\n"
     for name, counts in rows:
         yield f"| `{name}` | {' | '.join(f'{it:,}' for it in counts)} |\n"
     yield f"| all | {' | '.join(f'{sum(it):,}' for it in zip(*(counts for _, counts in rows)))} |\n"
