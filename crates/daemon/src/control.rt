@@ -1,0 +1,50 @@
+//! How the threads of a service end together.
+use std::sync::{Condvar, Mutex, Wait};
+use std::time::{Clock, Duration};
+
+/// Why a desk is to be closed.
+#[derive(Clone, Copy, Debug, PartialEq, Eq)]
+pub enum Ending {
+    /// Its journal is nearly full: another desk is opened over its allocator.
+    Full,
+    /// The service is to end.
+    Quit,
+}
+
+/// Whether a desk is to be closed, and how its threads are told.
+#[derive(Drop)]
+pub(crate) struct Control {
+    ending: Mutex<Option<Ending>>,
+    told: Condvar,
+}
+
+impl Control {
+    pub(crate) fn new() -> Control {
+        Control {
+            ending: Mutex::new(None),
+            told: Condvar::new(),
+        }
+    }
+
+    /// The desk is to be closed for this reason, unless there was one already.
+    pub(crate) fn end(&self, rt: &impl Wait, why: Ending) {
+        let mut ending = self.ending.lock(rt);
+        if ending.is_none() {
+            *ending = Some(why);
+        }
+        self.told.notify_all();
+    }
+
+    /// Why the desk is to be closed, if it is.
+    pub(crate) fn ending(&self, rt: &impl Wait) -> Option<Ending> {
+        *self.ending.lock(rt)
+    }
+
+    /// Waits so long, or until the desk is to be closed, and says whether it is.
+    pub(crate) fn is_ended_within<R: Wait + Clock>(&self, rt: &R, time: Duration) -> bool {
+        let (ending, _) = self
+            .told
+            .wait_timeout_while(rt, self.ending.lock(rt), time, |ending| ending.is_none());
+        ending.is_some()
+    }
+}

@@ -1,0 +1,54 @@
+//! Events that a service enters of itself.
+use crate::control::Ending;
+use crate::logfmt::Logfmt;
+use crate::quoted::Quoted;
+use crate::shared::Shared;
+use alloc_desk::{DeskName, EnterError, Pass};
+use fleet_events::{Answer, Event};
+use log::{info, warn};
+use std::sync::Wait;
+use std::sync::ledger::Ledger;
+use std::time::Clock;
+
+impl<R: Wait + Clock + Eprint + Copy, L: Ledger, B: Ledger, N: DeskName> Shared<R, L, B, N> {
+    /// What an event is answered. None where it was not entered: the desk is closed for that, or
+    /// nothing is entered any more, or it is logged.
+    pub(crate) fn enter(&self, pass: &mut Pass<L, B, N>, event: Event) -> Option<Answer> {
+        if self.is_broken() {
+            return None;
+        }
+        match self.desk.submit(&self.rt, pass, event) {
+            Ok(receipt) => Some(receipt.answer),
+            Err(EnterError::JournalFull) => {
+                self.control.end(&self.rt, Ending::Full);
+                None
+            }
+            Err(EnterError::Memory) => {
+                warn!(Logfmt(self.rt); "no memory for an event");
+                None
+            }
+        }
+    }
+
+    /// Whether what is entered cannot be kept.
+    pub(crate) fn is_broken(&self) -> bool {
+        match &self.kept {
+            Some(kept) => kept.is_broken(&self.rt),
+            None => false,
+        }
+    }
+
+    /// Logs what an event about something was answered: a refusal as a warning.
+    pub(crate) fn log_answer(&self, about: &str, answer: &Answer) {
+        let Ok(line) = answer.line(self.alloc) else {
+            return;
+        };
+        let about = Quoted(about);
+        let answer_line = Quoted(line.as_str());
+        match answer {
+            Answer::Not(_) =>
+                warn!(Logfmt(self.rt); about:% = about, answer:% = answer_line; "refused"),
+            _ => info!(Logfmt(self.rt); about:% = about, answer:% = answer_line; "entered"),
+        }
+    }
+}

@@ -1,0 +1,137 @@
+//! The threads that refresh what discovery sources list.
+use crate::logfmt::Logfmt;
+use crate::quoted::Quoted;
+use crate::shared::Shared;
+use crate::source::Source;
+use alloc_desk::{DeskName, Pass};
+use fleet_events::{Answer, Event};
+use http_get::{RefreshError, Scrape, refresh};
+use lists::List;
+use log::warn;
+use relabel::Rules;
+use sd_documents::Job;
+use std::sync::atomic::Ordering;
+use std::sync::ledger::Ledger;
+use std::sync::{Arc, Wait};
+use std::time::{Clock, Duration, Instant};
+
+/// How long a refresher waits at most before it looks at its sources again, in seconds.
+const LONGEST_WAIT: u64 = 3_600;
+
+/// The sources of a service, and the device that asks them.
+#[derive(Drop)]
+pub(crate) struct Watch<S> {
+    /// The jobs of the configuration.
+    pub(crate) jobs: Arc<List<Job>>,
+    pub(crate) scrape: S,
+    pub(crate) sources: Vec<Source>,
+}
+
+impl<R: Wait + Clock + Eprint + Copy, L: Ledger, B: Ledger, N: DeskName> Shared<R, L, B, N> {
+    /// Refreshes each source when it is due, one after the other, until the desk is to be closed.
+    pub(crate) fn refresh_sources<S: Scrape>(
+        &self,
+        pass: &mut Pass<L, B, N>,
+        watch: &mut Watch<S>,
+    ) {
+        for _ in self.rt.forever() {
+            let wait = self.refresh_due(pass, watch);
+            if self.control.is_ended_within(&self.rt, wait) {
+                return;
+            }
+        }
+    }
+
+    /// Refreshes the sources that are due, and says how long it is until the next one is.
+    fn refresh_due<S: Scrape>(&self, pass: &mut Pass<L, B, N>, watch: &mut Watch<S>) -> Duration {
+        let mut wait = Duration::from_secs(LONGEST_WAIT);
+        for source in &mut watch.sources {
+            let jobs = watch.jobs.as_slice();
+            let left = self.refresh_when_due(pass, jobs, &mut watch.scrape, source);
+            wait = wait.min(left);
+        }
+        wait
+    }
+
+    /// Refreshes a source if it is due, and says how long it is until it is due again.
+    fn refresh_when_due<S: Scrape>(
+        &self,
+        pass: &mut Pass<L, B, N>,
+        jobs: &[Job],
+        scrape: &mut S,
+        source: &mut Source,
+    ) -> Duration {
+        let Ok(now) = Instant::now(&self.rt) else {
+            return Duration::from_secs(LONGEST_WAIT);
+        };
+        let left = source.due_in(now);
+        if !left.is_zero() || self.control.ending(&self.rt).is_some() {
+            return left;
+        }
+        if source.is_untried() {
+            self.state.count_tried();
+        }
+        source.begin(now);
+        if let Some(job) = jobs.get(source.settings.job) {
+            self.refresh(pass, job, scrape, source);
+        }
+        source.due_in(now)
+    }
+
+    fn refresh<S: Scrape>(
+        &self,
+        pass: &mut Pass<L, B, N>,
+        job: &Job,
+        scrape: &mut S,
+        source: &mut Source,
+    ) {
+        self.state.count_refresh();
+        match self.list_of(job, scrape, source) {
+            Ok(event) => self.submit_news(pass, job.name.as_str(), source, event),
+            Err(error) => {
+                self.state.count_failed_refresh();
+                let about = Quoted(job.name.as_str());
+                let number = source.settings.number;
+                warn!(Logfmt(self.rt); about:% = about, source = number; "refresh failed: {error}");
+            }
+        }
+    }
+
+    /// What a source lists now. The job's rules are compiled for each refresh, so that no threads share them.
+    fn list_of<S: Scrape>(
+        &self,
+        job: &Job,
+        scrape: &mut S,
+        source: &Source,
+    ) -> Result<Event, RefreshError> {
+        match Rules::read(self.alloc, job.rules.as_slice()) {
+            Ok(rules) => refresh(self.alloc, job, &rules, source.settings.number, scrape),
+            Err(_) => Err(RefreshError::Memory),
+        }
+    }
+
+    /// Submits a list that is another one than the last.
+    fn submit_news(&self, pass: &mut Pass<L, B, N>, job: &str, source: &mut Source, event: Event) {
+        let Ok(text) = event.to_json(self.alloc) else {
+            warn!(Logfmt(self.rt); "no memory for a list of targets");
+            return;
+        };
+        if !source.is_news(text.as_str()) {
+            return;
+        }
+        self.listed.fetch_add(targets_in(&event), Ordering::SeqCst);
+        if let Some(answer) = self.enter(pass, event) {
+            self.log_answer(job, &answer);
+            let is_refused = matches!(answer, Answer::Not(_));
+            source.submitted(text, is_refused);
+        }
+    }
+}
+
+/// How many targets an event lists.
+fn targets_in(event: &Event) -> u64 {
+    match event {
+        Event::Discover { targets, .. } => targets.len() as u64,
+        _ => 0,
+    }
+}

@@ -1,0 +1,106 @@
+//! What a service is to do.
+use lists::List;
+use relabel::{Rules, RulesError};
+use sd_documents::{Config, Job};
+use sd_server::ConfigPages;
+use service_settings::{Address, Settings};
+use std::alloc::{AllocError, Global};
+use std::sync::Arc;
+use std::time::Duration;
+
+/// What a service is to do: the jobs of its configuration, whose rules can be read, and its settings.
+#[derive(Drop)]
+pub struct Service {
+    pub(crate) jobs: Arc<List<Job>>,
+    /// What requests are told of the configuration.
+    pub(crate) pages: Arc<ConfigPages>,
+    pub(crate) settings: Settings,
+    /// The discovery sources, job by job.
+    pub(crate) sources: Vec<SourceSettings>,
+}
+
+/// A discovery source: entry `number - 1` of the `http_sd_configs` of the job at a place in the configuration.
+#[derive(Clone, Copy, Debug, PartialEq, Eq)]
+pub(crate) struct SourceSettings {
+    pub(crate) job: usize,
+    pub(crate) number: u32,
+    /// How long after a refresh began the next one does.
+    pub(crate) every: Duration,
+}
+
+/// Why there is no service of a configuration.
+#[derive(Debug, Drop)]
+pub enum ServiceError {
+    /// A rule of the job at this place is refused.
+    Rules { job: usize, error: RulesError },
+    Memory,
+}
+
+impl From<AllocError> for ServiceError {
+    fn from(_refused: AllocError) -> ServiceError {
+        ServiceError::Memory
+    }
+}
+
+impl Service {
+    /// A service of a configuration and the settings of the same document.
+    pub fn of(alloc: Global, config: Config, settings: Settings) -> Result<Service, ServiceError> {
+        check_rules(alloc, config.jobs.as_slice())?;
+        let sources = sources_of(alloc, &settings)?;
+        let pages = ConfigPages::of(alloc, &config)?;
+        Ok(Service {
+            jobs: shared(alloc, config.jobs)?,
+            pages: shared(alloc, pages)?,
+            settings,
+            sources,
+        })
+    }
+
+    /// The jobs of the configuration.
+    pub fn jobs(&self) -> &[Job] {
+        self.jobs.as_slice()
+    }
+
+    /// Where the settings say to listen.
+    pub fn listen(&self) -> Address {
+        self.settings.listen
+    }
+
+    /// The path of the journal that the settings name.
+    pub fn journal(&self) -> Option<&str> {
+        match &self.settings.journal {
+            Some(path) => Some(path.as_str()),
+            None => None,
+        }
+    }
+}
+
+fn shared<T: Drop>(alloc: Global, value: T) -> Result<Arc<T>, AllocError> {
+    Ok(Arc::new(alloc, value)?)
+}
+
+/// Whether the rules of each job can be read.
+fn check_rules(alloc: Global, jobs: &[Job]) -> Result<(), ServiceError> {
+    for (job, of) in jobs.iter().enumerate() {
+        if let Err(error) = Rules::read(alloc, of.rules.as_slice()) {
+            return Err(ServiceError::Rules { job, error });
+        }
+    }
+    Ok(())
+}
+
+fn sources_of(alloc: Global, settings: &Settings) -> Result<Vec<SourceSettings>, AllocError> {
+    let mut all = Vec::new(alloc);
+    for (job, every) in settings.refresh.as_slice().iter().enumerate() {
+        let mut number: u32 = 0;
+        for millis in every.as_slice() {
+            number = number.saturating_add(1);
+            all.push(SourceSettings {
+                job,
+                number,
+                every: Duration::from_millis(*millis),
+            })?;
+        }
+    }
+    Ok(all)
+}

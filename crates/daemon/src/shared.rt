@@ -1,0 +1,27 @@
+//! What the threads of a desk share.
+use crate::control::Control;
+use alloc_desk::{Desk, DeskName};
+use sd_server::{Kept, ServiceState};
+use std::alloc::Global;
+use std::sync::Arc;
+use std::sync::atomic::AtomicU64;
+use std::sync::ledger::Ledger;
+use std::time::Duration;
+
+/// What the threads of a desk share.
+#[derive(Drop)]
+pub(crate) struct Shared<R, L: Ledger, B: Ledger, N: DeskName> {
+    pub(crate) rt: R,
+    pub(crate) alloc: Global,
+    pub(crate) desk: Arc<Desk<L, B, N>>,
+    /// How long a round is open.
+    pub(crate) round: Duration,
+    /// How long changes are gathered before a reallocation.
+    pub(crate) settle: Duration,
+    pub(crate) control: Control,
+    pub(crate) state: Arc<ServiceState>,
+    /// How many targets the lists have that were entered.
+    pub(crate) listed: AtomicU64,
+    /// How much of the journal is kept, where there is a file for it.
+    pub(crate) kept: Option<Arc<Kept>>,
+}

@@ -1,0 +1,70 @@
+//! A discovery source as it is watched.
+use crate::service::SourceSettings;
+use lists::Text;
+use std::time::{Duration, Instant};
+
+/// After how many refreshes a list that was refused is submitted again, as long as it is the same.
+const REFUSED_AGAIN: u32 = 32;
+
+/// A discovery source, with what it listed last.
+#[derive(Drop)]
+pub(crate) struct Source {
+    pub(crate) settings: SourceSettings,
+    /// When its last refresh began.
+    began: Option<Instant>,
+    /// The text of the list that was submitted last.
+    last: Option<Text>,
+    /// How many refreshes from now on the same list is not submitted again, where it was refused.
+    refused_for: Option<u32>,
+}
+
+impl Source {
+    pub(crate) fn new(settings: SourceSettings) -> Source {
+        Source {
+            settings,
+            began: None,
+            last: None,
+            refused_for: None,
+        }
+    }
+
+    pub(crate) fn is_untried(&self) -> bool {
+        self.began.is_none()
+    }
+
+    /// How long from now it is due. Nothing where it is due now.
+    pub(crate) fn due_in(&self, now: Instant) -> Duration {
+        match self.began {
+            Some(began) => self
+                .settings
+                .every
+                .saturating_sub(now.saturating_duration_since(began)),
+            None => Duration::from_secs(0),
+        }
+    }
+
+    pub(crate) fn begin(&mut self, now: Instant) {
+        self.began = Some(now);
+    }
+
+    /// Whether a list of this text is to be submitted: it is another one than the last, or its refusal was long ago.
+    pub(crate) fn is_news(&mut self, text: &str) -> bool {
+        match &self.last {
+            Some(last) if last.as_str() == text => match self.refused_for {
+                Some(0) => true,
+                Some(left) => {
+                    self.refused_for = Some(left.saturating_sub(1));
+                    false
+                }
+                None => false,
+            },
+            _ => true,
+        }
+    }
+
+    /// A list of this text was submitted.
+    pub(crate) fn submitted(&mut self, text: Text, is_refused: bool) {
+        self.last = Some(text);
+        self.refused_for = is_refused.then_some(REFUSED_AGAIN);
+    }
+}
