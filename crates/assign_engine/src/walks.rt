@@ -80,8 +80,8 @@ fn next_bin(
     let row = instance.row(item);
     for place in arcs[item]..row.len() {
         let bin = row[place] as usize;
-        if is_exact(instance, matching, item, bin)
-            && is_forward(matching, tables, item, bin)
+        if is_forward(matching, tables, item, bin)
+            && is_exact(instance, matching, item, bin)
             && is_open(instance, matching, turns, bin)
         {
             arcs[item] = place;
