@@ -4,6 +4,7 @@
 //! Contracts say that the allocator at the end is one that events of the machine lead to; of time and order they say nothing.
 #![tactic(auto)]
 
+mod attendance;
 mod beginning;
 mod control;
 mod crew;

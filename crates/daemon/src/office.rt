@@ -40,7 +40,7 @@ impl<S: Scrape + Drop, F: Drop> Office<S, F> {
             listener,
             pages: Arc::try_clone(&service.pages)?,
             state: Arc::new(alloc, state)?,
-            schedule: Schedule::new(Instant::now(rt)?),
+            schedule: Schedule::new(alloc, Instant::now(rt)?),
             watch: Watch {
                 jobs: Arc::try_clone(&service.jobs)?,
                 scrape,

@@ -129,6 +129,10 @@ where
         desk: Arc::try_clone(&handler.desk)?,
         round: Duration::from_millis(service.settings.scrape_interval),
         settle: Duration::from_millis(service.settings.settle),
+        absence: service
+            .settings
+            .collector_timeout
+            .map(Duration::from_millis),
         control: Control::new(),
         state: Arc::try_clone(&handler.state)?,
         listed: AtomicU64::new(0),

@@ -1,10 +1,12 @@
 //! The thread that opens rounds and reallocates.
+use crate::attendance::Attendance;
 use crate::control::Ending;
 use crate::logfmt::Logfmt;
 use crate::shared::Shared;
 use alloc_desk::{DeskName, MOST_ENTRIES, Pass, ReallocateError, Reallocated};
 use fleet_events::{Answer, Event};
 use log::{error, info, warn};
+use std::alloc::Global;
 use std::sync::Wait;
 use std::sync::atomic::Ordering;
 use std::sync::ledger::Ledger;
@@ -23,19 +25,21 @@ const MOST_LISTED: u64 = 1_048_576;
 const TRIES: u32 = 4;
 
 /// When the thread did what.
-#[derive(Clone, Copy, Drop)]
+#[derive(Drop)]
 pub(crate) struct Schedule {
     /// When the open round was opened.
     opened: Instant,
     /// Since when something is changed.
     changed: Option<Instant>,
+    pub(crate) attendance: Attendance,
 }
 
 impl Schedule {
-    pub(crate) fn new(now: Instant) -> Schedule {
+    pub(crate) fn new(alloc: Global, now: Instant) -> Schedule {
         Schedule {
             opened: now,
             changed: None,
+            attendance: Attendance::new(alloc),
         }
     }
 }
@@ -43,6 +47,7 @@ impl Schedule {
 impl<R: Wait + Clock + Eprint + Copy, L: Ledger, B: Ledger, N: DeskName> Shared<R, L, B, N> {
     /// Opens rounds and reallocates, until the desk is to be closed.
     pub(crate) fn keep_schedule(&self, pass: &mut Pass<L, B, N>, schedule: &mut Schedule) {
+        schedule.attendance.begin_desk();
         for _ in self.rt.forever() {
             if self
                 .control
@@ -63,6 +68,7 @@ impl<R: Wait + Clock + Eprint + Copy, L: Ledger, B: Ledger, N: DeskName> Shared<
     fn take_turn(&self, pass: &mut Pass<L, B, N>, schedule: &mut Schedule) {
         if let Ok(now) = Instant::now(&self.rt) {
             self.open_round_when_due(pass, schedule, now);
+            self.dismiss_absent(pass, schedule, now);
             self.reallocate_when_settled(pass, schedule, now);
         }
         self.close_when_full(pass);

@@ -18,6 +18,8 @@ pub(crate) struct Shared<R, L: Ledger, B: Ledger, N: DeskName> {
     pub(crate) round: Duration,
     /// How long changes are gathered before a reallocation.
     pub(crate) settle: Duration,
+    /// After how long a collector that takes nothing is drained, if ever.
+    pub(crate) absence: Option<Duration>,
     pub(crate) control: Control,
     pub(crate) state: Arc<ServiceState>,
     /// How many targets the lists have that were entered.
