@@ -102,14 +102,14 @@ fn writes_lines(rt: HostRuntime) -> Result<(), Fail> {
     let second = Turn {
         number: 1,
         booked: 1,
-        refused: 3,
+        refused: 4,
         samples: u64::MAX,
         end: TurnEnd::Memory,
     };
     let sums = sums_of([first, second].as_slice());
     assert_eq!(rt;
         round_line(rt.alloc(), 7, &sums)?.as_str(),
-        "round 7 booked 3 refused 3 samples 18446744073709551620\n"
+        "round 7 booked 3 refused 4 samples 18446744073709551620\n"
     );
     assert_eq!(rt;
         source_line(rt.alloc(), "a job", 2, "Status")?.as_str(),
