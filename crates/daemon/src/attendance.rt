@@ -1,10 +1,10 @@
 //! Collectors that take nothing for long: they are drained, and then they leave.
-use crate::logfmt::Logfmt;
 use crate::scheduling::Schedule;
 use crate::shared::Shared;
 use alloc_desk::{DeskName, Entry, Pass, Record};
 use fleet_events::{Answer, CollectorId, Event};
 use log::warn;
+use logfmt::Logfmt;
 use std::alloc::{AllocError, Global};
 use std::sync::Wait;
 use std::sync::ledger::Ledger;
@@ -136,10 +136,10 @@ fn due(member: Member, absent: Duration, limit: Duration) -> Option<Event> {
 
 impl<R: Wait + Clock + Eprint + Copy, L: Ledger, B: Ledger, N: DeskName> Shared<R, L, B, N> {
     /// Drains collectors that took nothing for as long as the limit says, and has those leave that took nothing for twice as long.
-    pub(crate) fn dismiss_absent(
+    pub(crate) fn dismiss_absent<C>(
         &self,
         pass: &mut Pass<L, B, N>,
-        schedule: &mut Schedule,
+        schedule: &mut Schedule<C>,
         now: Instant,
     ) {
         let Some(limit) = self.absence else {

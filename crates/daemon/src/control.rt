@@ -5,8 +5,10 @@ use std::time::{Clock, Duration};
 /// Why a desk is to be closed.
 #[derive(Clone, Copy, Debug, PartialEq, Eq)]
 pub enum Ending {
-    /// Its journal is nearly full: another desk is opened over its allocator.
+    /// Its journal or its list of targets is nearly full: another desk is opened over its allocator, which is renewed.
     Full,
+    /// Another configuration is to be followed.
+    Reload,
     /// The service is to end.
     Quit,
 }

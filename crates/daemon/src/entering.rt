@@ -1,11 +1,10 @@
 //! Events that a service enters of itself.
 use crate::control::Ending;
-use crate::logfmt::Logfmt;
-use crate::quoted::Quoted;
 use crate::shared::Shared;
 use alloc_desk::{DeskName, EnterError, Pass};
 use fleet_events::{Answer, Event};
 use log::{info, warn};
+use logfmt::{Logfmt, Quoted};
 use std::sync::Wait;
 use std::sync::ledger::Ledger;
 use std::time::Clock;

@@ -1,9 +1,9 @@
 //! The thread that keeps the journal in a file.
-use crate::logfmt::Logfmt;
 use crate::shared::Shared;
 use alloc_desk::{DeskName, Pass};
 use durable_journal::{append, journal_lines};
 use log::error;
+use logfmt::Logfmt;
 use sd_server::Kept;
 use std::fs::OpenFile;
 use std::io;

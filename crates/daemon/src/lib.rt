@@ -1,27 +1,26 @@
 //! The service: it discovers, allocates, opens rounds and answers over HTTP, on threads that share a desk. Where a desk's journal is
-//! nearly full, another desk is opened over its allocator.
+//! nearly full, another desk is opened over its allocator, which is renewed.
 //!
-//! Contracts say that the allocator at the end is one that events of the machine lead to; of time and order they say nothing.
+//! Contracts say that the allocator at the end is one that events and renewals of the machine lead to; of time and order they say nothing.
 #![tactic(auto)]
 
 mod attendance;
 mod beginning;
+mod configuration;
 mod control;
 mod crew;
 mod entering;
 mod keeping;
-mod logfmt;
 mod office;
 mod one_desk;
-mod quoted;
 mod refreshing;
+mod renewing;
 mod scheduling;
 mod service;
 mod serving;
 mod shared;
 mod source;
 
-pub use logfmt::Logfmt;
-pub use quoted::Quoted;
+pub use configuration::Configuration;
 pub use service::{Service, ServiceError};
 pub use serving::serve;

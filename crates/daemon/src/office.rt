@@ -1,9 +1,12 @@
 //! What a service keeps from one desk to the next.
+use crate::configuration::Configuration;
 use crate::refreshing::Watch;
 use crate::scheduling::Schedule;
 use crate::service::Service;
 use crate::source::Source;
 use http_get::Scrape;
+use log::warn;
+use logfmt::Logfmt;
 use sd_server::{ConfigPages, ServiceState};
 use std::alloc::{AllocError, Global};
 use std::io;
@@ -13,19 +16,19 @@ use std::time::{Clock, Instant};
 
 /// What a service keeps from one desk to the next: where it listens, its sources as they are watched, and what it says of itself.
 #[derive(Drop)]
-pub(crate) struct Office<S, F> {
+pub(crate) struct Office<S, F, C> {
     pub(crate) listener: TcpListener,
     pub(crate) pages: Arc<ConfigPages>,
     pub(crate) state: Arc<ServiceState>,
-    pub(crate) schedule: Schedule,
+    pub(crate) schedule: Schedule<C>,
     pub(crate) watch: Watch<S>,
     /// The journal's file.
     pub(crate) file: Option<F>,
-    /// Whether no desk was opened yet.
+    /// Whether no desk was opened yet for the configuration.
     pub(crate) is_new: bool,
 }
 
-impl<S: Scrape + Drop, F: Drop> Office<S, F> {
+impl<S: Scrape + Drop, F: Drop, C: Configuration + Drop> Office<S, F, C> {
     /// The office of a service that begins.
     pub(crate) fn open<R: Clock>(
         rt: &R,
@@ -34,29 +37,53 @@ impl<S: Scrape + Drop, F: Drop> Office<S, F> {
         listener: TcpListener,
         file: Option<F>,
         scrape: S,
-    ) -> io::Result<Office<S, F>> {
+        configuration: C,
+    ) -> io::Result<Office<S, F, C>> {
         let state = ServiceState::new(service.settings.lifecycle, service.sources.len() as u64);
         Ok(Office {
             listener,
             pages: Arc::try_clone(&service.pages)?,
             state: Arc::new(alloc, state)?,
-            schedule: Schedule::new(alloc, Instant::now(rt)?),
+            schedule: Schedule::new(alloc, Instant::now(rt)?, configuration),
             watch: Watch {
                 jobs: Arc::try_clone(&service.jobs)?,
                 scrape,
-                sources: sources_of(alloc, service)?,
+                sources: sources_of(alloc, service, true)?,
             },
             file,
             is_new: true,
         })
     }
+
+    /// Tells that the configuration that was read last is not followed.
+    pub(crate) fn refuse<R: Clock + Eprint + Copy>(&self, rt: &R) {
+        warn!(Logfmt(*rt); "no memory to follow the configuration");
+        self.state.set_reloaded(false);
+    }
+
+    /// Follows another configuration from the next desk on, with these sources.
+    pub(crate) fn follow(
+        &mut self,
+        service: &Service,
+        sources: Vec<Source>,
+    ) -> Result<(), AllocError> {
+        self.pages = Arc::try_clone(&service.pages)?;
+        self.watch.jobs = Arc::try_clone(&service.jobs)?;
+        self.watch.sources = sources;
+        self.is_new = true;
+        Ok(())
+    }
 }
 
-/// The sources of a service, none tried yet.
-fn sources_of(alloc: Global, service: &Service) -> Result<Vec<Source>, AllocError> {
+/// The sources of a service, none asked yet.
+pub(crate) fn sources_of(
+    alloc: Global,
+    service: &Service,
+    are_awaited: bool,
+) -> Result<Vec<Source>, AllocError> {
     let mut sources = Vec::new(alloc);
     for settings in service.sources.iter() {
-        sources.push(Source::new(*settings))?;
+        sources.push(Source::new(*settings, are_awaited))?;
     }
     Ok(sources)
 }

@@ -3,6 +3,7 @@ ghost use Rattle.std.specs.Prelude.{◌≡◌, IfOk};
 ghost use Rattle.std.specs.Thread.{IsSend};
 ghost use Rattle.daemon.specs.Later.{IsLater};
 
+use crate::configuration::Configuration;
 use crate::control::{Control, Ending};
 use crate::crew::Crew;
 use crate::keeping::Keeper;
@@ -31,11 +32,11 @@ use std::{io, thread};
 pub(crate) const SEATS: u32 = 4;
 
 /// Serves over one desk until it is to be closed, and gives the allocator back.
-pub(crate) fn serve_desk<R, L, B, N, S, F>(
+pub(crate) fn serve_desk<R, L, B, N, S, F, C>(
     rt: &R,
     alloc: Global,
     service: &Service,
-    office: &mut Office<S, F>,
+    office: &mut Office<S, F, C>,
     core: Core,
     calls: Blank,
     samples: Blank,
@@ -57,6 +58,7 @@ where
     N: DeskName + Send + Sync,
     S: Scrape + Send + Drop,
     F: Write + OpenFile + Send,
+    C: Configuration + Send + Drop,
     requires core { (core ≡ N.opening) × (N.seats ≡ SEATS) }
     requires calls { (calls.name ≡ L.name) × (calls.parts ≡ L.parts) × (L.parts ≡ SEATS) }
     requires samples { (samples.name ≡ B.name) × (samples.parts ≡ B.parts) × (B.parts ≡ SEATS) }
@@ -95,11 +97,11 @@ fn kept_of<F>(alloc: Global, file: &Option<F>) -> Result<Option<Arc<Kept>>, Allo
 }
 
 /// Runs the threads of a desk, and says why it is to be closed.
-fn run<R, L, B, N, S, F>(
+fn run<R, L, B, N, S, F, C>(
     rt: &R,
     alloc: Global,
     service: &Service,
-    office: &mut Office<S, F>,
+    office: &mut Office<S, F, C>,
     handler: &Handler<R, L, B, N>,
     crew: &mut Crew<L, B, N>,
 ) -> io::Result<Ending>
@@ -120,6 +122,7 @@ where
     N: DeskName + Send + Sync,
     S: Scrape + Send + Drop,
     F: Write + OpenFile + Send,
+    C: Configuration + Send + Drop,
 {
     let workers = Workers::new(alloc, DEFAULT_WORKERS, Times::DEFAULT)?;
     let here = office.listener.local_addr()?;
@@ -173,9 +176,9 @@ where
     N: DeskName + Send + Sync,
 {
     /// Runs the threads: that which keeps the journal ends once all others have.
-    fn run<S: Scrape + Send + Drop, F: Write + OpenFile + Send>(
+    fn run<S: Scrape + Send + Drop, F: Write + OpenFile + Send, C: Configuration + Send + Drop>(
         &self,
-        office: &mut Office<S, F>,
+        office: &mut Office<S, F, C>,
         workers: &Workers,
         here: SocketAddr,
         handler: &Handler<R, L, B, N>,
@@ -198,7 +201,7 @@ where
             &self.rt,
             || self.keep(keeper, file, &is_last),
             || -> io::Result<()>
-                requires { IsSend L.row × IsSend B.row × IsSend N.row × IsSend S.row }
+                requires { IsSend L.row × IsSend B.row × IsSend N.row × IsSend S.row × IsSend C.row }
             {
                 let served = self.run_others(
                     listener, workers, here, handler, scheduler, schedule, refresher, watch,
@@ -211,21 +214,23 @@ where
     }
 
     /// Runs the threads but that which keeps the journal.
-    fn run_others<S: Scrape + Send + Drop>(
+    fn run_others<S: Scrape + Send + Drop, C: Configuration + Send>(
         &self,
         listener: &TcpListener,
         workers: &Workers,
         here: SocketAddr,
         handler: &Handler<R, L, B, N>,
         scheduler: &mut Pass<L, B, N>,
-        schedule: &mut Schedule,
+        schedule: &mut Schedule<C>,
         refresher: &mut Pass<L, B, N>,
         watch: &mut Watch<S>,
     ) -> io::Result<()> {
         let (served, ((), ())) = thread::join(
             &self.rt,
             || self.serve(listener, workers, handler),
-            || {
+            || -> ((), ())
+                requires { IsSend L.row × IsSend B.row × IsSend N.row × IsSend S.row × IsSend C.row }
+            {
                 thread::join(
                     &self.rt,
                     || self.schedule(workers, here, scheduler, schedule),
@@ -237,12 +242,12 @@ where
     }
 
     /// Opens rounds and reallocates until the desk is to be closed, and then stops the workers.
-    fn schedule(
+    fn schedule<C: Configuration>(
         &self,
         workers: &Workers,
         here: SocketAddr,
         pass: &mut Pass<L, B, N>,
-        schedule: &mut Schedule,
+        schedule: &mut Schedule<C>,
     ) {
         self.keep_schedule(pass, schedule);
         workers.stop(&self.rt, here);
@@ -279,7 +284,6 @@ where
 }
 
 /// Closes the desk of a handler whose threads have ended.
-#[tactic(auto, using(crate::proofs::Laters::legal_is_later))]
 fn closed<R: Drop, L: Ledger, B: Ledger, N: DeskName>(
     handler: Handler<R, L, B, N>,
     mut passes: Vec<Pass<L, B, N>>,

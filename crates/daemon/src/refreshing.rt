@@ -1,6 +1,4 @@
 //! The threads that refresh what discovery sources list.
-use crate::logfmt::Logfmt;
-use crate::quoted::Quoted;
 use crate::shared::Shared;
 use crate::source::Source;
 use alloc_desk::{DeskName, Pass};
@@ -8,6 +6,7 @@ use fleet_events::{Answer, Event};
 use http_get::{RefreshError, Scrape, refresh};
 use lists::List;
 use log::warn;
+use logfmt::{Logfmt, Quoted};
 use relabel::Rules;
 use sd_documents::Job;
 use std::sync::atomic::Ordering;

@@ -1,11 +1,14 @@
-//! The thread that opens rounds and reallocates.
+//! The thread that opens rounds, reallocates, and reads the configuration again.
 use crate::attendance::Attendance;
+use crate::configuration::Configuration;
 use crate::control::Ending;
-use crate::logfmt::Logfmt;
 use crate::shared::Shared;
 use alloc_desk::{DeskName, MOST_ENTRIES, Pass, ReallocateError, Reallocated};
+use fleet::MOST_KNOWN_TARGETS;
 use fleet_events::{Answer, Event};
+use lists::Text;
 use log::{error, info, warn};
+use logfmt::{Logfmt, Quoted};
 use std::alloc::Global;
 use std::sync::Wait;
 use std::sync::atomic::Ordering;
@@ -18,6 +21,9 @@ const LOOK: u64 = 100;
 /// How many entries a journal keeps free for those who are still asking when the desk is closed.
 const SPARE_ENTRIES: usize = 65_536;
 
+/// How many targets may become known while a desk is closed.
+const SPARE_TARGETS: usize = 16_384;
+
 /// How many targets the events of a journal may list before the desk is closed, since the journal keeps them all.
 const MOST_LISTED: u64 = 1_048_576;
 
@@ -26,27 +32,42 @@ const TRIES: u32 = 4;
 
 /// When the thread did what.
 #[derive(Drop)]
-pub(crate) struct Schedule {
+pub(crate) struct Schedule<C> {
     /// When the open round was opened.
     opened: Instant,
     /// Since when something is changed.
     changed: Option<Instant>,
     pub(crate) attendance: Attendance,
+    pub(crate) configuration: C,
+    /// Whether the configuration was read again, and is to be followed.
+    pub(crate) is_read: bool,
 }
 
-impl Schedule {
-    pub(crate) fn new(alloc: Global, now: Instant) -> Schedule {
+impl<C> Schedule<C> {
+    pub(crate) fn new(alloc: Global, now: Instant, configuration: C) -> Schedule<C> {
         Schedule {
             opened: now,
             changed: None,
             attendance: Attendance::new(alloc),
+            configuration,
+            is_read: false,
         }
     }
 }
 
 impl<R: Wait + Clock + Eprint + Copy, L: Ledger, B: Ledger, N: DeskName> Shared<R, L, B, N> {
-    /// Opens rounds and reallocates, until the desk is to be closed.
-    pub(crate) fn keep_schedule(&self, pass: &mut Pass<L, B, N>, schedule: &mut Schedule) {
+    /// Opens rounds, reallocates, and reads the configuration again when it is asked to, until the desk is to be closed.
+    pub(crate) fn keep_schedule<C: Configuration>(
+        &self,
+        pass: &mut Pass<L, B, N>,
+        schedule: &mut Schedule<C>,
+    ) {
+        self.state.reloading().open(&self.rt);
+        self.take_turns(pass, schedule);
+        self.state.reloading().close(&self.rt);
+    }
+
+    fn take_turns<C: Configuration>(&self, pass: &mut Pass<L, B, N>, schedule: &mut Schedule<C>) {
         schedule.attendance.begin_desk();
         for _ in self.rt.forever() {
             if self
@@ -58,14 +79,42 @@ impl<R: Wait + Clock + Eprint + Copy, L: Ledger, B: Ledger, N: DeskName> Shared<
             if self.state.is_quitting() {
                 self.control.end(&self.rt, Ending::Quit);
             }
+            if self.state.reloading().is_asked(&self.rt) {
+                self.reload(schedule);
+            }
             if !self.is_broken() {
                 self.take_turn(pass, schedule);
             }
         }
     }
 
+    /// Reads the configuration again. Where it is faulty, or nothing can be kept, nothing changes.
+    fn reload<C: Configuration>(&self, schedule: &mut Schedule<C>) {
+        if self.is_broken() {
+            self.refuse_reload(line_of(self.alloc, "the journal cannot be written\n"));
+            return;
+        }
+        match schedule.configuration.read() {
+            Ok(()) => {
+                schedule.is_read = true;
+                info!(Logfmt(self.rt); "the configuration is read again");
+                self.state.set_reloaded(true);
+                self.state.reloading().answer(&self.rt, None);
+                self.control.end(&self.rt, Ending::Reload);
+            }
+            Err(fault) => self.refuse_reload(fault),
+        }
+    }
+
+    fn refuse_reload(&self, fault: Text) {
+        let why = Quoted(fault.as_str());
+        warn!(Logfmt(self.rt); why:% = why; "the configuration is not taken");
+        self.state.set_reloaded(false);
+        self.state.reloading().answer(&self.rt, Some(fault));
+    }
+
     /// Does what is due.
-    fn take_turn(&self, pass: &mut Pass<L, B, N>, schedule: &mut Schedule) {
+    fn take_turn<C>(&self, pass: &mut Pass<L, B, N>, schedule: &mut Schedule<C>) {
         if let Ok(now) = Instant::now(&self.rt) {
             self.open_round_when_due(pass, schedule, now);
             self.dismiss_absent(pass, schedule, now);
@@ -74,7 +123,12 @@ impl<R: Wait + Clock + Eprint + Copy, L: Ledger, B: Ledger, N: DeskName> Shared<
         self.close_when_full(pass);
     }
 
-    fn open_round_when_due(&self, pass: &mut Pass<L, B, N>, schedule: &mut Schedule, now: Instant) {
+    fn open_round_when_due<C>(
+        &self,
+        pass: &mut Pass<L, B, N>,
+        schedule: &mut Schedule<C>,
+        now: Instant,
+    ) {
         let open = now.saturating_duration_since(schedule.opened);
         if open < self.round {
             return;
@@ -91,10 +145,10 @@ impl<R: Wait + Clock + Eprint + Copy, L: Ledger, B: Ledger, N: DeskName> Shared<
         }
     }
 
-    fn reallocate_when_settled(
+    fn reallocate_when_settled<C>(
         &self,
         pass: &mut Pass<L, B, N>,
-        schedule: &mut Schedule,
+        schedule: &mut Schedule<C>,
         now: Instant,
     ) {
         if !self.desk.is_changed(&self.rt, pass) {
@@ -129,16 +183,25 @@ impl<R: Wait + Clock + Eprint + Copy, L: Ledger, B: Ledger, N: DeskName> Shared<
         }
     }
 
-    /// Has the desk closed when its journal is nearly full.
+    /// Has the desk closed when its journal is nearly full, or the list of the targets that were ever known.
     fn close_when_full(&self, pass: &mut Pass<L, B, N>) {
-        let entries = self
-            .desk
-            .read(&self.rt, pass, |record| record.journal().len());
+        let (entries, known) = self.desk.read(&self.rt, pass, |record| {
+            (record.journal().len(), record.core().fleet().known().len())
+        });
         if entries + SPARE_ENTRIES >= MOST_ENTRIES
+            || known + SPARE_TARGETS >= MOST_KNOWN_TARGETS
             || self.listed.load(Ordering::SeqCst) >= MOST_LISTED
         {
-            info!(Logfmt(self.rt); entries; "the journal is nearly full, another desk is opened");
+            info!(Logfmt(self.rt); entries, known; "nearly full: the allocator is renewed, and another desk is opened");
             self.control.end(&self.rt, Ending::Full);
         }
+    }
+}
+
+/// A line as a text, which is empty where there is no memory for it.
+fn line_of(alloc: Global, line: &str) -> Text {
+    match Text::from_str(alloc, line) {
+        Ok(text) => text,
+        Err(_) => Text::from_string(String::new(alloc)),
     }
 }

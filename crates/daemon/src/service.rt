@@ -1,5 +1,5 @@
 //! What a service is to do.
-use lists::List;
+use lists::{List, Text};
 use relabel::{Rules, RulesError};
 use sd_documents::{Config, Job};
 use sd_server::ConfigPages;
@@ -11,6 +11,8 @@ use std::time::Duration;
 /// What a service is to do: the jobs of its configuration, whose rules can be read, and its settings.
 #[derive(Drop)]
 pub struct Service {
+    /// The document of the configuration, as one line.
+    line: Text,
     pub(crate) jobs: Arc<List<Job>>,
     /// What requests are told of the configuration.
     pub(crate) pages: Arc<ConfigPages>,
@@ -43,17 +45,28 @@ impl From<AllocError> for ServiceError {
 }
 
 impl Service {
-    /// A service of a configuration and the settings of the same document.
-    pub fn of(alloc: Global, config: Config, settings: Settings) -> Result<Service, ServiceError> {
+    /// A service of the configuration and the settings of a document, which is given as one line.
+    pub fn of(
+        alloc: Global,
+        line: Text,
+        config: Config,
+        settings: Settings,
+    ) -> Result<Service, ServiceError> {
         check_rules(alloc, config.jobs.as_slice())?;
         let sources = sources_of(alloc, &settings)?;
         let pages = ConfigPages::of(alloc, &config)?;
         Ok(Service {
+            line,
             jobs: shared(alloc, config.jobs)?,
             pages: shared(alloc, pages)?,
             settings,
             sources,
         })
+    }
+
+    /// The document of the configuration, as one line.
+    pub fn line(&self) -> &str {
+        self.line.as_str()
     }
 
     /// The jobs of the configuration.
@@ -64,6 +77,11 @@ impl Service {
     /// Where the settings say to listen.
     pub fn listen(&self) -> Address {
         self.settings.listen
+    }
+
+    /// How many old journals are kept, or all.
+    pub fn keep(&self) -> Option<u32> {
+        self.settings.keep
     }
 
     /// The path of the journal that the settings name.

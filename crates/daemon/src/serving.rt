@@ -2,11 +2,14 @@
 ghost use Rattle.std.specs.Prelude.{◌≡◌, IfOk};
 ghost use Rattle.daemon.specs.Later.{IsLater};
 
+use crate::configuration::Configuration;
 use crate::control::Ending;
 use crate::office::Office;
 use crate::one_desk::{SEATS, serve_desk};
+use crate::renewing::continued;
 use crate::service::Service;
 use allocation_core::Core;
+use durable_journal::Archive;
 use http_get::Scrape;
 use scrape_client::HyperScrape;
 use std::alloc::{AllocGlobal, Global};
@@ -21,14 +24,17 @@ use std::sync::ledger::Blank;
 use std::thread::Threads;
 use std::time::{Clock, Duration};
 
-/// Serves over an allocator until the service is to end, and gives the allocator back as it is then.
+/// Serves over an allocator until the service is to end, and gives the allocator back as it is then. The file, where there is one, is
+/// that of its journal, and the archive begins the journals after it. The configuration is read again when a request asks for it.
 #[tactic(auto, using(crate::proofs::Laters::later_trans, crate::proofs::Laters::later_refl))]
-pub fn serve<R, F>(
+pub fn serve<R, F, A, C>(
     rt: &R,
     alloc: Global,
-    service: &Service,
+    service: Service,
     listener: TcpListener,
     file: Option<F>,
+    archive: &mut A,
+    configuration: C,
     core: Core,
 ) -> io::Result<Core>
 where
@@ -44,28 +50,31 @@ where
         + Copy
         + Drop,
     F: Write + OpenFile + Send + Drop,
+    A: Archive<F>,
+    C: Configuration + Send + Drop,
     ensures { IfOk result (IsLater core) }
 {
     let limit = Duration::from_millis(service.settings.fetch_timeout);
     let scrape = HyperScrape::new(*rt, limit);
-    let mut office = Office::open(rt, alloc, service, listener, file, scrape)?;
+    let mut office = Office::open(rt, alloc, &service, listener, file, scrape, configuration)?;
+    let mut service = service;
     let mut core = core;
     for _turn in rt.forever() {
-        let (later, ending) = serve_once(rt, alloc, service, &mut office, core)?;
-        core = later;
+        let (later, ending) = serve_once(rt, alloc, &service, &mut office, core)?;
         if ending == Ending::Quit {
-            return Ok(core);
+            return Ok(later);
         }
+        core = continued(rt, alloc, &mut service, &mut office, archive, later)?;
     }
     unreachable!()
 }
 
 /// Serves over one desk.
-fn serve_once<R, S: Scrape + Send + Drop, F: Write + OpenFile + Send>(
+fn serve_once<R, S, F, C>(
     rt: &R,
     alloc: Global,
     service: &Service,
-    office: &mut Office<S, F>,
+    office: &mut Office<S, F, C>,
     core: Core,
 ) -> io::Result<(Core, Ending)>
 where
@@ -80,10 +89,13 @@ where
         + Send
         + Copy
         + Drop,
+    S: Scrape + Send + Drop,
+    F: Write + OpenFile + Send,
+    C: Configuration + Send + Drop,
     ensures { IfOk result (λ r. IsLater core r.0) }
 {
     let seats = u64::from(SEATS);
-    serve_desk::<R, Brand, Brand, Brand, S, F>(
+    serve_desk::<R, Brand, Brand, Brand, S, F, C>(
         rt,
         alloc,
         service,

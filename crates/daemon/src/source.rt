@@ -10,6 +10,8 @@ const REFUSED_AGAIN: u32 = 32;
 #[derive(Drop)]
 pub(crate) struct Source {
     pub(crate) settings: SourceSettings,
+    /// Whether it was tried, or is not waited for.
+    is_tried: bool,
     /// When its last refresh began.
     began: Option<Instant>,
     /// The text of the list that was submitted last.
@@ -19,9 +21,11 @@ pub(crate) struct Source {
 }
 
 impl Source {
-    pub(crate) fn new(settings: SourceSettings) -> Source {
+    /// A source that is not asked yet. A service that begins is ready once it was tried.
+    pub(crate) fn new(settings: SourceSettings, is_awaited: bool) -> Source {
         Source {
             settings,
+            is_tried: !is_awaited,
             began: None,
             last: None,
             refused_for: None,
@@ -29,7 +33,7 @@ impl Source {
     }
 
     pub(crate) fn is_untried(&self) -> bool {
-        self.began.is_none()
+        !self.is_tried
     }
 
     /// How long from now it is due. Nothing where it is due now.
@@ -44,6 +48,7 @@ impl Source {
     }
 
     pub(crate) fn begin(&mut self, now: Instant) {
+        self.is_tried = true;
         self.began = Some(now);
     }
 

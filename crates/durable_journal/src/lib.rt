@@ -5,14 +5,18 @@
 #![tactic(auto)]
 
 mod appending;
+mod archive;
 mod configuring;
+mod jobs;
 mod laws;
 mod recovering;
 mod renewing;
 mod writing;
 
 pub use appending::append;
+pub use archive::Archive;
 pub use configuring::configuration_line;
+pub use jobs::are_jobs_of;
 pub use laws::{journals_resume, journals_survive, settles};
 pub use recovering::{MOST_JOURNAL, Recovered, recover};
 pub use renewing::renewed_line;

@@ -12,7 +12,7 @@ use Rattle.json_values.proofs.Lists.{no_float}
 use Rattle.json_values.specs.Spelling.{list_data}
 use Rattle.label_sets.specs.Labels.{LabelList}
 use Rattle.sd_documents.specs.declared.config.Job.{Job}
-use Rattle.sd_routes.specs.Pages.{job_data, with_jobs, jobs_data, with_labels, group_data, share_data, with_shares, shares_data}
+use Rattle.sd_routes.specs.Pages.{job_data, with_jobs, jobs_data, with_labels, group_data, share_data, with_shares, shares_data, uncovered_data}
 use Rattle.alloc_desk.specs.declared.view.NumberedTarget.{NumberedTarget}
 use Rattle.alloc_desk.specs.declared.view.Share.{Share}
 
@@ -51,6 +51,9 @@ group_no_float numbered =
 
 pub groups_no_float : (targets : List NumberedTarget) → has_float (list_data group_data targets) ≡ false
 groups_no_float = no_float group_data group_no_float
+
+pub uncovered_no_float : (full unreached : List NumberedTarget) → has_float (uncovered_data full unreached) ≡ false
+uncovered_no_float full unreached = or_from _ _ (groups_no_float full) (or_from _ _ (groups_no_float unreached) refl)
 
 share_no_float : (job : List ℕ) (share : Share) → has_float (share_data job share) ≡ false
 share_no_float job share = or_from _ _ refl (or_from _ _ (groups_no_float share.targets) refl)

@@ -9,7 +9,7 @@ use Rattle.matchit.specs.Seek.{first}
 use Rattle.matchit.proofs.OnLiterals.{matchit_on_literals}
 use Rattle.matchit.proofs.RenameLemmas.{first-rename}
 use Rattle.sd_routes.proofs.Lookup.{Agrees, agrees-prefix, agrees-end, agrees-or, agrees-segment, after}
-use Rattle.sd_routes.specs.Rows.{route_rows}
+use Rattle.sd_routes.specs.Rows.{desk_rows, route_rows}
 use Rattle.sd_routes.specs.Table.{fits, first_fit, table, place_of}
 use Rattle.sd_routes.specs.declared.place.Place.{Place}
 use Rattle.sd_routes.specs.declared.place.Place.TheVariants.{Jobs}
@@ -31,43 +31,49 @@ agrees-text w t h a = agrees-prefix w t (text-from w h) a
 -- ---- the routes by number, as a tree
 
 abbrev orders : Rows
-orders = prepend (codes "drain") (ends (Some 4)) ++ prepend (codes "limits") (ends (Some 5))
+orders = prepend (codes "drain") (ends (Some 5)) ++ prepend (codes "limits") (ends (Some 6))
 
 abbrev of_collector : Rows
-of_collector = prepend (256 ∷ []) (after orders (Some 6))
+of_collector = prepend (256 ∷ []) (after orders (Some 7))
 
 abbrev collectors : Rows
-collectors = prepend (codes "/") of_collector ++ ends (Some 7)
+collectors = prepend (codes "/") of_collector ++ ends (Some 8)
 
-abbrev targets : Rows
-targets = prepend (codes "targets") (ends (Some 8))
+abbrev lists : Rows
+lists = prepend (codes "targets") (ends (Some 9)) ++ prepend (codes "uncovered") (ends (Some 10))
 
 abbrev of_job : Rows
-of_job = prepend (256 ∷ []) (after targets None)
+of_job = prepend (256 ∷ []) (after lists None)
 
 abbrev jobs : Rows
-jobs = prepend (codes "/") of_job ++ ends (Some 9)
+jobs = prepend (codes "/") of_job ++ ends (Some 11)
 
 abbrev with_c : Rows
-with_c = prepend (codes "ertificate") (ends (Some 3)) ++ prepend (codes "ollectors") collectors
+with_c = prepend (codes "ertificate") (ends (Some 4)) ++ prepend (codes "ollectors") collectors
+
+abbrev with_al : Rows
+with_al = prepend (codes "ady") (ends (Some 2)) ++ prepend (codes "load") (ends (Some 3))
 
 abbrev with_qr : Rows
-with_qr = prepend (codes "quit") (ends (Some 1)) ++ prepend (codes "ready") (ends (Some 2))
+with_qr = prepend (codes "quit") (ends (Some 1)) ++ prepend (codes "re") with_al
 
 abbrev with_hqr : Rows
 with_hqr = prepend (codes "healthy") (ends (Some 0)) ++ with_qr
 
 abbrev with_re : Rows
-with_re = prepend (codes "adyz") (ends (Some 12)) ++ prepend (codes "ports") (ends (Some 13))
+with_re = prepend (codes "adyz") (ends (Some 14)) ++ prepend (codes "ports") (ends (Some 15))
+
+abbrev with_s : Rows
+with_s = prepend (codes "scrape_configs") (ends (Some 16)) ++ ends (Some 17)
 
 abbrev with_rs : Rows
-with_rs = prepend (codes "re") with_re ++ prepend (codes "scrape_configs") (ends (Some 14))
+with_rs = prepend (codes "re") with_re ++ with_s
 
 abbrev with_mrs : Rows
-with_mrs = prepend (codes "metrics") (ends (Some 11)) ++ with_rs
+with_mrs = prepend (codes "metrics") (ends (Some 13)) ++ with_rs
 
 abbrev with_lmrs : Rows
-with_lmrs = prepend (codes "livez") (ends (Some 10)) ++ with_mrs
+with_lmrs = prepend (codes "livez") (ends (Some 12)) ++ with_mrs
 
 abbrev with_jlmrs : Rows
 with_jlmrs = prepend (codes "jobs") jobs ++ with_lmrs
@@ -82,48 +88,63 @@ agrees-word : (w : List ℕ) (k : ℕ) → all_bytes w ≡ true → Agrees (prep
 agrees-word w k h = agrees-text w (ends (Some k)) h (agrees-end k)
 
 agrees-orders : Agrees orders
-agrees-orders = agrees-or 100 (codes "rain") (ends (Some 4)) (prepend (codes "limits") (ends (Some 5))) (omega arith) refl (agrees-word (codes "drain") 4 refl) (agrees-word (codes "limits") 5 refl)
+agrees-orders = agrees-or 100 (codes "rain") (ends (Some 5)) (prepend (codes "limits") (ends (Some 6))) (omega arith) refl (agrees-word (codes "drain") 5 refl) (agrees-word (codes "limits") 6 refl)
 
 agrees-collectors : Agrees collectors
 agrees-collectors =
-    agrees-or 47 [] of_collector (ends (Some 7)) (omega arith) refl
-    (agrees-text (codes "/") of_collector refl (agrees-segment orders (Some 6) (omega arith) (agrees-text (codes "/") orders refl agrees-orders)))
-    (agrees-end 7)
+    agrees-or 47 [] of_collector (ends (Some 8)) (omega arith) refl
+    (agrees-text (codes "/") of_collector refl (agrees-segment orders (Some 7) (omega arith) (agrees-text (codes "/") orders refl agrees-orders)))
+    (agrees-end 8)
+
+agrees-lists : Agrees lists
+agrees-lists =
+    agrees-or 116 (codes "argets") (ends (Some 9)) (prepend (codes "uncovered") (ends (Some 10))) (omega arith) refl
+    (agrees-word (codes "targets") 9 refl) (agrees-word (codes "uncovered") 10 refl)
 
 agrees-jobs : Agrees jobs
 agrees-jobs =
-    agrees-or 47 [] of_job (ends (Some 9)) (omega arith) refl
-    (agrees-text (codes "/") of_job refl (agrees-segment targets None (omega arith) (agrees-text (codes "/") targets refl (agrees-word (codes "targets") 8 refl))))
-    (agrees-end 9)
+    agrees-or 47 [] of_job (ends (Some 11)) (omega arith) refl
+    (agrees-text (codes "/") of_job refl (agrees-segment lists None (omega arith) (agrees-text (codes "/") lists refl agrees-lists)))
+    (agrees-end 11)
 
 agrees-with_c : Agrees with_c
 agrees-with_c =
-    agrees-or 101 (codes "rtificate") (ends (Some 3)) (prepend (codes "ollectors") collectors) (omega arith) refl
-    (agrees-word (codes "ertificate") 3 refl) (agrees-text (codes "ollectors") collectors refl agrees-collectors)
+    agrees-or 101 (codes "rtificate") (ends (Some 4)) (prepend (codes "ollectors") collectors) (omega arith) refl
+    (agrees-word (codes "ertificate") 4 refl) (agrees-text (codes "ollectors") collectors refl agrees-collectors)
+
+agrees-with_al : Agrees with_al
+agrees-with_al =
+    agrees-or 97 (codes "dy") (ends (Some 2)) (prepend (codes "load") (ends (Some 3))) (omega arith) refl
+    (agrees-word (codes "ady") 2 refl) (agrees-word (codes "load") 3 refl)
 
 agrees-with_qr : Agrees with_qr
 agrees-with_qr =
-    agrees-or 113 (codes "uit") (ends (Some 1)) (prepend (codes "ready") (ends (Some 2))) (omega arith) refl
-    (agrees-word (codes "quit") 1 refl) (agrees-word (codes "ready") 2 refl)
+    agrees-or 113 (codes "uit") (ends (Some 1)) (prepend (codes "re") with_al) (omega arith) refl
+    (agrees-word (codes "quit") 1 refl) (agrees-text (codes "re") with_al refl agrees-with_al)
 
 agrees-with_hqr : Agrees with_hqr
 agrees-with_hqr = agrees-or 104 (codes "ealthy") (ends (Some 0)) with_qr (omega arith) refl (agrees-word (codes "healthy") 0 refl) agrees-with_qr
 
 agrees-with_re : Agrees with_re
 agrees-with_re =
-    agrees-or 97 (codes "dyz") (ends (Some 12)) (prepend (codes "ports") (ends (Some 13))) (omega arith) refl
-    (agrees-word (codes "adyz") 12 refl) (agrees-word (codes "ports") 13 refl)
+    agrees-or 97 (codes "dyz") (ends (Some 14)) (prepend (codes "ports") (ends (Some 15))) (omega arith) refl
+    (agrees-word (codes "adyz") 14 refl) (agrees-word (codes "ports") 15 refl)
+
+agrees-with_s : Agrees with_s
+agrees-with_s =
+    agrees-or 115 (codes "crape_configs") (ends (Some 16)) (ends (Some 17)) (omega arith) refl
+    (agrees-word (codes "scrape_configs") 16 refl) (agrees-end 17)
 
 agrees-with_rs : Agrees with_rs
 agrees-with_rs =
-    agrees-or 114 (codes "e") with_re (prepend (codes "scrape_configs") (ends (Some 14))) (omega arith) refl
-    (agrees-text (codes "re") with_re refl agrees-with_re) (agrees-word (codes "scrape_configs") 14 refl)
+    agrees-or 114 (codes "e") with_re with_s (omega arith) refl
+    (agrees-text (codes "re") with_re refl agrees-with_re) agrees-with_s
 
 agrees-with_mrs : Agrees with_mrs
-agrees-with_mrs = agrees-or 109 (codes "etrics") (ends (Some 11)) with_rs (omega arith) refl (agrees-word (codes "metrics") 11 refl) agrees-with_rs
+agrees-with_mrs = agrees-or 109 (codes "etrics") (ends (Some 13)) with_rs (omega arith) refl (agrees-word (codes "metrics") 13 refl) agrees-with_rs
 
 agrees-with_lmrs : Agrees with_lmrs
-agrees-with_lmrs = agrees-or 108 (codes "ivez") (ends (Some 10)) with_mrs (omega arith) refl (agrees-word (codes "livez") 10 refl) agrees-with_mrs
+agrees-with_lmrs = agrees-or 108 (codes "ivez") (ends (Some 12)) with_mrs (omega arith) refl (agrees-word (codes "livez") 12 refl) agrees-with_mrs
 
 agrees-with_jlmrs : Agrees with_jlmrs
 agrees-with_jlmrs = agrees-or 106 (codes "obs") jobs with_lmrs (omega arith) refl (agrees-text (codes "jobs") jobs refl agrees-jobs) agrees-with_lmrs
@@ -149,11 +170,11 @@ unfoldable route_at : ℕ → RouteOf Place
 route_at n = get_or (routes_of route_rows) n no_route
 
 rows-tree : route_rows ≡ rename route_at tree
-unfolding matchit_on_literals route_rows route_at
+unfolding matchit_on_literals route_rows desk_rows route_at
 rows-tree = refl
 
 table-tree : table ≡ rename (λ n. (route_at n).value) tree
-unfolding matchit_on_literals route_rows route_at
+unfolding matchit_on_literals route_rows desk_rows route_at
 table-tree = refl
 
 fit-rename : (f : ℕ → Place) (r : Rows) (p : List ℕ) → first_fit (rename f r) p ≡ map_key f (first_fit r p)

@@ -6,7 +6,7 @@ use Rattle.sd_routes.specs.Queries.{collector_in}
 use Rattle.sd_routes.specs.Segments.{second_segment, text_in}
 use Rattle.sd_routes.specs.Table.{place_of, method_of}
 use Rattle.sd_routes.specs.declared.ask.Ask.{Ask}
-use Rattle.sd_routes.specs.declared.ask.Ask.TheVariants.{ScrapeConfigs, Jobs, JobTargets, CollectorTargets, Certificate, Join, Leave, Drain, SetLimits, Report, Healthy, Ready, Metrics, Quit}
+use Rattle.sd_routes.specs.declared.ask.Ask.TheVariants.{Status, ScrapeConfigs, Jobs, JobTargets, CollectorTargets, Uncovered, Certificate, Join, Leave, Drain, SetLimits, Report, Healthy, Ready, Metrics, Reload, Quit}
 use Rattle.sd_routes.specs.declared.place.Place.{Place}
 use Rattle.sd_routes.specs.declared.place.Place.TheVariants as place
 use Rattle.sd_routes.specs.declared.request_error.RequestError.{RequestError}
@@ -36,6 +36,14 @@ targets_by (Some job) collector = targets_of job collector
 abbrev pub job_targets_asked : List ℕ → Option (List ℕ) → Result Ask RequestError
 job_targets_asked path query = targets_by (text_in (second_segment path)) (option_and_then collector_in query)
 
+-- the targets of a job that nobody holds
+abbrev pub uncovered_of : Option (List ℕ) → Result Ask RequestError
+uncovered_of None = Err Shape
+uncovered_of (Some job) = Ok (Uncovered job)
+
+abbrev pub uncovered_asked : List ℕ → Result Ask RequestError
+uncovered_asked path = uncovered_of (text_in (second_segment path))
+
 -- the collector's number in a path
 abbrev pub id_or_shape : Option ℕ → Result ℕ RequestError
 id_or_shape None = Err Shape
@@ -50,9 +58,11 @@ asked_of ask (Err e) = Err e
 
 -- 400 by path or query
 abbrev pub asked_at : Place → List ℕ → Option (List ℕ) → Result Ask RequestError
+asked_at place.Status path query = Ok Status
 asked_at place.ScrapeConfigs path query = Ok ScrapeConfigs
 asked_at place.Jobs path query = Ok Jobs
 asked_at place.JobTargets path query = job_targets_asked path query
+asked_at place.Uncovered path query = uncovered_asked path
 asked_at place.Certificate path query = Ok Certificate
 asked_at place.Collectors path query = Ok Join
 asked_at place.Collector path query = asked_of Leave (id_in path)
@@ -62,6 +72,7 @@ asked_at place.Reports path query = Ok Report
 asked_at place.Healthy path query = Ok Healthy
 asked_at place.Ready path query = Ok Ready
 asked_at place.Metrics path query = Ok Metrics
+asked_at place.Reload path query = Ok Reload
 asked_at place.Quit path query = Ok Quit
 
 -- 404 by path, and then 405

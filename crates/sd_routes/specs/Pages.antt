@@ -40,6 +40,14 @@ group_data numbered =
     object (member (codes "labels") (labels_data numbered.target.labels numbered.number)
     (member (codes "targets") (array (item (string numbered.target.address) no_items)) no_members))
 
+-- ---- uncovered
+
+-- the groups of the targets that some collector reaches, and of those that none does
+abbrev pub uncovered_data : List NumberedTarget → List NumberedTarget → Data
+uncovered_data full unreached =
+    object (member (codes "full") (list_data group_data full)
+    (member (codes "unreached") (list_data group_data unreached) no_members))
+
 -- ---- shares
 
 abbrev pub share_data : List ℕ → Share → Data

@@ -18,7 +18,7 @@ use Rattle.sd_routes.specs.Table.{method_of}
 use Rattle.sd_routes.specs.declared.request_error.RequestError.{RequestError}
 use Rattle.sd_routes.specs.declared.request_error.RequestError.TheVariants.{Method}
 use Rattle.sd_routes.specs.declared.responding.Said.{Said}
-use Rattle.sd_routes.specs.declared.responding.Said.TheVariants.{Answer as Answered, Page, Taken, Refused, Notice as Noticed, Metrics}
+use Rattle.sd_routes.specs.declared.responding.Said.TheVariants.{Answer as Answered, Page, Taken, Refused, Notice as Noticed, Metrics, Document, NotReloaded}
 
 -- a head with this status code and these headers
 pub record IsHead (code : ℕ) (fields : Entries FieldValue) (head : Parts) : Type 0 where
@@ -82,12 +82,16 @@ status_said (Taken allocation round groups) = 200
 status_said (Refused error) = status_of error
 status_said (Noticed notice) = status_noticed notice
 status_said (Metrics text) = 200
+status_said (Document text) = 200
+status_said (NotReloaded fault) = 500
 
 abbrev pub headers_said : Said → Entries FieldValue
 headers_said (Taken allocation round groups) = taken_headers allocation round
 headers_said (Refused error) = refused_headers error
 headers_said (Noticed notice) = media_headers (codes "text/plain; charset=utf-8")
 headers_said (Metrics text) = media_headers (codes "text/plain; version=0.0.4; charset=utf-8")
+headers_said (Document text) = media_headers (codes "text/html; charset=utf-8")
+headers_said (NotReloaded fault) = media_headers (codes "text/plain; charset=utf-8")
 headers_said _ = json_headers
 
 abbrev pub body_said : Said → List ℕ
@@ -97,3 +101,5 @@ body_said (Taken allocation round groups) = groups
 body_said (Refused error) = refused_text (name_of error)
 body_said (Noticed notice) = text_noticed notice
 body_said (Metrics text) = text
+body_said (Document text) = text
+body_said (NotReloaded fault) = fault

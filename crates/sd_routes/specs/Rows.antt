@@ -6,7 +6,7 @@ use Rattle.matchit.specs.Route.{parse_route, Scan}
 use Rattle.matchit.specs.Router.{RouteOf, route_from}
 use Rattle.matchit.specs.declared.error.InsertError.{InsertError}
 use Rattle.sd_routes.specs.declared.place.Place.{Place}
-use Rattle.sd_routes.specs.declared.place.Place.TheVariants.{ScrapeConfigs, Jobs, JobTargets, Certificate, Collectors, Collector, Drain, Limits, Reports, Healthy, Ready, Metrics, Quit}
+use Rattle.sd_routes.specs.declared.place.Place.TheVariants.{Status, ScrapeConfigs, Jobs, JobTargets, Uncovered, Certificate, Collectors, Collector, Drain, Limits, Reports, Healthy, Ready, Metrics, Reload, Quit}
 
 abbrev pub added : Result Scan InsertError → Place → RowsOf (RouteOf Place) → RowsOf (RouteOf Place)
 added (Ok scan) place rows = placed ((route_from scan place).pattern, route_from scan place) rows
@@ -15,20 +15,27 @@ added (Err e) place rows = rows
 abbrev pub with_route : List ℕ → Place → RowsOf (RouteOf Place) → RowsOf (RouteOf Place)
 with_route text place rows = added (parse_route text) place rows
 
-unfoldable pub route_rows : RowsOf (RouteOf Place)
-route_rows =
-    with_route (codes "/-/quit") Quit
-    (with_route (codes "/metrics") Metrics
-    (with_route (codes "/readyz") Ready
-    (with_route (codes "/-/ready") Ready
-    (with_route (codes "/livez") Healthy
-    (with_route (codes "/-/healthy") Healthy
-    (with_route (codes "/reports") Reports
+-- the rows of all but the service itself
+unfoldable pub desk_rows : RowsOf (RouteOf Place)
+desk_rows =
+    with_route (codes "/reports") Reports
     (with_route (codes "/collectors/{id}/limits") Limits
     (with_route (codes "/collectors/{id}/drain") Drain
     (with_route (codes "/collectors/{id}") Collector
     (with_route (codes "/collectors") Collectors
     (with_route (codes "/certificate") Certificate
+    (with_route (codes "/jobs/{job}/uncovered") Uncovered
     (with_route (codes "/jobs/{job}/targets") JobTargets
     (with_route (codes "/jobs") Jobs
-    (with_route (codes "/scrape_configs") ScrapeConfigs []))))))))))))))
+    (with_route (codes "/scrape_configs") ScrapeConfigs
+    (with_route (codes "/") Status []))))))))))
+
+unfoldable pub route_rows : RowsOf (RouteOf Place)
+route_rows =
+    with_route (codes "/-/quit") Quit
+    (with_route (codes "/-/reload") Reload
+    (with_route (codes "/metrics") Metrics
+    (with_route (codes "/readyz") Ready
+    (with_route (codes "/-/ready") Ready
+    (with_route (codes "/livez") Healthy
+    (with_route (codes "/-/healthy") Healthy desk_rows))))))

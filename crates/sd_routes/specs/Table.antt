@@ -1,7 +1,7 @@
 -- The table of paths: which place each names, and the method of the place.
 use Rattle.std.specs.Prelude.{ℕ, ◌==◌, ◌&&◌, ◌++◌, List, [], ◌∷◌, Bool, true, false, not, codes, Option, Some, None, if◌then◌else◌}
 use Rattle.sd_routes.specs.declared.place.Place.{Place}
-use Rattle.sd_routes.specs.declared.place.Place.TheVariants.{ScrapeConfigs, Jobs, JobTargets, Certificate, Collectors, Collector, Drain, Limits, Reports, Healthy, Ready, Metrics, Quit}
+use Rattle.sd_routes.specs.declared.place.Place.TheVariants.{Status, ScrapeConfigs, Jobs, JobTargets, Uncovered, Certificate, Collectors, Collector, Drain, Limits, Reports, Healthy, Ready, Metrics, Reload, Quit}
 
 -- in a route, what stands for one segment of a path. It is no byte
 abbrev pub segment : ℕ
@@ -16,24 +16,29 @@ table =
     (codes "/-/healthy", Healthy)
     ∷ (codes "/-/quit", Quit)
     ∷ (codes "/-/ready", Ready)
+    ∷ (codes "/-/reload", Reload)
     ∷ (codes "/certificate", Certificate)
     ∷ (codes "/collectors/" ++ segment ∷ codes "/drain", Drain)
     ∷ (codes "/collectors/" ++ segment ∷ codes "/limits", Limits)
     ∷ (codes "/collectors/" ++ segment ∷ [], Collector)
     ∷ (codes "/collectors", Collectors)
     ∷ (codes "/jobs/" ++ segment ∷ codes "/targets", JobTargets)
+    ∷ (codes "/jobs/" ++ segment ∷ codes "/uncovered", Uncovered)
     ∷ (codes "/jobs", Jobs)
     ∷ (codes "/livez", Healthy)
     ∷ (codes "/metrics", Metrics)
     ∷ (codes "/readyz", Ready)
     ∷ (codes "/reports", Reports)
     ∷ (codes "/scrape_configs", ScrapeConfigs)
+    ∷ (codes "/", Status)
     ∷ []
 
 abbrev pub method_of : Place → List ℕ
+method_of Status = codes "GET"
 method_of ScrapeConfigs = codes "GET"
 method_of Jobs = codes "GET"
 method_of JobTargets = codes "GET"
+method_of Uncovered = codes "GET"
 method_of Certificate = codes "GET"
 method_of Collectors = codes "POST"
 method_of Collector = codes "DELETE"
@@ -43,6 +48,7 @@ method_of Reports = codes "POST"
 method_of Healthy = codes "GET"
 method_of Ready = codes "GET"
 method_of Metrics = codes "GET"
+method_of Reload = codes "POST"
 method_of Quit = codes "POST"
 
 -- what follows the segment in front, from the next slash on

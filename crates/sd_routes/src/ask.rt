@@ -6,6 +6,8 @@ use reach_rules::CollectorName;
 /// What a request asks for, decoded.
 #[derive(Debug, Drop)]
 pub enum Ask {
+    /// The page for people.
+    Status,
     /// The scrape configs as they were read.
     ScrapeConfigs,
     /// The jobs with their links.
@@ -14,6 +16,8 @@ pub enum Ask {
     JobTargets(Text),
     /// What one collector holds of a job, which takes the current allocation.
     CollectorTargets { job: Text, name: CollectorName },
+    /// The live targets of a job that nobody holds.
+    Uncovered(Text),
     /// The certificate of the last published allocation.
     Certificate,
     /// A collector joins; the body says which.
@@ -30,6 +34,8 @@ pub enum Ask {
     Ready,
     /// What the service counts.
     Metrics,
+    /// The configuration is to be read again.
+    Reload,
     /// The service is to end.
     Quit,
 }

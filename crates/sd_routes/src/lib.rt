@@ -22,7 +22,7 @@ mod segment;
 pub use ask::Ask;
 pub use event::event_of;
 pub use notice::Notice;
-pub use pages::{job_page, jobs_page, targets_page};
+pub use pages::{job_page, jobs_page, targets_page, uncovered_page};
 pub use place::Place;
 pub use request_error::RequestError;
 pub use responding::{Said, answer};

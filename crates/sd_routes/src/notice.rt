@@ -13,9 +13,11 @@ pub enum Notice {
     Ready,
     /// It does not answer for all sources yet, or does not answer for what is submitted.
     NotReady,
+    /// It has read its configuration again.
+    Reloaded,
     /// It ends.
     Quitting,
-    /// It does not end for a request.
+    /// It does not end for a request, and does not read its configuration again for one.
     NoLifecycle,
 }
 
@@ -25,7 +27,8 @@ impl Notice {
         ensures { result ≡ status_noticed self }
     {
         match self {
-            Notice::Healthy | Notice::Ready | Notice::Quitting => StatusCode::OK,
+            Notice::Healthy | Notice::Ready => StatusCode::OK,
+            Notice::Reloaded | Notice::Quitting => StatusCode::OK,
             Notice::NotReady => StatusCode::SERVICE_UNAVAILABLE,
             Notice::NoLifecycle => StatusCode::FORBIDDEN,
         }
@@ -39,6 +42,7 @@ impl Notice {
             Notice::Healthy => "allocd is healthy.\n",
             Notice::Ready => "allocd is ready.\n",
             Notice::NotReady => "allocd is not ready.\n",
+            Notice::Reloaded => "The configuration is read again.\n",
             Notice::Quitting => "allocd ends. Goodbye!\n",
             Notice::NoLifecycle => "The lifecycle API is not enabled.\n",
         }

@@ -3,7 +3,7 @@ ghost use Rattle.std.specs.Prelude.{◌≡◌, IfOk};
 ghost use Rattle.serde_json.specs.View.{view, items_view};
 ghost use Rattle.serde_json.specs.Written.{compact_text};
 ghost use Rattle.json_values.specs.Spelling.{items_data, list_data};
-ghost use Rattle.sd_routes.specs.Pages.{job_data, jobs_data, labels_data, group_data, share_data, shares_data};
+ghost use Rattle.sd_routes.specs.Pages.{job_data, jobs_data, labels_data, group_data, share_data, shares_data, uncovered_data};
 
 use crate::link::{collector_link, job_link};
 use alloc_desk::{NumberedTarget, Share};
@@ -78,6 +78,32 @@ pub fn targets_page(alloc: Global, targets: &[NumberedTarget]) -> Result<Text, A
 {
     let page = groups_value(alloc, targets)?;
     text_of(alloc, &page)
+}
+
+/// The targets of a job that nobody holds: the groups of those that some collector reaches, which are all full, and of those that none
+/// reaches.
+#[tactic(auto, using(crate::proofs::Floats::uncovered_no_float))]
+pub fn uncovered_page(
+    alloc: Global,
+    full: &[NumberedTarget],
+    unreached: &[NumberedTarget],
+) -> Result<Text, AllocError>
+    ensures { IfOk result (λ t. t ≡ compact_text (uncovered_data full.now unreached.now)) }
+{
+    let page = uncovered_value(alloc, full, unreached)?;
+    text_of(alloc, &page)
+}
+
+fn uncovered_value(
+    alloc: Global,
+    full: &[NumberedTarget],
+    unreached: &[NumberedTarget],
+) -> Result<Value, AllocError>
+    ensures { IfOk result (λ v. view v ≡ uncovered_data full.now unreached.now) }
+{
+    let full = groups_value(alloc, full)?;
+    let unreached = groups_value(alloc, unreached)?;
+    json!(in alloc; {"full": full, "unreached": unreached})
 }
 
 fn groups_value(alloc: Global, targets: &[NumberedTarget]) -> Result<Value, AllocError>

@@ -6,9 +6,11 @@ ghost use Rattle.sd_routes.specs.Table.{method_of};
 /// What a path names.
 #[derive(Clone, Copy, Debug, PartialEq, Eq)]
 pub enum Place {
+    Status,
     ScrapeConfigs,
     Jobs,
     JobTargets,
+    Uncovered,
     Certificate,
     Collectors,
     Collector,
@@ -18,6 +20,7 @@ pub enum Place {
     Healthy,
     Ready,
     Metrics,
+    Reload,
     Quit,
 }
 
@@ -28,9 +31,11 @@ impl Place {
         ensures visible { IsTrue (is_visible_text result.now) }
     {
         match self {
-            Place::ScrapeConfigs | Place::Jobs | Place::JobTargets | Place::Certificate => "GET",
+            Place::ScrapeConfigs | Place::Jobs | Place::JobTargets | Place::Uncovered => "GET",
+            Place::Certificate | Place::Status => "GET",
             Place::Healthy | Place::Ready | Place::Metrics => "GET",
-            Place::Collectors | Place::Drain | Place::Reports | Place::Quit => "POST",
+            Place::Collectors | Place::Drain | Place::Reports => "POST",
+            Place::Reload | Place::Quit => "POST",
             Place::Collector => "DELETE",
             Place::Limits => "PUT",
         }

@@ -35,6 +35,10 @@ pub enum Said {
     Notice(Notice),
     /// What the service counts, in the text exposition format of Prometheus, version 0.0.4.
     Metrics(Text),
+    /// A page for people, in HTML.
+    Document(Text),
+    /// Why the configuration that was to be read again is not taken, in a line of plain text.
+    NotReloaded(Text),
 }
 
 /// The response that says it. What is not plain text has the media type `application/json`.
@@ -64,6 +68,15 @@ pub fn answer(alloc: Global, said: Said) -> Result<Response<Full<Bytes>>, AllocE
             let media = "text/plain; version=0.0.4; charset=utf-8";
             let head = head_with(alloc, StatusCode::OK, media)?;
             response(head, text.into_string())
+        }
+        Said::Document(text) => {
+            let head = head_with(alloc, StatusCode::OK, "text/html; charset=utf-8")?;
+            response(head, text.into_string())
+        }
+        Said::NotReloaded(fault) => {
+            let status = StatusCode::INTERNAL_SERVER_ERROR;
+            let head = head_with(alloc, status, "text/plain; charset=utf-8")?;
+            response(head, fault.into_string())
         }
     }
 }

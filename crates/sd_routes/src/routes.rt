@@ -1,6 +1,6 @@
 //! The table of paths.
 ghost use Rattle.std.specs.Prelude.{◌≡◌, IfOk};
-ghost use Rattle.sd_routes.specs.Rows.{route_rows};
+ghost use Rattle.sd_routes.specs.Rows.{desk_rows, route_rows};
 ghost use Rattle.sd_routes.specs.Table.{place_of};
 
 use crate::place::Place;
@@ -49,21 +49,32 @@ impl Routes {
 fn router_of(alloc: Global) -> Result<Router<Place>, InsertError>
     ensures { IfOk result (λ r. r ≡ route_rows) }
 {
+    let mut router = desk_router(alloc)?;
+    router.insert("/-/healthy", Place::Healthy)?;
+    router.insert("/livez", Place::Healthy)?;
+    router.insert("/-/ready", Place::Ready)?;
+    router.insert("/readyz", Place::Ready)?;
+    router.insert("/metrics", Place::Metrics)?;
+    router.insert("/-/reload", Place::Reload)?;
+    router.insert("/-/quit", Place::Quit)?;
+    Ok(router)
+}
+
+// The rows of all but the service itself.
+fn desk_router(alloc: Global) -> Result<Router<Place>, InsertError>
+    ensures { IfOk result (λ r. r ≡ desk_rows) }
+{
     let mut router = Router::new(alloc);
+    router.insert("/", Place::Status)?;
     router.insert("/scrape_configs", Place::ScrapeConfigs)?;
     router.insert("/jobs", Place::Jobs)?;
     router.insert("/jobs/{job}/targets", Place::JobTargets)?;
+    router.insert("/jobs/{job}/uncovered", Place::Uncovered)?;
     router.insert("/certificate", Place::Certificate)?;
     router.insert("/collectors", Place::Collectors)?;
     router.insert("/collectors/{id}", Place::Collector)?;
     router.insert("/collectors/{id}/drain", Place::Drain)?;
     router.insert("/collectors/{id}/limits", Place::Limits)?;
     router.insert("/reports", Place::Reports)?;
-    router.insert("/-/healthy", Place::Healthy)?;
-    router.insert("/livez", Place::Healthy)?;
-    router.insert("/-/ready", Place::Ready)?;
-    router.insert("/readyz", Place::Ready)?;
-    router.insert("/metrics", Place::Metrics)?;
-    router.insert("/-/quit", Place::Quit)?;
     Ok(router)
 }

@@ -1,7 +1,7 @@
 //! What a method and a target ask for.
 ghost use Rattle.http_uri.specs.Uri.{uri_path, uri_query};
 ghost use Rattle.std.specs.Prelude.{option_copied};
-ghost use Rattle.sd_routes.specs.Asks.{asked, asked_at, job_targets_asked, held_asked, id_in, name_said};
+ghost use Rattle.sd_routes.specs.Asks.{asked, asked_at, job_targets_asked, held_asked, uncovered_asked, id_in, name_said};
 ghost use Rattle.sd_routes.specs.Gives.{Gives};
 
 use crate::ask::Ask;
@@ -39,9 +39,11 @@ fn ask_at(alloc: Global, place: Place, path: &str, query: Option<&str>) -> Resul
     ensures { Gives result (asked_at place path.now (option_copied query.entry)) }
 {
     match place {
+        Place::Status => Ok(Ask::Status),
         Place::ScrapeConfigs => Ok(Ask::ScrapeConfigs),
         Place::Jobs => Ok(Ask::Jobs),
         Place::JobTargets => job_targets(alloc, path, query),
+        Place::Uncovered => uncovered(alloc, path),
         Place::Certificate => Ok(Ask::Certificate),
         Place::Collectors => Ok(Ask::Join),
         Place::Collector => Ok(Ask::Leave(collector_id(path)?)),
@@ -51,6 +53,7 @@ fn ask_at(alloc: Global, place: Place, path: &str, query: Option<&str>) -> Resul
         Place::Healthy => Ok(Ask::Healthy),
         Place::Ready => Ok(Ask::Ready),
         Place::Metrics => Ok(Ask::Metrics),
+        Place::Reload => Ok(Ask::Reload),
         Place::Quit => Ok(Ask::Quit),
     }
 }
@@ -63,6 +66,13 @@ fn job_targets(alloc: Global, path: &str, query: Option<&str>) -> Result<Ask, Re
         None => Ok(Ask::JobTargets(job)),
         Some(name) => held(alloc, job, &name),
     }
+}
+
+fn uncovered(alloc: Global, path: &str) -> Result<Ask, RequestError>
+    ensures { Gives result (uncovered_asked path.now) }
+{
+    let job = decoded(alloc, second_segment(path))?.ok_or(RequestError::Shape)?;
+    Ok(Ask::Uncovered(job))
 }
 
 fn held(alloc: Global, job: Text, name: &Text) -> Result<Ask, RequestError>

@@ -11,14 +11,17 @@ use Rattle.alloc_desk.specs.Counts.{Counts}
 use Rattle.alloc_desk.specs.History.{History}
 use Rattle.alloc_desk.specs.Reached.{Reached, IsReceipt, IsFull}
 use Rattle.alloc_desk.specs.declared.receipt.Receipt.{Receipt}
+use Rattle.alloc_desk.specs.declared.view.NumberedTarget.{NumberedTarget}
+use Rattle.serde_json.specs.Written.{compact_text}
 use Rattle.sd_routes.specs.Events.{event_said}
+use Rattle.sd_routes.specs.Pages.{uncovered_data}
 use Rattle.sd_routes.specs.declared.ask.Ask.{Ask}
 use Rattle.sd_routes.specs.declared.ask.Ask.TheVariants as ask
-use Rattle.sd_routes.specs.declared.notice.Notice.TheVariants.{Healthy, Ready, NotReady, Quitting, NoLifecycle}
+use Rattle.sd_routes.specs.declared.notice.Notice.TheVariants.{Healthy, Ready, NotReady, Reloaded, Quitting, NoLifecycle}
 use Rattle.sd_routes.specs.declared.request_error.RequestError.{RequestError}
 use Rattle.sd_routes.specs.declared.request_error.RequestError.TheVariants.{JournalFull, NotKept, Memory}
 use Rattle.sd_routes.specs.declared.responding.Said.{Said}
-use Rattle.sd_routes.specs.declared.responding.Said.TheVariants.{Answer as Answered, Page, Taken, Refused, Notice as Noticed, Metrics}
+use Rattle.sd_routes.specs.declared.responding.Said.TheVariants.{Answer as Answered, Page, Taken, Refused, Notice as Noticed, Metrics, Document, NotReloaded}
 use Rattle.sd_server.specs.Jobs.{place_of}
 use Rattle.sd_server.specs.Texts.{certificate_text, groups_text, job_text}
 use Rattle.sd_server.specs.declared.config_pages.ConfigPages.{ConfigPages}
@@ -86,6 +89,13 @@ SaysCopy text said = (said ≡ Page text) ⊎ (said ≡ Refused Memory)
 abbrev pub SaysReady : Said → Type 0
 SaysReady said = (said ≡ Noticed Ready) ⊎ (said ≡ Noticed NotReady)
 
+-- the configuration is taken, or why it is not, unless memory ran out
+abbrev pub SaysReload : Said → Type 0
+SaysReload (Noticed notice) = (notice ≡ Reloaded) ⊎ (notice ≡ NoLifecycle)
+SaysReload (NotReloaded fault) = Unit {0}
+SaysReload (Refused error) = error ≡ Memory
+SaysReload _ = ⊥
+
 abbrev pub SaysQuit : Said → Type 0
 SaysQuit said = (said ≡ Noticed Quitting) ⊎ (said ≡ Noticed NoLifecycle)
 
@@ -95,6 +105,26 @@ SaysMetrics (Metrics text) = Unit {0}
 SaysMetrics (Refused error) = error ≡ Memory
 SaysMetrics _ = ⊥
 
+-- the page for people, unless memory ran out
+abbrev pub SaysDocument : Said → Type 0
+SaysDocument (Document text) = Unit {0}
+SaysDocument (Refused error) = error ≡ Memory
+SaysDocument _ = ⊥
+
+-- the page of some targets that nobody holds: those that some collector reaches, and those that none does
+abbrev pub IsUncoveredText : List ℕ → Type 0
+IsUncoveredText text = (full : List NumberedTarget) × (unreached : List NumberedTarget) × (text ≡ compact_text (uncovered_data full unreached))
+
+abbrev pub SaysUncoveredText : Said → Type 0
+SaysUncoveredText (Page page) = IsUncoveredText page
+SaysUncoveredText (Refused error) = error ≡ Memory
+SaysUncoveredText _ = ⊥
+
+-- which targets of a job nobody holds, where there is such a job
+abbrev pub SaysUncovered : Option ℕ → Said → Type 0
+SaysUncovered None said = said ≡ Answered (Not UnknownJob)
+SaysUncovered (Some place) said = SaysUncoveredText said
+
 -- what is told without an event of the body's
 abbrev pub SaysPage : State → ConfigPages → Ask → Said → Type 0
 SaysPage opening pages ask.ScrapeConfigs said = SaysCopy pages.scrape_configs said
@@ -103,7 +133,10 @@ SaysPage opening pages ask.Certificate said = SaysText opening certificate_text 
 SaysPage opening pages ask.Healthy said = said ≡ Noticed Healthy
 SaysPage opening pages ask.Ready said = SaysReady said
 SaysPage opening pages ask.Metrics said = SaysMetrics said
+SaysPage opening pages ask.Reload said = SaysReload said
 SaysPage opening pages ask.Quit said = SaysQuit said
+SaysPage opening pages ask.Status said = SaysDocument said
+SaysPage opening pages (ask.Uncovered job) said = SaysUncovered (place_of job pages.names) said
 SaysPage opening pages (ask.JobTargets job) said = SaysJob opening job (place_of job pages.names) said
 SaysPage opening pages (ask.CollectorTargets job name) said = SaysCollector opening name (place_of job pages.names) said
 SaysPage opening pages _ said = Unit {0}

@@ -1,6 +1,7 @@
 //! What a desk shows of itself in numbers.
 use alloc_desk::Record;
 use allocation_core::Core;
+use fleet::{Collector, JobSpec};
 use fleet_events::{AllocationNumber, CollectorId, Round};
 use lists::{List, Plain, Text};
 use reach_rules::CollectorName;
@@ -36,6 +37,8 @@ pub(crate) struct CollectorFigures {
     pub(crate) draining: bool,
     /// How many live targets it holds in the current allocation.
     pub(crate) held: u64,
+    /// How many it may hold of all jobs together, where each job has a limit for it.
+    pub(crate) room: Option<u64>,
 }
 
 /// The numbers of a moment.
@@ -77,9 +80,22 @@ fn idle_collectors(alloc: Global, core: &Core) -> Result<Vec<CollectorFigures>, 
             id: collector.id,
             draining: collector.draining,
             held: 0,
+            room: room_of(core.fleet().jobs(), collector),
         })?;
     }
     Ok(collectors)
+}
+
+/// How many targets a collector may hold of all jobs together, where each job has a limit for it.
+fn room_of(jobs: &[JobSpec], collector: &Collector) -> Option<u64> {
+    let mut room: u64 = 0;
+    for job in jobs {
+        match collector.share_limit(job) {
+            0 => return None,
+            limit => room = room.saturating_add(u64::from(limit)),
+        }
+    }
+    Some(room)
 }
 
 fn count_live(core: &Core, live: &[bool], figures: &mut Figures) {

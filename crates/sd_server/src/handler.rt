@@ -5,7 +5,7 @@ ghost use Rattle.fleet.specs.Fleet.{id_named};
 ghost use Rattle.alloc_desk.specs.Views.{numbered_of, shares_of};
 ghost use Rattle.sd_server.specs.Jobs.{place_of};
 ghost use Rattle.sd_server.specs.Texts.{certificate_text, groups_text, job_text};
-ghost use Rattle.sd_server.specs.Says.{IsEntered, OfSome, Says, SaysCollector, SaysCopy, SaysEvent, SaysHeld, SaysJob, SaysListed, SaysMetrics, SaysNot, SaysPage, SaysQuit, SaysReady, SaysTake, SaysText};
+ghost use Rattle.sd_server.specs.Says.{IsEntered, IsUncoveredText, OfSome, Says, SaysCollector, SaysCopy, SaysDocument, SaysEvent, SaysHeld, SaysJob, SaysListed, SaysMetrics, SaysNot, SaysPage, SaysQuit, SaysReady, SaysReload, SaysTake, SaysText, SaysUncovered};
 
 use crate::certificate_page::certificate_page;
 use crate::config_pages::ConfigPages;
@@ -13,13 +13,17 @@ use crate::figures::{Figures, figures_of};
 use crate::kept::Kept;
 use crate::metrics_page::metrics_page;
 use crate::service_state::ServiceState;
+use crate::status_page::status_page;
+use crate::uncovered::{Uncovered, uncovered_of};
 use alloc_desk::{Desk, DeskName, EnterError, NumberedTarget, Pass, Receipt, Share};
 use allocation_core::{Answer, Event, Refusal};
 use fleet_events::{CollectorId, TargetId};
 use lists::{List, Plain, Text};
 use price_certificate::{Instance, Plan};
 use reach_rules::CollectorName;
-use sd_routes::{Ask, Notice, RequestError, Said, event_of, job_page, targets_page};
+use sd_routes::{
+    Ask, Notice, RequestError, Said, event_of, job_page, targets_page, uncovered_page,
+};
 use std::alloc::{AllocError, Global};
 use std::sync::ledger::Ledger;
 use std::sync::{Arc, Mutex, Wait};
@@ -83,7 +87,10 @@ impl<R: Wait + Copy, L: Ledger, B: Ledger, N: DeskName> Handler<R, L, B, N> {
             Ask::Healthy => Said::Notice(Notice::Healthy),
             Ask::Ready => self.ready(),
             Ask::Metrics => self.metrics(),
+            Ask::Reload => self.reload(),
             Ask::Quit => self.quit(),
+            Ask::Status => self.status(),
+            Ask::Uncovered(job) => self.uncovered(job.as_str()),
             Ask::JobTargets(job) => self.job(job.as_str()),
             Ask::CollectorTargets { job, name } => self.collector(job.as_str(), name),
             _ => Said::Refused(RequestError::Memory),
@@ -97,6 +104,19 @@ impl<R: Wait + Copy, L: Ledger, B: Ledger, N: DeskName> Handler<R, L, B, N> {
             return Said::Notice(Notice::Ready);
         }
         Said::Notice(Notice::NotReady)
+    }
+
+    fn reload(&self) -> Said
+        ensures { SaysReload result }
+    {
+        if !self.state.has_lifecycle() {
+            return Said::Notice(Notice::NoLifecycle);
+        }
+        match self.state.reloading().ask(&self.rt, self.alloc) {
+            Ok(Some(fault)) => Said::NotReloaded(fault),
+            Ok(None) => Said::Notice(Notice::Reloaded),
+            Err(_) => Said::Refused(RequestError::Memory),
+        }
     }
 
     fn quit(&self) -> Said
@@ -120,6 +140,20 @@ impl<R: Wait + Copy, L: Ledger, B: Ledger, N: DeskName> Handler<R, L, B, N> {
     fn metrics_text(&self) -> Result<Text, AllocError> {
         let figures = self.figures()?;
         metrics_page(self.alloc, &figures, &self.state)
+    }
+
+    fn status(&self) -> Said
+        ensures { SaysDocument result }
+    {
+        match self.status_text() {
+            Ok(text) => Said::Document(text),
+            Err(_) => Said::Refused(RequestError::Memory),
+        }
+    }
+
+    fn status_text(&self) -> Result<Text, AllocError> {
+        let figures = self.figures()?;
+        status_page(self.alloc, &figures, &self.state)
     }
 
     fn figures(&self) -> Result<Figures, AllocError> {
@@ -178,6 +212,36 @@ impl<R: Wait + Copy, L: Ledger, B: Ledger, N: DeskName> Handler<R, L, B, N> {
     {
         let mut pass = self.pass.lock(&self.rt);
         self.desk.shares(&self.rt, self.alloc, &mut *pass, place)
+    }
+
+    fn uncovered(&self, job: &str) -> Said
+        ensures { SaysUncovered (place_of job.now (arc_value self.now.pages).names) result }
+    {
+        let Some(place) = self.pages.place(job) else {
+            return Said::Answer(Answer::Not(Refusal::UnknownJob));
+        };
+        match self.uncovered_text(place) {
+            Ok(text) => Said::Page(text),
+            Err(_) => Said::Refused(RequestError::Memory),
+        }
+    }
+
+    fn uncovered_text(&self, place: usize) -> Result<Text, AllocError>
+        ensures { IfOk result IsUncoveredText }
+    {
+        let uncovered = self.uncovered_at(place)?;
+        let full = self.numbered(place, uncovered.full.as_slice())?;
+        let unreached = self.numbered(place, uncovered.unreached.as_slice())?;
+        uncovered_page(self.alloc, full.as_slice(), unreached.as_slice())
+    }
+
+    fn uncovered_at(&self, place: usize) -> Result<Uncovered, AllocError> {
+        let mut pass = self.pass.lock(&self.rt);
+        self.desk.read(
+            &self.rt,
+            &mut *pass,
+            |record| uncovered_of(self.alloc, record.core(), place),
+        )
     }
 
     fn collector(&self, job: &str, name: &CollectorName) -> Said

@@ -37,6 +37,12 @@ fn write_jobs(page: &mut Exposition, jobs: &[JobFigures]) -> Result<(), AllocErr
     for job in jobs {
         page.labelled_sample(covered, "job", job.name.as_str(), u128::from(job.covered))?;
     }
+    let uncovered = "allocd_targets_uncovered";
+    page.family(uncovered, Kind::Gauge, "Live targets that nobody holds.")?;
+    for job in jobs {
+        let count = job.live.saturating_sub(job.covered);
+        page.labelled_sample(uncovered, "job", job.name.as_str(), u128::from(count))?;
+    }
     Ok(())
 }
 
@@ -104,6 +110,13 @@ fn write_state(page: &mut Exposition, state: &ServiceState) -> Result<(), AllocE
     let name = "allocd_reallocations_total";
     let count = u128::from(state.reallocations());
     write_counter(page, name, "Searches for an allocation.", count)?;
+    let followed = u128::from(state.is_reloaded());
+    write_gauge(
+        page,
+        "allocd_config_last_reload_successful",
+        "Whether the configuration that was read last is followed.",
+        followed,
+    )?;
     let name = "allocd_http_requests_total";
     let count = u128::from(state.requests());
     write_counter(page, name, "Requests.", count)

@@ -1,4 +1,5 @@
 //! What a service says of itself beside its desk.
+use crate::reloading::Reloading;
 use std::sync::atomic::{AtomicBool, AtomicU64, Ordering};
 
 /// What a service says of itself beside its desk. The threads of the service write it, and requests read it.
@@ -7,6 +8,9 @@ pub struct ServiceState {
     /// Whether a request may end the service.
     has_lifecycle: bool,
     is_quitting: AtomicBool,
+    reloading: Reloading,
+    /// Whether the configuration that was read last is the one that is followed.
+    is_reloaded: AtomicBool,
     /// Whether what is submitted cannot be kept.
     is_broken: AtomicBool,
     untried: AtomicU64,
@@ -22,6 +26,8 @@ impl ServiceState {
         ServiceState {
             has_lifecycle,
             is_quitting: AtomicBool::new(false),
+            reloading: Reloading::new(),
+            is_reloaded: AtomicBool::new(true),
             is_broken: AtomicBool::new(false),
             untried: AtomicU64::new(sources),
             refreshes: AtomicU64::new(0),
@@ -42,6 +48,26 @@ impl ServiceState {
             self.is_quitting.store(true, Ordering::SeqCst);
         }
         self.has_lifecycle
+    }
+
+    /// Whether a request may end the service, or have it read its configuration again.
+    pub(crate) fn has_lifecycle(&self) -> bool {
+        self.has_lifecycle
+    }
+
+    /// How requests have the configuration read again.
+    pub fn reloading(&self) -> &Reloading {
+        &self.reloading
+    }
+
+    /// The configuration was read again, and is followed or not.
+    pub fn set_reloaded(&self, is_followed: bool) {
+        self.is_reloaded.store(is_followed, Ordering::SeqCst);
+    }
+
+    /// Whether the configuration that was read last is the one that is followed.
+    pub(crate) fn is_reloaded(&self) -> bool {
+        self.is_reloaded.load(Ordering::SeqCst)
     }
 
     pub fn is_quitting(&self) -> bool {

@@ -1,7 +1,7 @@
 //! The rows: requests, and how their answers begin and end.
 use crate::client::Row;
 
-pub(crate) const ROWS: [Row; 12] = [
+pub(crate) const ROWS: [Row; 16] = [
     Row {
         request: "GET /x HTTP/1.1\r\nhost: h\r\n\r\n",
         begins: "HTTP/1.1 404 Not Found\r\n",
@@ -61,5 +61,25 @@ pub(crate) const ROWS: [Row; 12] = [
         request: "GET /certificate HTTP/1.1\r\nhost: h\r\n\r\n",
         begins: "HTTP/1.1 200 OK\r\n",
         ends: "\"reach\":[],\"version\":2}",
+    },
+    Row {
+        request: "GET /jobs/j/uncovered HTTP/1.1\r\nhost: h\r\n\r\n",
+        begins: "HTTP/1.1 200 OK\r\ncontent-type: application/json\r\n",
+        ends: "\r\n\r\n{\"full\":[],\"unreached\":[]}",
+    },
+    Row {
+        request: "GET /jobs/k/uncovered HTTP/1.1\r\nhost: h\r\n\r\n",
+        begins: "HTTP/1.1 404 Not Found\r\n",
+        ends: "\r\n\r\n{\"refused\":\"UnknownJob\"}",
+    },
+    Row {
+        request: "GET / HTTP/1.1\r\nhost: h\r\n\r\n",
+        begins: "HTTP/1.1 200 OK\r\ncontent-type: text/html; charset=utf-8\r\n",
+        ends: "</body>\n</html>\n",
+    },
+    Row {
+        request: "POST /-/reload HTTP/1.1\r\nhost: h\r\ncontent-length: 0\r\n\r\n",
+        begins: "HTTP/1.1 403 Forbidden\r\ncontent-type: text/plain; charset=utf-8\r\n",
+        ends: "\r\n\r\nThe lifecycle API is not enabled.\n",
     },
 ];

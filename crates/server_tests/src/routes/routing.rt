@@ -30,12 +30,14 @@ fn told(alloc: Global, routes: &Routes, method: &str, target: &str) -> Result<St
 
 fn spelled(alloc: Global, ask: &Ask) -> Result<String, AllocError> {
     match ask {
+        Ask::Status => String::from_str(alloc, "status"),
         Ask::ScrapeConfigs => String::from_str(alloc, "scrape configs"),
         Ask::Jobs => String::from_str(alloc, "jobs"),
         Ask::JobTargets(job) => format!(in alloc; "targets of <{}>", job.as_str()),
         Ask::CollectorTargets { job, name } => {
             format!(in alloc; "targets of <{}> at <{}>", job.as_str(), name.as_str())
         }
+        Ask::Uncovered(job) => format!(in alloc; "uncovered of <{}>", job.as_str()),
         Ask::Certificate => String::from_str(alloc, "certificate"),
         Ask::Join => String::from_str(alloc, "join"),
         Ask::Leave(collector) => format!(in alloc; "leave {collector}"),
@@ -45,14 +47,17 @@ fn spelled(alloc: Global, ask: &Ask) -> Result<String, AllocError> {
         Ask::Healthy => String::from_str(alloc, "healthy"),
         Ask::Ready => String::from_str(alloc, "ready"),
         Ask::Metrics => String::from_str(alloc, "metrics"),
+        Ask::Reload => String::from_str(alloc, "reload"),
         Ask::Quit => String::from_str(alloc, "quit"),
     }
 }
 
-const ROUTES: &str = "GET /scrape_configs = scrape configs
+const ROUTES: &str = "GET / = status
+GET /scrape_configs = scrape configs
 GET /jobs = jobs
 GET /jobs/j/targets = targets of <j>
 GET /jobs/j/targets?collector_id=a = targets of <j> at <a>
+GET /jobs/j/uncovered = uncovered of <j>
 GET /certificate = certificate
 POST /collectors = join
 DELETE /collectors/1 = leave 1
@@ -64,6 +69,7 @@ GET /livez = healthy
 GET /-/ready = ready
 GET /readyz = ready
 GET /metrics = metrics
+POST /-/reload = reload
 POST /-/quit = quit";
 
 #[test]
@@ -71,12 +77,14 @@ fn each_route_is_found(rt: HostRuntime) -> Result<(), Fail> {
     holds(&rt, rt.alloc(), ROUTES)
 }
 
-const OTHER_PATHS: &str = "GET / = NoRoute
+const OTHER_PATHS: &str = "GET // = NoRoute
 GET /x = NoRoute
 GET /job = NoRoute
 GET /jobs/ = NoRoute
 GET /jobs/j = NoRoute
 GET /jobs//targets = NoRoute
+GET /jobs//uncovered = NoRoute
+GET /jobs/j/uncover = NoRoute
 GET /jobs/j/targets/ = NoRoute
 GET /jobs/j/k/targets = NoRoute
 GET /jobs/j/target = NoRoute
@@ -95,6 +103,7 @@ GET /- = NoRoute
 GET /-/ = NoRoute
 GET /re = NoRoute
 GET /ready = NoRoute
+GET /-/re = NoRoute
 GET /readyz/ = NoRoute";
 
 #[test]
@@ -106,6 +115,9 @@ const OTHER_METHODS: &str = "HEAD /jobs = Method(Jobs)
 POST /jobs = Method(Jobs)
 get /jobs = Method(Jobs)
 POST /jobs/%FF/targets = Method(JobTargets)
+POST / = Method(Status)
+GET /-/reload = Method(Reload)
+POST /jobs/j/uncovered = Method(Uncovered)
 GET /collectors = Method(Collectors)
 GET /collectors/z = Method(Collector)
 GET /collectors/1/drain = Method(Drain)

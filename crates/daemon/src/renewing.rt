@@ -1,0 +1,184 @@
+//! What comes between one desk and the next: what nobody needs is forgotten, another journal begins, another configuration is followed.
+ghost use Rattle.std.specs.Prelude.{◌≡◌, IfOk};
+ghost use Rattle.daemon.specs.Later.{IsLater};
+
+use crate::configuration::Configuration;
+use crate::office::{Office, sources_of};
+use crate::service::Service;
+use crate::source::Source;
+use allocation_core::{Core, JobSpec, NotRenewed};
+use durable_journal::{Archive, are_jobs_of, renewed_line};
+use http_get::Scrape;
+use lists::Plain;
+use log::{info, warn};
+use logfmt::Logfmt;
+use replay_lines::{Resumption, resume};
+use std::alloc::{AllocError, Global};
+use std::io;
+use std::time::Clock;
+
+/// The allocator to go on with, for a service that follows the configuration that was read again where there is one.
+#[tactic(auto, using(crate::proofs::Laters::later_refl))]
+pub(crate) fn continued<R: Clock + Eprint + Copy, S, F, A, C>(
+    rt: &R,
+    alloc: Global,
+    service: &mut Service,
+    office: &mut Office<S, F, C>,
+    archive: &mut A,
+    core: Core,
+) -> io::Result<Core>
+where
+    S: Scrape + Drop,
+    F: Drop,
+    A: Archive<F>,
+    C: Configuration + Drop,
+    ensures { IfOk result (IsLater core) }
+{
+    if !office.schedule.is_read {
+        return renewed(rt, alloc, service, archive, &mut office.file, core);
+    }
+    office.schedule.is_read = false;
+    match office.schedule.configuration.service() {
+        Some(next) => reloaded(rt, alloc, service, office, archive, next, core),
+        None => {
+            office.refuse(rt);
+            Ok(core)
+        }
+    }
+}
+
+/// The allocator under the jobs of another configuration, which the service follows from now on. Where it cannot be renewed under them,
+/// all is as it was.
+#[tactic(auto, using(crate::proofs::Laters::later_refl))]
+fn reloaded<R: Clock + Eprint + Copy, S, F, A, C>(
+    rt: &R,
+    alloc: Global,
+    service: &mut Service,
+    office: &mut Office<S, F, C>,
+    archive: &mut A,
+    next: Service,
+    core: Core,
+) -> io::Result<Core>
+where
+    S: Scrape + Drop,
+    F: Drop,
+    A: Archive<F>,
+    C: Configuration + Drop,
+    ensures { IfOk result (IsLater core) }
+{
+    let Ok((jobs, sources)) = parts_of(alloc, &next) else {
+        office.refuse(rt);
+        return Ok(core);
+    };
+    let (core, is_under) = under(rt, alloc, &next, archive, &mut office.file, jobs, core)?;
+    if is_under {
+        office.follow(&next, sources)?;
+        *service = next;
+    } else {
+        office.state.set_reloaded(false);
+    }
+    Ok(core)
+}
+
+/// The jobs of a service as an allocator has them, and its sources.
+fn parts_of(alloc: Global, service: &Service) -> io::Result<(Vec<JobSpec>, Vec<Source>)> {
+    let sources = sources_of(alloc, service, false)?;
+    match resume(alloc, service.line().as_bytes())? {
+        Ok(Resumption { core, .. }) => Ok((copied(alloc, core.fleet().jobs())?, sources)),
+        Err(_) => Err(io::ErrorKind::InvalidData.into()),
+    }
+}
+
+/// The allocator under the jobs of a service, and whether it is: it is as it was where they are its own, and else renewed.
+#[tactic(auto, using(crate::proofs::Laters::later_refl))]
+fn under<R: Clock + Eprint + Copy, F: Drop, A: Archive<F>>(
+    rt: &R,
+    alloc: Global,
+    service: &Service,
+    archive: &mut A,
+    file: &mut Option<F>,
+    jobs: Vec<JobSpec>,
+    core: Core,
+) -> io::Result<(Core, bool)>
+    ensures { IfOk result (λ r. IsLater core r.0) }
+{
+    if are_jobs_of(core.fleet().jobs(), service.jobs()) {
+        return Ok((core, true));
+    }
+    renewed_under(rt, alloc, service, archive, file, jobs, core)
+}
+
+/// The allocator renewed under its own jobs.
+#[tactic(auto, using(crate::proofs::Laters::later_refl))]
+fn renewed<R: Clock + Eprint + Copy, F: Drop, A: Archive<F>>(
+    rt: &R,
+    alloc: Global,
+    service: &Service,
+    archive: &mut A,
+    file: &mut Option<F>,
+    core: Core,
+) -> io::Result<Core>
+    ensures { IfOk result (IsLater core) }
+{
+    let Ok(jobs) = copied(alloc, core.fleet().jobs()) else {
+        warn!(Logfmt(*rt); "no memory to renew the allocator");
+        return Ok(core);
+    };
+    let (core, _) = renewed_under(rt, alloc, service, archive, file, jobs, core)?;
+    Ok(core)
+}
+
+/// The allocator renewed under some jobs, with its journal begun anew where there is one, and whether it is. Where it is not renewed it
+/// is as it was.
+#[tactic(auto, using(crate::proofs::Laters::renewed_is_later, crate::proofs::Laters::later_refl))]
+fn renewed_under<R: Clock + Eprint + Copy, F: Drop, A: Archive<F>>(
+    rt: &R,
+    alloc: Global,
+    service: &Service,
+    archive: &mut A,
+    file: &mut Option<F>,
+    jobs: Vec<JobSpec>,
+    core: Core,
+) -> io::Result<(Core, bool)>
+    ensures { IfOk result (λ r. IsLater core r.0) }
+{
+    match core.renew(jobs) {
+        Ok(renewed) => {
+            begin_journal(alloc, service, archive, file, &renewed)?;
+            info!(Logfmt(*rt); "the allocator is renewed");
+            Ok((renewed, true))
+        }
+        Err(NotRenewed { core, why }) => {
+            warn!(Logfmt(*rt); "the allocator is not renewed: {why}");
+            Ok((core, false))
+        }
+    }
+}
+
+fn copied(alloc: Global, jobs: &[JobSpec]) -> Result<Vec<JobSpec>, AllocError> {
+    let mut copies = Vec::with_capacity(alloc, jobs.len())?;
+    for job in jobs {
+        copies.push(job.copy()?)?;
+    }
+    Ok(copies)
+}
+
+/// Begins the journal of a renewed allocator, where the service has a journal.
+fn begin_journal<F: Drop, A: Archive<F>>(
+    alloc: Global,
+    service: &Service,
+    archive: &mut A,
+    file: &mut Option<F>,
+    core: &Core,
+) -> io::Result<()> {
+    if file.is_none() {
+        return Ok(());
+    }
+    let Some(line) = renewed_line(alloc, service.line().as_bytes(), core)? else {
+        return Err(io::ErrorKind::InvalidData.into());
+    };
+    let line = line.as_str();
+    let first = format!(in alloc; "{line}\n")?;
+    *file = Some(archive.begin(first.as_bytes())?);
+    Ok(())
+}

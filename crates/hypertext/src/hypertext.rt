@@ -1,0 +1,65 @@
+//! A document in HTML.
+ghost use Rattle.std.specs.Prelude.{◌≡◌, ◌++◌, IfSome, OnOk, [], string_bytes};
+ghost use Rattle.std.specs.Fmt.{decimal};
+ghost use Rattle.hypertext.specs.Escaping.{escaped};
+
+use crate::escaping::push_escaped;
+use std::alloc::{AllocError, Global};
+use std::marker::Model;
+
+/// A document in HTML. Contracts see its bytes. Markup is the caller's own; texts and numbers from outside are shown by `text` and
+/// `number`.
+#[derive(Drop)]
+pub struct Hypertext {
+    alloc: Global,
+    bytes: Vec<u8>,
+}
+
+impl Model for Hypertext {
+    ghost use Rattle.std.specs.Prelude.{List, ℕ};
+
+    ghost Value = { List ℕ };
+
+    ghost view = { λ h. h.bytes.items };
+}
+
+impl Hypertext {
+    /// An empty one.
+    pub fn new(alloc: Global) -> Hypertext
+        ensures { result ≡ [] }
+    {
+        Hypertext {
+            alloc,
+            bytes: Vec::new(alloc),
+        }
+    }
+
+    /// Markup as it stands.
+    pub fn markup(&mut self, markup: &str) -> Result<(), AllocError>
+        ensures { OnOk result (self.new ≡ self.old ++ markup.now) }
+    {
+        self.bytes.extend_from_slice(markup.as_bytes())
+    }
+
+    /// A text, which is no markup whatever it has, in an element or in the quoted value of an attribute.
+    pub fn text(&mut self, text: &str) -> Result<(), AllocError>
+        ensures { OnOk result (self.new ≡ self.old ++ escaped text.now) }
+    {
+        push_escaped(&mut self.bytes, text.as_bytes())
+    }
+
+    /// A number in decimal digits.
+    pub fn number(&mut self, number: u128) -> Result<(), AllocError>
+        ensures { OnOk result (self.new ≡ self.old ++ decimal number) }
+    {
+        let digits = format!(in self.alloc; "{number}")?;
+        self.markup(digits.as_str())
+    }
+
+    /// The document, if it is UTF-8, as it is where all that was put in was.
+    pub fn into_string(self) -> Option<String>
+        ensures { IfSome result (λ text. string_bytes text ≡ self) }
+    {
+        String::from_utf8(self.bytes).ok()
+    }
+}

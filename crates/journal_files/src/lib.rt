@@ -1,0 +1,11 @@
+//! The journals of an allocator on disk: the one that is written, and beside it the old ones by number; and the allocator that they lead
+//! to.
+#![tactic(auto)]
+
+mod fault;
+mod journals;
+mod opening;
+
+pub use fault::Fault;
+pub use journals::Journals;
+pub use opening::{Opened, open_allocator};

@@ -1,0 +1,123 @@
+//! The page for people.
+use crate::figures::{CollectorFigures, Figures, JobFigures};
+use crate::service_state::ServiceState;
+use hypertext::Hypertext;
+use lists::Text;
+use std::alloc::{AllocError, Global};
+
+const HEAD: &str =
+    "<!DOCTYPE html>\n<html lang=\"en\">\n<head><meta charset=\"utf-8\"><title>allocd</title>\n<style>body{font-family:sans-serif;margin:2em}table{border-collapse:collapse}th,td{padding:.3em 1em;text-align:right;border-bottom:1px solid #ccc}th:first-child,td:first-child{text-align:left}meter{width:12em}</style>\n</head>\n<body>\n<h1>allocd</h1>\n";
+
+const JOBS: &str =
+    "<h2>Jobs</h2>\n<table>\n<tr><th>Job</th><th>Live</th><th>Covered</th><th>Uncovered</th></tr>\n";
+
+const COLLECTORS: &str =
+    "<h2>Collectors</h2>\n<table>\n<tr><th>Collector</th><th>Id</th><th>State</th><th>Holds</th><th>May hold</th><th></th></tr>\n";
+
+/// The page for people, in HTML.
+pub(crate) fn status_page(
+    alloc: Global,
+    figures: &Figures,
+    state: &ServiceState,
+) -> Result<Text, AllocError> {
+    let mut page = Hypertext::new(alloc);
+    page.markup(HEAD)?;
+    write_moment(&mut page, figures)?;
+    write_jobs(&mut page, figures.jobs.as_slice())?;
+    write_collectors(&mut page, figures.collectors.as_slice())?;
+    write_state(&mut page, state)?;
+    page.markup("</body>\n</html>\n")?;
+    match page.into_string() {
+        Some(text) => Ok(Text::from_string(text)),
+        None => Err(AllocError),
+    }
+}
+
+fn write_moment(page: &mut Hypertext, figures: &Figures) -> Result<(), AllocError> {
+    page.markup("<p>Allocation ")?;
+    page.number(u128::from(figures.allocation))?;
+    page.markup(", round ")?;
+    page.number(u128::from(figures.round))?;
+    page.markup(", ")?;
+    page.number(figures.samples)?;
+    page.markup(" samples booked, ")?;
+    page.number(figures.entries as u128)?;
+    page.markup(" journal entries.</p>\n")
+}
+
+fn write_jobs(page: &mut Hypertext, jobs: &[JobFigures]) -> Result<(), AllocError> {
+    page.markup(JOBS)?;
+    for job in jobs {
+        page.markup("<tr>")?;
+        text_cell(page, job.name.as_str())?;
+        number_cell(page, job.live)?;
+        number_cell(page, job.covered)?;
+        number_cell(page, job.live.saturating_sub(job.covered))?;
+        page.markup("</tr>\n")?;
+    }
+    page.markup("</table>\n")
+}
+
+fn write_collectors(
+    page: &mut Hypertext,
+    collectors: &[CollectorFigures],
+) -> Result<(), AllocError> {
+    page.markup(COLLECTORS)?;
+    for collector in collectors {
+        page.markup("<tr>")?;
+        write_collector(page, collector)?;
+        page.markup("</tr>\n")?;
+    }
+    page.markup("</table>\n")
+}
+
+fn write_collector(page: &mut Hypertext, collector: &CollectorFigures) -> Result<(), AllocError> {
+    text_cell(page, collector.name.as_str())?;
+    number_cell(page, u64::from(collector.id))?;
+    if collector.draining {
+        page.markup("<td>draining</td>")?;
+    } else {
+        page.markup("<td>live</td>")?;
+    }
+    number_cell(page, collector.held)?;
+    match collector.room {
+        Some(room) => {
+            number_cell(page, room)?;
+            write_bar(page, collector.held, room)
+        }
+        None => page.markup("<td>no limit</td><td></td>"),
+    }
+}
+
+/// A bar of what a collector holds beside what it may hold.
+fn write_bar(page: &mut Hypertext, held: u64, room: u64) -> Result<(), AllocError> {
+    page.markup("<td><meter value=\"")?;
+    page.number(u128::from(held))?;
+    page.markup("\" max=\"")?;
+    page.number(u128::from(room))?;
+    page.markup("\"></meter></td>")
+}
+
+fn write_state(page: &mut Hypertext, state: &ServiceState) -> Result<(), AllocError> {
+    page.markup("<h2>Sources</h2>\n<p>")?;
+    page.number(u128::from(state.refreshes()))?;
+    page.markup(" refreshes, of which ")?;
+    page.number(u128::from(state.failed_refreshes()))?;
+    page.markup(" failed; ")?;
+    page.number(u128::from(state.reallocations()))?;
+    page.markup(" reallocations; ")?;
+    page.number(u128::from(state.requests()))?;
+    page.markup(" requests.</p>\n")
+}
+
+fn text_cell(page: &mut Hypertext, text: &str) -> Result<(), AllocError> {
+    page.markup("<td>")?;
+    page.text(text)?;
+    page.markup("</td>")
+}
+
+fn number_cell(page: &mut Hypertext, number: u64) -> Result<(), AllocError> {
+    page.markup("<td>")?;
+    page.number(u128::from(number))?;
+    page.markup("</td>")
+}

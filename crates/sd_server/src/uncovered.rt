@@ -1,0 +1,57 @@
+//! The live targets that nobody holds, and why.
+use allocation_core::Core;
+use fleet_events::TargetId;
+use std::alloc::{AllocError, Global};
+
+/// The live targets of a job that nobody holds in the current allocation, in order of number.
+#[derive(Debug, Drop)]
+pub(crate) struct Uncovered {
+    /// Those that a collector reaches which is not draining: all such ones are full, or a reallocation is due.
+    pub(crate) full: Vec<TargetId>,
+    /// Those that no such collector reaches.
+    pub(crate) unreached: Vec<TargetId>,
+}
+
+/// Those of the job at a place.
+pub(crate) fn uncovered_of(
+    alloc: Global,
+    core: &Core,
+    place: usize,
+) -> Result<Uncovered, AllocError> {
+    let marks = uncovered_marks(core)?;
+    let mut found = Uncovered {
+        full: Vec::new(alloc),
+        unreached: Vec::new(alloc),
+    };
+    let known = core.fleet().known().iter().zip(marks.iter());
+    for (number, (target, is_uncovered)) in known.enumerate() {
+        let Ok(id) = TargetId::try_from(number) else {
+            break;
+        };
+        if *is_uncovered && target.job == place {
+            if is_reached(core, number) {
+                found.full.push(id)?;
+            } else {
+                found.unreached.push(id)?;
+            }
+        }
+    }
+    Ok(found)
+}
+
+/// Which of the known targets are live and held by nobody.
+fn uncovered_marks(core: &Core) -> Result<Vec<bool>, AllocError> {
+    let mut marks = core.fleet().live_marks()?;
+    for (target, _) in core.allocation() {
+        if let Some(mark) = marks.get_mut(*target as usize) {
+            *mark = false;
+        }
+    }
+    Ok(marks)
+}
+
+/// Whether some collector reaches a target and is not draining.
+fn is_reached(core: &Core, number: usize) -> bool {
+    core.fleet().collectors().iter().enumerate().any(|(place, collector)| !collector.draining
+        && core.fleet().reaches(place, number))
+}

@@ -1,0 +1,117 @@
+//! The command: what its words ask for, and what it tells of it.
+use crate::configuration::ConfigurationFile;
+use crate::documents::read_service;
+use crate::place::place_of;
+use crate::running::serve_journal;
+use daemon::Service;
+use journal_files::Fault;
+use log::error;
+use logfmt::Logfmt;
+use service_settings::{Asked, ServeOptions, USAGE, read_arguments};
+use std::alloc::{AllocError, AllocGlobal, Global};
+use std::fs::File;
+use std::io;
+use std::io::Write;
+use std::net::{Net, TcpListener, TcpStream};
+use std::process::ExitCode;
+use std::random::RandomSource;
+use std::rt::Files;
+use std::sync::Wait;
+use std::thread::Threads;
+use std::time::Clock;
+
+const VERSION: &str = "allocd 0.1.0\n";
+
+/// Does what the words behind `serve` ask for, and gives the exit status: 0 where the service was told to end, 2 where it is not
+/// told what to do, 3 where the machine failed it. The configuration is read again by a thread of its own handle, `host`.
+pub fn serve<R>(rt: &R, host: HostRuntime, words: &[String]) -> ExitCode
+where
+    R: Wait
+        + Threads
+        + Clock
+        + Net<Listener = TcpListener, Stream = TcpStream>
+        + Files<File = File>
+        + RandomSource
+        + AllocGlobal
+        + Print
+        + Eprint
+        + Sync
+        + Send
+        + Copy
+        + Drop,
+{
+    let done = match read_arguments(words) {
+        Asked::Help => written(rt, USAGE),
+        Asked::Version => written(rt, VERSION),
+        Asked::Faulty(fault) => match fault.line(rt.alloc()) {
+            Ok(line) => Err(Fault::Told(line)),
+            Err(error) => Err(error.into()),
+        },
+        Asked::Serve(options) => serve_by(rt, host, &options),
+    };
+    match done {
+        Ok(()) => ExitCode::from(0),
+        Err(fault) => ended(rt, fault),
+    }
+}
+
+/// Tells a fault on standard error.
+fn ended<R: Eprint + Clock + Copy>(rt: &R, fault: Fault) -> ExitCode {
+    match fault {
+        Fault::Told(line) => {
+            // Nobody can be told that a line was not written.
+            let _ = rt.eprintln(line.as_str());
+            ExitCode::from(2)
+        }
+        Fault::Machine(error) => {
+            error!(Logfmt(*rt); "the service ended: {error}");
+            ExitCode::from(3)
+        }
+    }
+}
+
+fn written<R: Print>(rt: &R, text: &str) -> Result<(), Fault> {
+    let mut writer = io::writer(rt);
+    writer.write_all(text.as_bytes())?;
+    writer.flush()?;
+    Ok(())
+}
+
+fn serve_by<R>(rt: &R, host: HostRuntime, options: &ServeOptions<'_>) -> Result<(), Fault>
+where
+    R: Wait
+        + Threads
+        + Clock
+        + Net<Listener = TcpListener, Stream = TcpStream>
+        + Files<File = File>
+        + RandomSource
+        + AllocGlobal
+        + Print
+        + Eprint
+        + Sync
+        + Send
+        + Copy
+        + Drop,
+{
+    let service = read_service(rt, rt.alloc(), options.config)?;
+    let here = place_of(rt, options, &service)?;
+    if options.check_config {
+        return written(rt, "the configuration is valid\n");
+    }
+    let journal = journal_of(rt.alloc(), options, &service)?;
+    let configuration = ConfigurationFile::new(host, rt.alloc(), options.config)?;
+    let listener = TcpListener::bind(rt, here)?;
+    serve_journal(rt, rt.alloc(), service, configuration, listener, journal)
+}
+
+/// The path of the journal: that of the command line, or else that of the configuration.
+fn journal_of(
+    alloc: Global,
+    options: &ServeOptions<'_>,
+    service: &Service,
+) -> Result<Option<String>, AllocError> {
+    match options.journal.or(service.journal()) {
+        Some(path) => Ok(Some(String::from_str(alloc, path)?)),
+        None => Ok(None),
+    }
+}

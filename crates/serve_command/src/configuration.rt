@@ -1,0 +1,64 @@
+//! The configuration file, as the service reads it again.
+use crate::documents::{read_document, service_in};
+use daemon::{Configuration, Service};
+use journal_files::Fault;
+use lists::Text;
+use std::alloc::{AllocError, Global};
+
+/// The configuration file at a path.
+#[derive(Drop)]
+pub(crate) struct ConfigurationFile {
+    host: HostRuntime,
+    alloc: Global,
+    path: String,
+    /// What was read last and asks for a service.
+    document: Vec<u8>,
+}
+
+impl ConfigurationFile {
+    pub(crate) fn new(
+        host: HostRuntime,
+        alloc: Global,
+        path: &str,
+    ) -> Result<ConfigurationFile, AllocError> {
+        Ok(ConfigurationFile {
+            host,
+            alloc,
+            path: String::from_str(alloc, path)?,
+            document: Vec::new(alloc),
+        })
+    }
+
+    /// The document of the file, which asks for a service.
+    fn valid_document(&self) -> Result<Vec<u8>, Fault> {
+        let path = self.path.as_str();
+        let document = read_document(&self.host, self.alloc, path)?;
+        let _ = service_in(self.alloc, path, document.as_slice())?;
+        Ok(document)
+    }
+
+    /// The line that tells a fault. It is empty where there is no memory for it.
+    fn line_of(&self, fault: Fault) -> Text {
+        let line = match fault {
+            Fault::Told(line) => format!(in self.alloc; "{line}\n"),
+            Fault::Machine(error) => format!(in self.alloc; "{error}\n"),
+        };
+        Text::from_string(line.unwrap_or(String::new(self.alloc)))
+    }
+}
+
+impl Configuration for ConfigurationFile {
+    fn read(&mut self) -> Result<(), Text> {
+        match self.valid_document() {
+            Ok(document) => {
+                self.document = document;
+                Ok(())
+            }
+            Err(fault) => Err(self.line_of(fault)),
+        }
+    }
+
+    fn service(&self) -> Option<Service> {
+        service_in(self.alloc, self.path.as_str(), self.document.as_slice()).ok()
+    }
+}

@@ -1,0 +1,95 @@
+//! The configuration file.
+use daemon::{Service, ServiceError};
+use durable_journal::configuration_line;
+use journal_files::Fault;
+use lists::Text;
+use sd_documents::{Config, SdError, read_config};
+use service_settings::{Settings, SettingsError, read_settings};
+use std::alloc::{AllocError, Global};
+use std::fs::File;
+use std::io;
+use std::io::Read;
+use std::rt::Files;
+
+/// The most bytes of a configuration: 64 MiB.
+const LONGEST_CONFIGURATION: u64 = 67_108_864;
+
+/// Reads the service of a configuration file.
+pub(crate) fn read_service<R: Files<File = File>>(
+    rt: &R,
+    alloc: Global,
+    path: &str,
+) -> Result<Service, Fault> {
+    let document = read_document(rt, alloc, path)?;
+    service_in(alloc, path, document.as_slice())
+}
+
+/// Reads the document of a configuration file.
+pub(crate) fn read_document<R: Files<File = File>>(
+    rt: &R,
+    alloc: Global,
+    path: &str,
+) -> Result<Vec<u8>, Fault> {
+    let document = match read_file(rt, alloc, path) {
+        Ok(document) => document,
+        Err(error) => return Err(Fault::Told(format!(in alloc; "{path}: {error}")?)),
+    };
+    if document.len() as u64 > LONGEST_CONFIGURATION {
+        return Err(Fault::Told(format!(in alloc; "{path}: too long")?));
+    }
+    Ok(document)
+}
+
+/// The service that the document of a configuration file asks for.
+pub(crate) fn service_in(alloc: Global, path: &str, document: &[u8]) -> Result<Service, Fault> {
+    let config = config_in(alloc, path, document)?;
+    let settings = settings_in(alloc, path, document)?;
+    let Some(line) = configuration_line(alloc, document)? else {
+        return Err(Fault::Told(format!(in alloc; "{path}: no JSON")?));
+    };
+    service_of(alloc, path, line, config, settings)
+}
+
+fn config_in(alloc: Global, path: &str, document: &[u8]) -> Result<Config, Fault> {
+    match read_config(alloc, document) {
+        Ok(config) => Ok(config),
+        Err(SdError::Memory) => Err(AllocError.into()),
+        Err(error) => Err(Fault::Told(format!(in alloc; "{path}: {error}")?)),
+    }
+}
+
+fn settings_in(alloc: Global, path: &str, document: &[u8]) -> Result<Settings, Fault> {
+    match read_settings(alloc, document) {
+        Ok(settings) => Ok(settings),
+        Err(SettingsError::Memory) => Err(AllocError.into()),
+        Err(error) => {
+            let line = error.line(alloc)?;
+            Err(Fault::Told(format!(in alloc; "{path}: {line}")?))
+        }
+    }
+}
+
+fn service_of(
+    alloc: Global,
+    path: &str,
+    line: Text,
+    config: Config,
+    settings: Settings,
+) -> Result<Service, Fault> {
+    match Service::of(alloc, line, config, settings) {
+        Ok(service) => Ok(service),
+        Err(ServiceError::Memory) => Err(AllocError.into()),
+        Err(ServiceError::Rules { job, error }) => {
+            let line = format!(in alloc; "{path}: scrape_configs[{job}].relabel_configs: {error}")?;
+            Err(Fault::Told(line))
+        }
+    }
+}
+
+fn read_file<R: Files<File = File>>(rt: &R, alloc: Global, path: &str) -> io::Result<Vec<u8>> {
+    let mut bytes = Vec::new(alloc);
+    File::open(rt, path)?
+        .take(LONGEST_CONFIGURATION + 1)
+        .read_to_end(&mut bytes)?;
+    Ok(bytes)
+}

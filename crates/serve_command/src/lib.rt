@@ -1,0 +1,10 @@
+//! The command `allocd serve`: the service on this machine's files and sockets.
+#![tactic(auto)]
+
+mod command;
+mod configuration;
+mod documents;
+mod place;
+mod running;
+
+pub use command::serve;

@@ -1,0 +1,111 @@
+//! The service over the allocator of its journal.
+use crate::configuration::ConfigurationFile;
+use allocation_core::Core;
+use daemon::Service;
+use journal_files::{Fault, Journals, Opened, open_allocator};
+use log::info;
+use logfmt::Logfmt;
+use std::alloc::{AllocGlobal, Global};
+use std::fs::File;
+use std::io;
+use std::net::{Net, TcpListener, TcpStream};
+use std::random::RandomSource;
+use std::rt::Files;
+use std::sync::Wait;
+use std::thread::Threads;
+use std::time::Clock;
+
+/// Serves over the allocator that the journal at a path leads to, where there is a path.
+pub(crate) fn serve_journal<R>(
+    rt: &R,
+    alloc: Global,
+    service: Service,
+    configuration: ConfigurationFile,
+    listener: TcpListener,
+    journal: Option<String>,
+) -> Result<(), Fault>
+where
+    R: Wait
+        + Threads
+        + Clock
+        + Net<Listener = TcpListener, Stream = TcpStream>
+        + Files<File = File>
+        + RandomSource
+        + AllocGlobal
+        + Print
+        + Eprint
+        + Sync
+        + Send
+        + Copy
+        + Drop,
+{
+    let (opened, mut journals) = open_journals(rt, alloc, &service, journal)?;
+    let core = serve_opened(
+        rt,
+        alloc,
+        service,
+        configuration,
+        listener,
+        &mut journals,
+        opened,
+    )?;
+    let samples = core.total();
+    info!(Logfmt(*rt); samples:% = samples; "ended");
+    Ok(())
+}
+
+/// The allocator that a journal leads to, and where the journals are.
+fn open_journals<R: Files<File = File> + Clock + Eprint + Copy>(
+    rt: &R,
+    alloc: Global,
+    service: &Service,
+    journal: Option<String>,
+) -> Result<(Opened<File>, Journals<R>), Fault> {
+    let path = match &journal {
+        Some(path) => Some(path.as_str()),
+        None => None,
+    };
+    let opened = open_allocator(rt, alloc, service.line(), service.jobs(), path)?;
+    let path = journal.unwrap_or(String::new(alloc));
+    Ok((opened, Journals::new(*rt, alloc, path, service.keep())))
+}
+
+fn serve_opened<R>(
+    rt: &R,
+    alloc: Global,
+    service: Service,
+    configuration: ConfigurationFile,
+    listener: TcpListener,
+    journals: &mut Journals<R>,
+    opened: Opened<File>,
+) -> io::Result<Core>
+where
+    R: Wait
+        + Threads
+        + Clock
+        + Net<Listener = TcpListener, Stream = TcpStream>
+        + Files<File = File>
+        + RandomSource
+        + AllocGlobal
+        + Print
+        + Eprint
+        + Sync
+        + Send
+        + Copy
+        + Drop,
+{
+    let Opened { core, file } = opened;
+    if let Ok(here) = listener.local_addr() {
+        info!(Logfmt(*rt); address:% = here; "listening");
+    }
+    daemon::serve(
+        rt,
+        alloc,
+        service,
+        listener,
+        file,
+        journals,
+        configuration,
+        core,
+    )
+}

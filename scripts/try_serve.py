@@ -1,0 +1,469 @@
+#!/usr/bin/env python3
+"""Runs `allocd serve` as an operator would, and tells of each thing whether it holds: try_serve.py [KILLS]
+
+Routes, faults of the configuration, reloads, signals, a second start, torn and damaged journals, kills under load, a full disk (where a small file
+system can be mounted). It needs Linux and the program (ALLOCD_PROGRAM, or dist/allocd)."""
+
+import collections
+import http.client
+import http.server
+import json
+import os
+import random
+import signal
+import socket
+import subprocess
+import sys
+import tempfile
+import threading
+import time
+
+ROOT = os.path.dirname(os.path.dirname(os.path.abspath(__file__)))
+PROGRAM = os.environ.get("ALLOCD_PROGRAM", f"{ROOT}/dist/allocd")
+KILLS = int(sys.argv[1]) if len(sys.argv) > 1 else 5
+failed = 0
+
+
+def tell(name, holds, more=""):
+    global failed
+    failed += not holds
+    print(f"{'ok' if holds else 'NOT'}: {name}{': ' + str(more) if more != '' else ''}", flush=True)
+
+
+def free_port():
+    with socket.socket() as it:
+        it.bind(("127.0.0.1", 0))
+        return it.getsockname()[1]
+
+
+def ask(port, method, path, body=None):
+    """The status, the headers and the body of an answer."""
+    it = http.client.HTTPConnection("127.0.0.1", port, timeout=10)
+    try:
+        it.request(method, path, body=None if body is None else json.dumps(body))
+        said = it.getresponse()
+        return said.status, said.headers, said.read().decode()
+    finally:
+        it.close()
+
+
+CONFIG = {
+    "global": {"scrape_interval": "1s"},
+    "scrape_configs": [
+        {
+            "job_name": "node",
+            "static_configs": [{"targets": [f"127.0.0.1:{9100 + i}" for i in range(20)]}],
+        },
+        {"job_name": "odd \"job\" \\ ü", "target_limit": 1},
+    ],
+    "allocator": {
+        "settle": "50ms",
+        "lifecycle": True,
+        "collectors": [{"name": "a", "reach": [{"allow": True, "test": "any"}]}],
+    },
+}
+
+
+class Service:
+    def __init__(self, folder, journal=None, config=CONFIG, more=()):
+        self.port = free_port()
+        self.config = f"{folder}/config.json"
+        with open(self.config, "w") as it:
+            json.dump(config, it, indent=1)
+        words = [PROGRAM, "serve", "--config", self.config, "--listen", f"127.0.0.1:{self.port}"]
+        words += ["--journal", journal] if journal else []
+        self.log = open(f"{folder}/log", "ab")
+        self.it = subprocess.Popen([*words, *more], stderr=self.log, stdout=subprocess.PIPE)
+
+    def is_up(self):
+        for _ in range(400):
+            if self.it.poll() is not None:
+                return False
+            try:
+                return ask(self.port, "GET", "/-/ready")[0] in (200, 503)
+            except OSError:
+                time.sleep(0.02)
+        return False
+
+    def ended(self, seconds=20):
+        try:
+            return self.it.wait(seconds)
+        except subprocess.TimeoutExpired:
+            self.it.kill()
+            return None
+
+    def quit(self):
+        status = ask(self.port, "POST", "/-/quit")[0]
+        return status, self.ended()
+
+
+def run(*words):
+    done = subprocess.run([PROGRAM, *words], capture_output=True, text=True, stdin=subprocess.DEVNULL)
+    return done.returncode, done.stdout, done.stderr
+
+
+def waits_for(port, text):
+    for _ in range(200):
+        if text in ask(port, "GET", "/metrics")[2]:
+            return True
+        time.sleep(0.02)
+    return False
+
+
+def words_and_configurations(folder):
+    status, out, _ = run("serve", "--help")
+    tell("--help", status == 0 and out.startswith("usage: allocd serve"))
+    status, _, err = run("serve", "--frob")
+    tell("an unknown option", status == 2, err.strip())
+    status, _, err = run("serve")
+    tell("no configuration", status == 2, err.strip())
+    status, _, err = run("serve", "--config", f"{folder}/missing.json")
+    tell("a configuration that is not there", status == 2 and "missing.json" in err)
+    rows = [
+        ('{"scrape_configs":[{"job_name":"a"},{"job_name":"a"}]}', "two jobs of a name"),
+        ('{"allocator":{"setle":"1s"}}', "a member that is misspelt"),
+        ('{"allocator":{"settle":"1 s"}}', "a duration with a space"),
+        ('{"scrape_configs":[{"job_name":"a","relabel_configs":[{"action":"frob"}]}]}', "an action that is none"),
+        ("{", "no JSON"),
+    ]
+    for text, name in rows:
+        with open(f"{folder}/bad.json", "w") as it:
+            it.write(text)
+        status, out, err = run("serve", "--check-config", "--config", f"{folder}/bad.json")
+        tell(name, status == 2 and out == "" and err.startswith(f"{folder}/bad.json: "), err.strip().removeprefix(f"{folder}/"))
+    with open(f"{folder}/good.json", "w") as it:
+        json.dump(CONFIG, it)
+    status, out, _ = run("serve", "--check-config", "--config", f"{folder}/good.json")
+    tell("a configuration that is right", status == 0, out.strip())
+
+
+def routes(folder):
+    service = Service(folder)
+    tell("it starts", service.is_up())
+    port = service.port
+    tell("it has an allocation", waits_for(port, "allocd_allocation 1"))
+    rows = [
+        ("GET", "/-/healthy", None, 200), ("GET", "/livez", None, 200), ("GET", "/readyz", None, 200),
+        ("GET", "/scrape_configs", None, 200), ("GET", "/jobs", None, 200), ("GET", "/certificate", None, 200),
+        ("GET", "/jobs/node/targets", None, 200), ("GET", "/jobs/node/targets?collector_id=a", None, 200),
+        ("GET", "/jobs/node/targets?collector_id=z", None, 404), ("GET", "/nothing", None, 404), ("GET", "/", None, 200),
+        ("GET", "/jobs/node/uncovered", None, 200), ("GET", "/jobs/z/uncovered", None, 404),
+        ("POST", "/jobs", None, 405), ("POST", "/collectors", {"name": "a", "reach": []}, 409),
+        ("POST", "/collectors", {"name": "b", "reach": [{"allow": True, "test": "any"}]}, 200),
+        ("PUT", "/collectors/2/limits", {"limits": {"node": 3}}, 200), ("POST", "/collectors/2/drain", {}, 200),
+        ("DELETE", "/collectors/2", None, 200), ("POST", "/reports", {"collector": 1, "number": 1, "target": 0, "round": 1, "up": True, "samples": 5}, None),
+    ]
+    for method, path, body, wanted in rows:
+        status, _, text = ask(port, method, path, body)
+        tell(f"{method} {path}", status == wanted or (wanted is None and status in (200, 409)), f"{status} {text[:60].strip()}")
+    metrics = ask(port, "GET", "/metrics")[2]
+    tell("metrics show names whatever they hold", 'allocd_targets{job="odd \\"job\\" \\\\ ü"} 0' in metrics)
+    tell("/-/quit ends it with status 0", service.quit() == (200, 0))
+    config = json.loads(json.dumps(CONFIG))
+    config["allocator"]["lifecycle"] = False
+    service = Service(folder, config=config)
+    service.is_up()
+    tell("/-/quit is 403 where it is not allowed", ask(service.port, "POST", "/-/quit")[0] == 403)
+    service.it.kill()
+    service.ended()
+
+
+def rewrite(service, config):
+    with open(service.config, "w") as it:
+        it.write(config if isinstance(config, str) else json.dumps(config))
+    return ask(service.port, "POST", "/-/reload")
+
+
+def comes(test, seconds=20):
+    """Whether a test of the service holds soon."""
+    end = time.monotonic() + seconds
+    while time.monotonic() < end:
+        try:
+            if test():
+                return True
+        except OSError:
+            pass
+        time.sleep(0.05)
+    return False
+
+
+def reloads(folder):
+    journal = f"{folder}/journal"
+    service = Service(folder, journal)
+    service.is_up()
+    port = service.port
+    waits_for(port, "allocd_allocation 1")
+    before = ask(port, "GET", "/jobs/node/targets")[2]
+    status, _, text = rewrite(service, "{")
+    tell("a faulty configuration is not taken", status == 500 and "no JSON" in text, text.strip().removeprefix(f"{folder}/"))
+    tell("the figures say so", "allocd_config_last_reload_successful 0" in ask(port, "GET", "/metrics")[2])
+    tell("and nothing changes", ask(port, "GET", "/jobs/node/targets")[2] == before)
+    config = json.loads(json.dumps(CONFIG))
+    config["scrape_configs"][0]["static_configs"][0]["targets"].append("127.0.0.1:9199")
+    config["allocator"]["collectors"].append({"name": "new", "reach": []})
+    status, _, text = rewrite(service, config)
+    tell("a good one is taken", status == 200, text.strip())
+    tell("another target is found", comes(lambda: 'allocd_targets{job="node"} 21' in ask(port, "GET", "/metrics")[2]))
+    tell("another collector joins", comes(lambda: '"new"' in ask(port, "GET", "/jobs/node/targets")[2]))
+    tell("the journal goes on", not os.path.exists(f"{journal}.1"))
+    comes(lambda: 'allocd_targets_covered{job="node"} 21' in ask(port, "GET", "/metrics")[2])
+    before = json.loads(ask(port, "GET", "/jobs/node/targets")[2])
+    config["scrape_configs"][0]["target_limit"] = 15
+    config["scrape_configs"].append({"job_name": "more", "static_configs": [{"targets": ["127.0.0.1:9300"]}]})
+    status, _, text = rewrite(service, config)
+    tell("one with other jobs is taken", status == 200, text.strip())
+    tell("the allocator is renewed", comes(lambda: os.path.exists(f"{journal}.1") and '"more"' in ask(port, "GET", "/jobs")[2]))
+    comes(lambda: 'allocd_targets_covered{job="more"} 1' in ask(port, "GET", "/metrics")[2])
+    comes(lambda: 'allocd_targets_covered{job="node"} 15' in ask(port, "GET", "/metrics")[2])
+    after = json.loads(ask(port, "GET", "/jobs/node/targets")[2])
+    held = [{group["targets"][0] for group in it["a"]["targets"]} for it in (before, after)]
+    tell("no target is new at a collector", held[1] < held[0] and len(held[1]) == 15, f"{len(held[0])} before, {len(held[1])} after")
+    uncovered = json.loads(ask(port, "GET", "/jobs/node/uncovered")[2])
+    tell("who is uncovered, and why", len(uncovered["full"]) == 6 and uncovered["unreached"] == [])
+    page = ask(port, "GET", "/")
+    tell("the page shows names as text", page[0] == 200 and "odd &quot;job&quot; \\ ü" in page[2], page[1]["content-type"])
+    threads = [threading.Thread(target=rewrite, args=(service, config)) for _ in range(8)]
+    for it in threads:
+        it.start()
+    tell("the service ends while others ask for a reload", service.quit() == (200, 0))
+    for it in threads:
+        it.join()
+    for name in ("journal.1", "journal"):
+        status, events, answers = replayed(f"{folder}/{name}")
+        tell(f"{name} replays", status == 0 and len(events) + 1 == len(answers), f"{len(events)} events")
+
+
+def signals(folder):
+    config = f"{folder}/config.json"
+    with open(config, "w") as it:
+        json.dump(CONFIG, it)
+    port = free_port()
+    bridge = [f"{ROOT}/scripts/serve.sh", f"127.0.0.1:{port}", "--config", config]
+    it = subprocess.Popen(bridge, stderr=subprocess.PIPE, text=True)
+    up = comes(lambda: ask(port, "GET", "/-/healthy")[0] == 200)
+    more = json.loads(json.dumps(CONFIG))
+    more["scrape_configs"][0]["static_configs"][0]["targets"].append("127.0.0.1:9199")
+    with open(config, "w") as file:
+        json.dump(more, file)
+    it.send_signal(signal.SIGHUP)
+    tell("SIGHUP has it read its configuration again", up and comes(lambda: 'allocd_targets{job="node"} 21' in ask(port, "GET", "/metrics")[2]))
+    it.send_signal(signal.SIGTERM)
+    tell("SIGTERM ends it with status 0", it.wait(20) == 0)
+
+
+def absences(folder):
+    config = json.loads(json.dumps(CONFIG))
+    config["allocator"]["collector_timeout"] = "1s"
+    config["allocator"]["collectors"].append({"name": "b", "reach": [{"allow": True, "test": "any"}]})
+    journal = f"{folder}/journal"
+    service = Service(folder, journal, config)
+    service.is_up()
+    began = time.monotonic()
+    while time.monotonic() < began + 3.5:
+        ask(service.port, "GET", "/jobs/node/targets?collector_id=a")
+        time.sleep(0.2)
+    status, _, text = ask(service.port, "GET", "/jobs/node/targets")
+    tell("a collector that asks for nothing leaves", status == 200 and list(json.loads(text)) == ["a"], list(json.loads(text)))
+    service.quit()
+    _, events, answers = replayed(journal)
+    said = [answer for event, answer in zip(events, answers) if event["event"] in ("drain", "leave")]
+    tell("it drains first, and the one that asks stays", said == ["Draining", "Left"], said)
+
+
+def replayed(journal):
+    """Each event of a journal beside its answer, by `allocd replay`."""
+    with open(journal, "rb") as it:
+        text = it.read()
+    lines = text[: text.rfind(b"\n") + 1]
+    done = subprocess.run([PROGRAM, "replay"], input=lines, capture_output=True)
+    answers = done.stdout.decode().split("\n")[:-1]
+    events = [json.loads(line) for line in lines.split(b"\n")[1:] if line]
+    return done.returncode, events, answers
+
+
+def journals(folder):
+    journal = f"{folder}/journal"
+    service = Service(folder, journal)
+    service.is_up()
+    waits_for(service.port, "allocd_allocation 1")
+    joined = ask(service.port, "POST", "/collectors", {"name": "b", "reach": []})[2]
+    second = Service(folder, journal)
+    tell("a second service on the same journal", second.ended() == 2)
+    tell("ends", service.quit() == (200, 0))
+    status, events, answers = replayed(journal)
+    tell("its journal replays", status == 0 and len(events) + 1 == len(answers), f"{len(events)} events")
+    with open(journal, "ab") as it:
+        it.write(b'{"event":"ro')
+    service = Service(folder, journal)
+    tell("it starts over a torn line", service.is_up())
+    _, _, again = ask(service.port, "POST", "/collectors", {"name": "b", "reach": []})
+    tell("it knows what was", joined == '{"answer":"Joined 2"}' and again == '{"refused":"AlreadyJoined 2"}', again)
+    service.quit()
+    config = json.loads(json.dumps(CONFIG))
+    config["scrape_configs"][0]["target_limit"] = 3
+    service = Service(folder, journal, config)
+    tell("a configuration with other jobs", service.ended() == 2)
+    with open(journal, "rb") as it:
+        text = it.read()
+    with open(journal, "wb") as it:
+        it.write(text.replace(b'"event":"join"', b'"event":"jion"', 1))
+    service = Service(folder, journal)
+    tell("a damaged line", service.ended() == 2)
+
+
+def load(port, seen, stop, seed):
+    """Posts events until the service is gone, and notes what each was answered."""
+    dice = random.Random(seed)
+    names = 0
+    while not stop.is_set():
+        try:
+            kind = dice.randrange(3)
+            if kind == 0:
+                names += 1
+                body = {"name": f"c{seed}-{names}", "reach": []}
+                said = ask(port, "POST", "/collectors", body)
+                seen.append((("join", body["name"]), said[2]))
+            elif kind == 1:
+                id = dice.randrange(2, 40)
+                said = ask(port, "DELETE", f"/collectors/{id}")
+                seen.append((("leave", id), said[2]))
+            else:
+                body = {"collector": 1, "number": 1, "target": dice.randrange(20), "round": dice.randrange(1, 5), "up": True, "samples": 3}
+                said = ask(port, "POST", "/reports", body)
+                seen.append((("report", body["target"], body["round"]), said[2]))
+        except (OSError, http.client.HTTPException):
+            return
+
+
+def key(event):
+    kind = event["event"]
+    if kind == "join":
+        return ("join", event["name"])
+    if kind == "leave":
+        return ("leave", event["collector"])
+    if kind == "report":
+        return ("report", event["target"], event["round"])
+    return None
+
+
+def kills(folder):
+    journal = f"{folder}/killed"
+    seen, lost = [], 0
+    for turn in range(KILLS):
+        service = Service(folder, journal)
+        if not service.is_up():
+            tell(f"it starts after kill {turn}", False)
+            return
+        ask(service.port, "GET", "/jobs/node/targets?collector_id=a")
+        stop = threading.Event()
+        threads = [threading.Thread(target=load, args=(service.port, seen, stop, 8 * turn + i)) for i in range(8)]
+        for it in threads:
+            it.start()
+        time.sleep(random.uniform(0.2, 1.2))
+        service.it.send_signal(signal.SIGKILL)
+        service.ended()
+        stop.set()
+        for it in threads:
+            it.join()
+        status, events, answers = replayed(journal)
+        told = collections.Counter((key(event), answer) for event, answer in zip(events, answers))
+        for what, body in seen:
+            body = json.loads(body)
+            line = body.get("answer") or body.get("refused")
+            if told[(what, line)] == 0:
+                lost += 1
+                print("lost:", what, line)
+            told[(what, line)] -= 1
+    tell(f"{KILLS} kills under load lose no answer", lost == 0, f"{len(seen)} answers, {len(events)} events in the journal")
+
+
+class Changing(http.server.BaseHTTPRequestHandler):
+    """A discovery source whose list is a new one at each request."""
+
+    asked = 0
+
+    def do_GET(self):
+        Changing.asked += 1
+        targets = [f"h{Changing.asked}x{i}:80" for i in range(15000)]
+        body = json.dumps([{"targets": targets}]).encode()
+        self.send_response(200)
+        self.send_header("content-type", "application/json")
+        self.send_header("content-length", str(len(body)))
+        self.end_headers()
+        self.wfile.write(body)
+
+    def log_message(self, *_):
+        pass
+
+
+def renewals(folder):
+    source = http.server.ThreadingHTTPServer(("127.0.0.1", 0), Changing)
+    threading.Thread(target=source.serve_forever, daemon=True).start()
+    config = {
+        "global": {"scrape_interval": "1s"},
+        "scrape_configs": [
+            {"job_name": "web", "http_sd_configs": [{"url": f"http://127.0.0.1:{source.server_port}/", "refresh_interval": "300ms"}]}
+        ],
+        "allocator": {"settle": "50ms", "lifecycle": True, "collectors": [{"name": "a", "reach": [{"allow": True, "test": "any"}]}]},
+    }
+    journal = f"{folder}/journal"
+    service = Service(folder, journal, config)
+    service.is_up()
+    began = time.monotonic()
+    while not os.path.exists(f"{journal}.2") and time.monotonic() < began + 120:
+        time.sleep(0.1)
+    tell("the allocator is renewed, and its journal begins anew", os.path.exists(f"{journal}.2"))
+    tell("ends", service.quit() == (200, 0))
+    starts = 0
+    for turn in range(KILLS):
+        service = Service(folder, journal, config)
+        starts += service.is_up()
+        time.sleep(random.uniform(0.5, 4))
+        service.it.send_signal(signal.SIGKILL)
+        service.ended()
+    tell(f"{KILLS} kills in the midst of renewals, and it starts each time", starts == KILLS)
+    config["allocator"]["keep"] = 1
+    service = Service(folder, journal, config)
+    service.is_up()
+    old = max(int(name.rsplit(".", 1)[1]) for name in os.listdir(folder) if name.startswith("journal.") and name[8:].isdigit())
+    began = time.monotonic()
+    while not os.path.exists(f"{journal}.{old + 2}") and time.monotonic() < began + 120:
+        time.sleep(0.1)
+    service.quit()
+    source.shutdown()
+    files = sorted((name for name in os.listdir(folder) if name[8:].isdigit()), key=lambda name: int(name[8:]))
+    tell("no more old journals are kept than the configuration says", len(files) == 1, files)
+    for name in [*files, "journal"]:
+        status, events, answers = replayed(f"{folder}/{name}")
+        tell(f"{name} replays", status == 0 and len(events) + 1 == len(answers), f"{len(events)} events, {answers[-1]}")
+
+
+def full_disk(folder):
+    disk = f"{folder}/disk"
+    os.mkdir(disk)
+    mounted = subprocess.run(["mount", "-t", "tmpfs", "-o", "size=64k", "tmpfs", disk], capture_output=True)
+    if mounted.returncode:
+        print("skipped: a full disk (nothing can be mounted here)")
+        return
+    try:
+        service = Service(folder, f"{disk}/journal")
+        service.is_up()
+        status = 200
+        for i in range(3000):
+            status, _, text = ask(service.port, "POST", "/collectors", {"name": "x" * 100 + str(i % 7), "reach": []})
+            if status == 503:
+                break
+        tell("on a full disk what is posted is not done", status == 503, text)
+        tell("reads go on", ask(service.port, "GET", "/jobs/node/targets")[0] == 200)
+        tell("it says that it is not ready", ask(service.port, "GET", "/-/ready")[0] == 503)
+        service.quit()
+    finally:
+        subprocess.run(["umount", "-l", disk])
+
+
+with tempfile.TemporaryDirectory() as top:
+    for part in (words_and_configurations, routes, reloads, signals, absences, journals, kills, renewals, full_disk):
+        folder = f"{top}/{part.__name__}"
+        os.mkdir(folder)
+        part(folder)
+sys.exit(1 if failed else 0)
