@@ -1,7 +1,7 @@
 #!/usr/bin/env python3
-"""Runs `allocd serve` as an operator would, and tells of each thing whether it holds: try_serve.py [KILLS]
+"""Runs `allocd serve` as an operator would, and tells of each thing whether it holds: try_serve.py [KILLS [PART ..]]
 
-Routes, faults of the configuration, reloads, signals, a second start, torn and damaged journals, kills under load, a full disk (where a small file
+Routes, faults of the configuration, reloads, signals, a second start, torn and damaged journals, kills under load, many and silent clients, a source that trickles, a full disk (where a small file
 system can be mounted). It needs Linux and the program (ALLOCD_PROGRAM, or dist/allocd)."""
 
 import collections
@@ -438,6 +438,81 @@ def renewals(folder):
         tell(f"{name} replays", status == 0 and len(events) + 1 == len(answers), f"{len(events)} events, {answers[-1]}")
 
 
+MANY = 300
+
+
+def strangers(folder):
+    journal = f"{folder}/journal"
+    service = Service(folder, journal)
+    service.is_up()
+    port = service.port
+    waits_for(port, "allocd_allocation 1")
+    said = []
+    threads = [threading.Thread(target=lambda: said.append(ask(port, "GET", "/jobs/node/targets?collector_id=a")[0])) for _ in range(MANY)]
+    for it in threads:
+        it.start()
+    for it in threads:
+        it.join()
+    tell(f"{MANY} clients at once are answered", said == [200] * MANY)
+    silent = []
+    for i in range(MANY):
+        it = socket.create_connection(("127.0.0.1", port), timeout=120)
+        it.sendall((b"", b"GET /jobs HTT", b"POST /reports HTTP/1.1\r\nhost: h\r\ncontent-length: 9\r\n\r\n{")[i % 3])
+        silent.append(it)
+    began = time.monotonic()
+    end = began + 150
+    status = None
+    while status is None and time.monotonic() < end:
+        try:
+            status = ask(port, "GET", "/-/healthy")[0]
+        except OSError:
+            pass
+    tell(f"behind {MANY} that fall silent the next one is answered", status == 200, f"after {time.monotonic() - began:.0f} seconds")
+    for it in silent:
+        it.setsockopt(socket.SOL_SOCKET, socket.SO_LINGER, b"\1\0\0\0\0\0\0\0")
+        it.close()
+    tell("resets end their own connections alone", ask(port, "GET", "/-/healthy")[0] == 200)
+    tell("ends", service.quit() == (200, 0))
+    status, events, answers = replayed(journal)
+    takes = sum(event["event"] == "take" for event in events)
+    tell("the journal has each list that was taken, and nothing of the others", status == 0 and takes == MANY, f"{takes} takes, {len(events)} events")
+
+
+class Trickling(http.server.BaseHTTPRequestHandler):
+    """A discovery source that sends a byte at a time, and never all."""
+
+    def do_GET(self):
+        self.send_response(200)
+        self.send_header("content-type", "application/json")
+        self.send_header("content-length", "1000")
+        self.end_headers()
+        try:
+            for _ in range(1000):
+                self.wfile.write(b"[")
+                self.wfile.flush()
+                time.sleep(0.1)
+        except OSError:
+            pass
+
+    def log_message(self, *_):
+        pass
+
+
+def slow_source(folder):
+    source = http.server.ThreadingHTTPServer(("127.0.0.1", 0), Trickling)
+    threading.Thread(target=source.serve_forever, daemon=True).start()
+    config = json.loads(json.dumps(CONFIG))
+    config["allocator"]["fetch_timeout"] = "1s"
+    url = f"http://127.0.0.1:{source.server_port}/"
+    config["scrape_configs"].append({"job_name": "slow", "http_sd_configs": [{"url": url, "refresh_interval": "2s"}]})
+    service = Service(folder, config=config)
+    service.is_up()
+    tell("a source that trickles fails after fetch_timeout", waits_for(service.port, "allocd_refresh_failures_total 1"))
+    tell("others go on", ask(service.port, "GET", "/-/ready")[0] == 200 and waits_for(service.port, "allocd_allocation 1"))
+    tell("ends", service.quit() == (200, 0))
+    source.shutdown()
+
+
 def full_disk(folder):
     disk = f"{folder}/disk"
     os.mkdir(disk)
@@ -461,8 +536,12 @@ def full_disk(folder):
         subprocess.run(["umount", "-l", disk])
 
 
+PARTS = (words_and_configurations, routes, reloads, signals, absences, journals, kills, renewals, strangers, slow_source, full_disk)
+wanted = sys.argv[2:]
 with tempfile.TemporaryDirectory() as top:
-    for part in (words_and_configurations, routes, reloads, signals, absences, journals, kills, renewals, full_disk):
+    for part in PARTS:
+        if wanted and part.__name__ not in wanted:
+            continue
         folder = f"{top}/{part.__name__}"
         os.mkdir(folder)
         part(folder)

@@ -1,9 +1,10 @@
-//! Reallocation on one thread.
+//! Reallocation on one thread, by a desk and of an allocator alone.
 ghost use Rattle.std.specs.Prelude.{◌≡◌};
 
 use crate::opening::{core_of, submitted};
-use alloc_desk::{Desk, DeskName, Pass, ReallocateError, Reallocated};
-use allocation_core::Core;
+use alloc_desk::{Desk, DeskName, Pass, ReallocateError, Reallocated, reallocate};
+use allocation_core::{Answer, Core, Refusal};
+use fleet_events::read_event;
 use std::alloc::Global;
 use std::marker::Brand;
 use std::process::Abort;
@@ -73,5 +74,29 @@ fn reallocate_three_times<L: Ledger, B: Ledger, N: DeskName, R: Wait + Abort>(
     let none = desk.reallocate(rt, alloc, pass, 0);
     assert!(rt; matches!(none, Err(ReallocateError::Overtaken(None))));
     assert_eq!(rt; pass.calls(), 4);
+    Ok(())
+}
+
+#[test]
+fn an_allocator_alone_is_reallocated(rt: HostRuntime) -> Result<(), Fail> {
+    let mut core = core_of(rt.alloc(), "j", 1).ok_or("opens")?;
+    apply(rt.alloc(), &mut core, JOIN).ok_or("joins")?;
+    apply(rt.alloc(), &mut core, DISCOVER).ok_or("discovers")?;
+    reallocate_twice(&rt, rt.alloc(), &mut core)
+}
+
+/// Applies the event of a line.
+fn apply(alloc: Global, core: &mut Core, line: &str) -> Option<Answer> {
+    let event = read_event(alloc, line.as_bytes()).ok()??;
+    core.apply(event).ok()
+}
+
+fn reallocate_twice<R: Abort>(rt: &R, alloc: Global, core: &mut Core) -> Result<(), Fail> {
+    let first = reallocate(alloc, core)?;
+    assert!(rt; matches!(first, Answer::Published(1)));
+    assert!(rt; core.allocation() == [(0, 1)].as_slice());
+    let second = reallocate(alloc, core)?;
+    assert!(rt; matches!(second, Answer::Not(Refusal::Unchanged(1))));
+    assert_eq!(rt; core.current(), 1);
     Ok(())
 }
