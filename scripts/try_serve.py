@@ -231,6 +231,10 @@ def reloads(folder):
     for name in ("journal.1", "journal"):
         status, events, answers = replayed(f"{folder}/{name}")
         tell(f"{name} replays", status == 0 and len(events) + 1 == len(answers), f"{len(events)} events")
+    status, out, _ = run("audit", f"{journal}.1", journal)
+    tell("they are audited", status == 0 and out.endswith("\n"), out.strip().split("\n")[-1])
+    status, out, _ = run("audit", journal, f"{journal}.1")
+    tell("in another order they are not", status == 1, out.strip().split("\n")[-1])
 
 
 def signals(folder):
@@ -422,6 +426,13 @@ def renewals(folder):
         service.it.send_signal(signal.SIGKILL)
         service.ended()
     tell(f"{KILLS} kills in the midst of renewals, and it starts each time", starts == KILLS)
+    old = sorted((name for name in os.listdir(folder) if name[8:].isdigit()), key=lambda name: int(name[8:]))
+    with open(journal, "rb") as it:
+        text = it.read()
+    with open(f"{folder}/whole", "wb") as it:
+        it.write(text[: text.rfind(b"\n") + 1])
+    status, out, _ = run("audit", *(f"{folder}/{name}" for name in old), f"{folder}/whole")
+    tell("all journals are audited", status == 0, out.strip().split("\n")[-1])
     config["allocator"]["keep"] = 1
     service = Service(folder, journal, config)
     service.is_up()

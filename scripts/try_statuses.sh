@@ -6,7 +6,7 @@ set -u
 root=$(cd "$(dirname "$0")/.." && pwd)
 program=${1:-$root/allocd}
 one_of_two=$root/examples/one-of-two.json
-usage='usage: allocd check|plan|relabel|replay|session|serve'
+usage='usage: allocd check|plan|relabel|replay|audit|session|serve'
 bad=0
 
 # is_right NAME STATUS TEXT FOUND: what was found is the text with a line feed (nothing where it is empty), and the status.

@@ -30,7 +30,7 @@ command_in (word ∷ []) = command_named (string_bytes word)
 command_in (word ∷ more ∷ words) = None
 
 abbrev pub usage : List ℕ
-usage = codes "usage: allocd check|plan|relabel|replay|session|serve\n"
+usage = codes "usage: allocd check|plan|relabel|replay|audit|session|serve\n"
 
 -- what the reader has, the writer's bytes before and after, and how the program ends
 abbrev pub RunsAs : Option program.Command → Option (List ℕ) → Option (List ℕ) → Option (List ℕ) → Ending → Type 0

@@ -6,5 +6,6 @@ pub mod Answer
 pub mod Check
 pub mod Plan
 pub mod Replay
+pub mod Audit
 pub mod Relabelling
 pub mod Commands

@@ -38,7 +38,7 @@ pub fn run<R: Read, W: Write>(
         Some(Command::Replay) => run_replay(alloc, reader, writer),
         None => write_last(
             writer,
-            b"usage: allocd check|plan|relabel|replay|session|serve\n",
+            b"usage: allocd check|plan|relabel|replay|audit|session|serve\n",
             Ending::Answered(Status::Unreadable),
         ),
     }

@@ -1,7 +1,9 @@
-//! The program `allocd`: but for `serve`, what it writes to standard output is a stated function of what it reads from standard input.
+//! The program `allocd`: what it writes to standard output is a stated function of what it reads from standard input, or of the files of an
+//! audit; but for `serve`.
 #![tactic(auto)]
 
 mod answer;
+mod auditing;
 mod check;
 mod command;
 mod ending;
@@ -15,6 +17,7 @@ mod runner;
 mod tests;
 mod unreadable;
 
+use auditing::audit_files;
 use command::run;
 use ending::Stop;
 use output::write_stop;
@@ -28,20 +31,25 @@ fn main(rt: HostRuntime) -> ExitCode {
     let mut writer = io::writer(&rt);
     let ending = match words_of(rt.alloc(), env::args(&rt)) {
         Ok(words) => {
-            if let Some(rest) = words_of_serve(words.as_slice()) {
+            if let Some(rest) = words_behind("serve", words.as_slice()) {
                 return serve(&rt, rt, rest);
             }
-            run(rt.alloc(), words.as_slice(), &mut rt.reader(), &mut writer)
+            match words_behind("audit", words.as_slice()) {
+                Some(paths) if !paths.is_empty() => {
+                    audit_files(&rt, rt.alloc(), paths, &mut writer)
+                }
+                _ => run(rt.alloc(), words.as_slice(), &mut rt.reader(), &mut writer),
+            }
         }
         Err(_) => write_stop(&mut writer, &[], Stop::Memory),
     };
     ExitCode::from(ending.exit_status())
 }
 
-/// The words behind `serve`, where that is the first.
-fn words_of_serve(words: &[String]) -> Option<&[String]> {
+/// The words behind a command's, where that is the first.
+fn words_behind<'a>(command: &str, words: &'a [String]) -> Option<&'a [String]> {
     match words.split_first() {
-        Some((first, rest)) if first.as_str() == "serve" => Some(rest),
+        Some((first, rest)) if first.as_str() == command => Some(rest),
         _ => None,
     }
 }

@@ -12,7 +12,7 @@ use std::io::Read;
 use std::process::Abort;
 use std::test::Fail;
 
-const USAGE: &str = "usage: allocd check|plan|relabel|replay|session|serve\n";
+const USAGE: &str = "usage: allocd check|plan|relabel|replay|audit|session|serve\n";
 
 /// A certificate document in its written form.
 const CERTIFICATE: &str =

@@ -1,0 +1,4 @@
+mod FirstLine
+mod Refusals
+mod Ahead
+mod Tallying

@@ -1,0 +1,4 @@
+pub mod Checks
+pub mod Marks
+pub mod Tallies
+pub mod Audits

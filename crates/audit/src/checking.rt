@@ -1,0 +1,61 @@
+//! One journal after another.
+ghost use Rattle.std.specs.Prelude.{◌≡◌, IfOk};
+ghost use Rattle.audit.specs.Checks.{begins, checked, first_fault, first_fault_of};
+
+use crate::fault::{Fault, unreadable};
+use crate::first_line::first_line;
+use crate::renewal::renewal_fault;
+use allocation_core::Core;
+use replay_lines::{Resumption, resume};
+use std::alloc::{AllocError, Global};
+
+/// What a journal leads to, or its first fault. It begins with the renewal of the core, if there is one.
+#[tactic(auto, unfolding(crate::specs::Checks::checked))]
+pub(crate) fn checked(
+    alloc: Global,
+    before: Option<Core>,
+    journal: &[u8],
+) -> Result<Result<Resumption, Fault>, AllocError>
+    ensures { IfOk result (λ r. r ≡ checked before journal.now) }
+{
+    if let Some(fault) = first_fault_of(alloc, before, journal)? {
+        return Ok(Err(fault));
+    }
+    match resume(alloc, journal)? {
+        Ok(resumption) => Ok(Ok(resumption)),
+        Err(damage) => Ok(Err(unreadable(damage))),
+    }
+}
+
+fn first_fault_of(
+    alloc: Global,
+    before: Option<Core>,
+    journal: &[u8],
+) -> Result<Option<Fault>, AllocError>
+    ensures { IfOk result (λ o. o ≡ first_fault_of before journal.now) }
+{
+    match before {
+        Some(core) => first_fault(alloc, core, journal),
+        None => Ok(None),
+    }
+}
+
+/// What is wrong with the first line of a journal that follows the core.
+#[tactic(auto, unfolding(crate::specs::Checks::first_fault))]
+fn first_fault(alloc: Global, core: Core, journal: &[u8]) -> Result<Option<Fault>, AllocError>
+    ensures { IfOk result (λ o. o ≡ first_fault core journal.now) }
+{
+    match resume(alloc, first_line(journal))? {
+        Ok(start) => start_fault(alloc, core, &start.core),
+        Err(damage) => Ok(Some(unreadable(damage))),
+    }
+}
+
+fn start_fault(alloc: Global, core: Core, start: &Core) -> Result<Option<Fault>, AllocError>
+    ensures { IfOk result (λ o. o ≡ begins core start.now) }
+{
+    match renewal_fault(alloc, core, start)? {
+        Some(why) => Ok(Some(Fault { line: 1, why })),
+        None => Ok(None),
+    }
+}

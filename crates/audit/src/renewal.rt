@@ -1,0 +1,78 @@
+//! Whether a state is the renewal of another.
+ghost use Rattle.std.specs.Prelude.{◌≡◌, ◌≢◌, IfErr, IfOk, None, OnOk, Some, if◌then◌else◌};
+ghost use Rattle.allocation_core.specs.Renewed.{IsWhyNot, renewal_refusal, renewed};
+ghost use Rattle.audit.specs.Checks.{refused_why, renewal_fault, same_history};
+
+use crate::fault::Why;
+use allocation_core::{Core, JobSpec, RenewalError};
+use core_history::write_history;
+use lists::Plain;
+use std::alloc::{AllocError, Global};
+
+/// Why the next allocator is not the renewal of the core under its own jobs, if it is not.
+#[tactic(auto, unfolding(crate::specs::Checks::renewal_fault))]
+pub(crate) fn renewal_fault(
+    alloc: Global,
+    core: Core,
+    next: &Core,
+) -> Result<Option<Why>, AllocError>
+    ensures { IfOk result (λ o. o ≡ renewal_fault core next.now) }
+{
+    let jobs = copies(alloc, next.fleet().jobs())?;
+    match renewed_under(core, jobs) {
+        Ok(renewed) => other_state(alloc, &renewed, next),
+        Err(why) => why_refused(why),
+    }
+}
+
+fn renewed_under(core: Core, jobs: Vec<JobSpec>) -> Result<Core, RenewalError>
+    ensures renewed { IfOk result (λ c. c ≡ renewed core jobs.items) }
+    ensures granted { OnOk result (renewal_refusal core jobs.items ≡ None) }
+    ensures refused { IfErr result (λ why. IsWhyNot (renewal_refusal core jobs.items) why) }
+{
+    match core.renew(jobs) {
+        Ok(renewed) => Ok(renewed),
+        Err(refused) => Err(refused.why),
+    }
+}
+
+fn other_state(alloc: Global, renewed: &Core, next: &Core) -> Result<Option<Why>, AllocError>
+    ensures { IfOk result (λ o. o ≡ (if same_history renewed.now next.now then None else Some Why.OtherState)) }
+{
+    if same_history(alloc, renewed, next)? {
+        return Ok(None);
+    }
+    Ok(Some(Why::OtherState))
+}
+
+fn why_refused(why: RenewalError) -> Result<Option<Why>, AllocError>
+    ensures why { IfOk result (λ o. o ≡ refused_why why) }
+    ensures memory { OnOk result (why ≢ RenewalError.Memory) }
+{
+    match why {
+        RenewalError::BadJobs => Ok(Some(Why::BadJobs)),
+        RenewalError::TooManyBins => Ok(Some(Why::TooManyBins)),
+        RenewalError::RoundsSpent => Ok(Some(Why::RoundsSpent)),
+        RenewalError::Memory => Err(AllocError),
+    }
+}
+
+/// Whether both are written as the same history.
+#[tactic(auto, unfolding(crate::specs::Checks::same_history))]
+fn same_history(alloc: Global, core: &Core, other: &Core) -> Result<bool, AllocError>
+    ensures same { IfOk result (λ s. s ≡ same_history core.now other.now) }
+{
+    let history = write_history(alloc, core)?;
+    let other_history = write_history(alloc, other)?;
+    Ok(history.as_str() == other_history.as_str())
+}
+
+fn copies(alloc: Global, jobs: &[JobSpec]) -> Result<Vec<JobSpec>, AllocError>
+    ensures { IfOk result (λ v. v.items ≡ jobs.now) }
+{
+    let mut copies = Vec::with_capacity(alloc, jobs.len())?;
+    for job in jobs {
+        copies.push(job.copy()?)?;
+    }
+    Ok(copies)
+}
