@@ -369,16 +369,83 @@ def kills(folder):
         stop.set()
         for it in threads:
             it.join()
-        status, events, answers = replayed(journal)
-        told = collections.Counter((key(event), answer) for event, answer in zip(events, answers))
-        for what, body in seen:
-            body = json.loads(body)
-            line = body.get("answer") or body.get("refused")
-            if told[(what, line)] == 0:
-                lost += 1
-                print("lost:", what, line)
-            told[(what, line)] -= 1
+        lost += lost_of(seen, [journal])
+    _, events, _ = replayed(journal)
     tell(f"{KILLS} kills under load lose no answer", lost == 0, f"{len(seen)} answers, {len(events)} events in the journal")
+
+
+def lost_of(seen, journals):
+    """How many answers that clients saw are those of no event in the journals."""
+    told = collections.Counter()
+    for journal in journals:
+        _, events, answers = replayed(journal)
+        told.update((key(event), answer) for event, answer in zip(events, answers))
+    lost = 0
+    for what, body in seen:
+        body = json.loads(body)
+        line = body.get("answer") or body.get("refused")
+        if told[(what, line)] == 0:
+            lost += 1
+            print("lost:", what, line)
+        told[(what, line)] -= 1
+    return lost
+
+
+def old_journals(journal):
+    """The journals before the last one, in their order."""
+    folder, name = os.path.split(journal)
+    numbers = sorted(int(it[len(name) + 1 :]) for it in os.listdir(folder) if it.startswith(f"{name}.") and it[len(name) + 1 :].isdigit())
+    return [f"{journal}.{it}" for it in numbers]
+
+
+def reload_often(service, configs, stop, seed):
+    """Has the service read one configuration after the other until it is gone."""
+    dice = random.Random(seed)
+    while not stop.is_set():
+        try:
+            rewrite(service, dice.choice(configs))
+        except (OSError, http.client.HTTPException):
+            return
+        time.sleep(dice.uniform(0, 0.1))
+
+
+def kills_while_reloading(folder):
+    journal = f"{folder}/reloading"
+    more_jobs = json.loads(json.dumps(CONFIG))
+    more_jobs["scrape_configs"].append({"job_name": "more", "static_configs": [{"targets": ["127.0.0.1:9300"]}]})
+    other_rules = json.loads(json.dumps(CONFIG))
+    other_rules["scrape_configs"][0]["relabel_configs"] = [{"target_label": "x", "replacement": "y"}]
+    configs = [CONFIG, more_jobs, other_rules]
+    seen, starts = [], 0
+    for turn in range(KILLS + 1):
+        for config in configs:
+            service = Service(folder, journal, config)
+            if service.is_up():
+                break
+            service.ended()
+        else:
+            tell(f"it starts after kill {turn}", False)
+            return
+        starts += 1
+        if turn == KILLS:
+            service.quit()
+            break
+        stop = threading.Event()
+        threads = [threading.Thread(target=load, args=(service.port, seen, stop, 8 * turn + i)) for i in range(4)]
+        threads.append(threading.Thread(target=reload_often, args=(service, [*configs, "{"], stop, turn)))
+        for it in threads:
+            it.start()
+        time.sleep(random.uniform(0.3, 1.5))
+        service.it.send_signal(signal.SIGKILL)
+        service.ended()
+        stop.set()
+        for it in threads:
+            it.join()
+    journals = [*old_journals(journal), journal]
+    lost = lost_of(seen, journals)
+    tell(f"{KILLS} kills in the midst of reloads lose no answer, and it starts each time", lost == 0 and starts == KILLS + 1, f"{len(seen)} answers, {len(journals)} journals")
+    status, out, _ = run("audit", *journals)
+    tell("all journals are audited", status == 0, out.strip().split("\n")[-1])
 
 
 class Changing(http.server.BaseHTTPRequestHandler):
@@ -547,7 +614,7 @@ def full_disk(folder):
         subprocess.run(["umount", "-l", disk])
 
 
-PARTS = (words_and_configurations, routes, reloads, signals, absences, journals, kills, renewals, strangers, slow_source, full_disk)
+PARTS = (words_and_configurations, routes, reloads, signals, absences, journals, kills, kills_while_reloading, renewals, strangers, slow_source, full_disk)
 wanted = sys.argv[2:]
 with tempfile.TemporaryDirectory() as top:
     for part in PARTS:

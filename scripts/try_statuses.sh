@@ -32,6 +32,8 @@ is_right "refused" 1 'refused SumsDiffer 4 3' "$(sed 's/"pairs":\[\[0,0\]\]/"pai
 is_right "unreadable" 2 'unreadable NotJson' "$(echo '{' | run check)"
 is_right "no argument" 2 "$usage" "$(run < "$one_of_two")"
 is_right "two arguments" 2 "$usage" "$(run check check < "$one_of_two")"
+is_right "the version" 0 'allocd 0.1.0' "$(run --version < "$one_of_two")"
+is_right "a session that is no JSON" 2 'unreadable NotJson' "$(echo '{' | run session)"
 is_right "an argument that is no text" 2 "$usage" "$(run $'\xff' < "$one_of_two")"
 is_right "a read that fails" 3 'device' "$(run check < "$root")"
 is_right "no memory" 3 'memory' "$(head -c 60000000 /dev/zero | (ulimit -v 50000; run check))"

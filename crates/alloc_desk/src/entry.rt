@@ -2,7 +2,7 @@
 ghost use Rattle.std.specs.Prelude.{◌≡◌, IfOk, drop, take};
 
 use allocation_core::{Answer, Event};
-use lists::{List, Plain};
+use lists::{List, Plain, copies};
 use std::alloc::{AllocError, Global};
 
 /// One event, and how it was answered.
@@ -40,15 +40,6 @@ pub(crate) fn entries(
     ensures { IfOk result (λ l. l ≡ take most (drop from journal.now)) }
 {
     let rest = journal.get(from..).unwrap_or(&[]);
-    copies(alloc, rest.get(..most).unwrap_or(rest))
-}
-
-fn copies(alloc: Global, entries: &[Entry]) -> Result<List<Entry>, AllocError>
-    ensures { IfOk result (λ l. l ≡ entries.now) }
-{
-    let mut copies = List::new(alloc);
-    for entry in entries {
-        copies.push(entry.copy()?)?;
-    }
-    Ok(copies)
+    let entries = copies(alloc, rest.get(..most).unwrap_or(rest))?;
+    Ok(List::from_vec(entries))
 }

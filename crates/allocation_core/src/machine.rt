@@ -1,7 +1,8 @@
 //! The event machine: one step for each event, and readers of the state.
-ghost use Rattle.std.specs.Prelude.{◌≡◌, ◌↔◌, ◌+◌, Some, None, Ok, Err, true, false, slice_get, MatchOption, IfOk, IsOk, OnOk, OnErr};
+ghost use Rattle.std.specs.Prelude.{◌≡◌, ◌↔◌, ◌+◌, Some, None, Ok, Err, true, false, slice_get, MatchOption, IfOk, IsOk, OnOk, OnErr, length};
 ghost use Rattle.scrape_books.specs.Books.{total_of};
 ghost use Rattle.allocation_core.specs.State.{current_of, first_state, held_by};
+ghost use Rattle.handover.specs.Handover.{taken_by};
 ghost use Rattle.fleet.specs.Fleet.{id_named};
 ghost use Rattle.fleet.specs.Jobs.{are_jobs};
 ghost use Rattle.allocation_core.specs.Steps.{answer_of, refusal_of, state_after, gained};
@@ -125,6 +126,13 @@ impl Core {
         self.books.total()
     }
 
+    /// How many reports are booked.
+    pub fn reports(&self) -> usize
+        ensures { result ≡ length self.now.booked }
+    {
+        self.books.entries().len()
+    }
+
     /// The live collectors in order of number.
     pub fn collectors(&self) -> &[Collector]
         ensures { result.now ≡ self.now.fleet.collectors }
@@ -155,6 +163,13 @@ impl Core {
             Ok(held) => Ok(held),
             Err(_) => Err(AllocError),
         }
+    }
+
+    /// The number of the allocation that a collector took last, 0 where it took none.
+    pub fn taken(&self, collector: CollectorId) -> u32
+        ensures { result ≡ taken_by self.now.taken collector }
+    {
+        self.holders.taken(collector)
     }
 
     /// The instance and the plan of the last allocation that was published, both empty before the first.

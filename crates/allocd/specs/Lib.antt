@@ -6,6 +6,7 @@ pub mod Answer
 pub mod Check
 pub mod Plan
 pub mod Replay
+pub mod Session
 pub mod Audit
 pub mod Relabelling
 pub mod Commands

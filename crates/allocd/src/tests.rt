@@ -80,7 +80,7 @@ fn picks_the_command(rt: HostRuntime) -> Result<(), Fail> {
         "unreadable Shape\n",
         Status::Unreadable,
     )?;
-    for word in ["session", "", "Check", "check "] {
+    for word in ["", "Check", "check "] {
         answers(&rt, alloc, word, CERTIFICATE, USAGE, Status::Unreadable)?;
     }
     Ok(())

@@ -1,6 +1,6 @@
 -- What an audit writes: a line for each journal, and then a line of the whole; at the first journal with a fault, its fault and
 -- nothing after it. Journals are counted from 1, as lines are.
-use Rattle.std.specs.Prelude.{◌≡◌, ℕ, ◌+◌, ◌-◌, ◌^◌, min, List, [], ◌∷◌, ◌++◌, Option, Some, None, Result, Ok, Err, codes}
+use Rattle.std.specs.Prelude.{◌≡◌, ℕ, ◌+◌, ◌-◌, ◌^◌, min, length, List, [], ◌∷◌, ◌++◌, Option, Some, None, Result, Ok, Err, codes}
 use Rattle.std.specs.Fmt.{decimal}
 use Rattle.scrape_books.specs.Books.{total_of}
 use Rattle.allocation_core.specs.State.{State, current_of}
@@ -21,14 +21,17 @@ pub record Report : Type 0 where
 
 -- ---- the lines
 
-abbrev pub counts_line : ℕ → ℕ → ℕ → ℕ → ℕ → List ℕ
-counts_line file events allocations total uncovered =
-    codes "file=" ++ (decimal file ++ (codes " events=" ++ (decimal events ++ (codes " allocations=" ++ (decimal allocations ++ (codes " total=" ++ (decimal total
-    ++ (codes " uncovered=" ++ (decimal uncovered ++ codes "\n")))))))))
+-- how many events a journal has, and the number of the last allocation
+abbrev pub events_part : ℕ → ℕ → ℕ → List ℕ
+events_part file events allocations = codes "file=" ++ (decimal file ++ (codes " events=" ++ (decimal events ++ (codes " allocations=" ++ decimal allocations))))
+
+-- what is booked, and how many live targets nobody holds
+abbrev pub books_part : ℕ → ℕ → ℕ → List ℕ
+books_part booked total uncovered = codes " booked=" ++ (decimal booked ++ (codes " total=" ++ (decimal total ++ (codes " uncovered=" ++ (decimal uncovered ++ codes "\n")))))
 
 -- of a journal: how many events it has, and the state in which it ends
 abbrev pub journal_line : ℕ → Resumption → List ℕ
-journal_line file end = counts_line file end.events (current_of end.core) (total_of end.core.booked) (uncovered end.core)
+journal_line file end = events_part file end.events (current_of end.core) ++ books_part (length end.core.booked) (total_of end.core.booked) (uncovered end.core)
 
 abbrev pub why_name : Why → List ℕ
 why_name Unreadable = codes "Unreadable"

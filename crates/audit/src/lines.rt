@@ -1,9 +1,12 @@
 //! The lines of an audit.
-ghost use Rattle.std.specs.Prelude.{◌≡◌, ◌++◌, OnErr, OnOk};
-ghost use Rattle.audit.specs.Audits.{counts_line, fault_line, journal_line, whole_line, why_name};
+ghost use Rattle.std.specs.Prelude.{◌≡◌, ◌++◌, IfOk, OnErr, OnOk, length, string_bytes};
+ghost use Rattle.scrape_books.specs.Books.{total_of};
+ghost use Rattle.audit.specs.Tallies.{uncovered};
+ghost use Rattle.audit.specs.Audits.{books_part, events_part, fault_line, journal_line, whole_line, why_name};
 
 use crate::fault::{Fault, Why};
 use crate::uncovered::uncovered;
+use allocation_core::Core;
 use replay_lines::Resumption;
 use std::alloc::{AllocError, Global};
 
@@ -17,30 +20,33 @@ pub(crate) fn write_journal(
     ensures text { OnOk result (text.new.items ≡ text.old.items ++ journal_line file end.now) }
     ensures memory { OnErr result (text.new.items ≡ text.old.items) }
 {
-    let events = end.events;
-    let allocations = end.core.current();
-    let total = end.core.total();
-    let uncovered = uncovered(&end.core)?;
-    write_counts(alloc, file, events, allocations, total, uncovered, text)
+    let events = events_part(alloc, file, end.events, end.core.current())?;
+    let books = books_part(alloc, &end.core)?;
+    let (events, books) = (events.as_str(), books.as_str());
+    let line = format!(in alloc; "{events}{books}")?;
+    text.extend_from_slice(line.as_bytes())?;
+    Ok(())
 }
 
-fn write_counts(
+fn events_part(
     alloc: Global,
     file: usize,
     events: u64,
     allocations: u32,
-    total: u128,
-    uncovered: usize,
-    text: &mut Vec<u8>,
-) -> Result<(), AllocError>
-    ensures text { OnOk result (text.new.items ≡ text.old.items ++ counts_line file events allocations total uncovered) }
-    ensures memory { OnErr result (text.new.items ≡ text.old.items) }
+) -> Result<String, AllocError>
+    ensures { IfOk result (λ s. string_bytes s ≡ events_part file events allocations) }
 {
-    let line = format!(in alloc;
-        "file={file} events={events} allocations={allocations} total={total} uncovered={uncovered}\n"
-    )?;
-    text.extend_from_slice(line.as_bytes())?;
-    Ok(())
+    format!(in alloc; "file={file} events={events} allocations={allocations}")
+}
+
+/// What a state has in its books, and how many live targets nobody holds.
+fn books_part(alloc: Global, core: &Core) -> Result<String, AllocError>
+    ensures { IfOk result (λ s. string_bytes s ≡ books_part (length core.now.booked) (total_of core.now.booked) (uncovered core.now)) }
+{
+    let booked = core.reports();
+    let total = core.total();
+    let uncovered = uncovered(core)?;
+    format!(in alloc; " booked={booked} total={total} uncovered={uncovered}\n")
 }
 
 /// Writes the line of a journal's fault.

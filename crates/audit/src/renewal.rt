@@ -6,7 +6,7 @@ ghost use Rattle.audit.specs.Checks.{refused_why, renewal_fault, same_history};
 use crate::fault::Why;
 use allocation_core::{Core, JobSpec, RenewalError};
 use core_history::write_history;
-use lists::Plain;
+use lists::copies;
 use std::alloc::{AllocError, Global};
 
 /// Why the next allocator is not the renewal of the core under its own jobs, if it is not.
@@ -65,14 +65,4 @@ fn same_history(alloc: Global, core: &Core, other: &Core) -> Result<bool, AllocE
     let history = write_history(alloc, core)?;
     let other_history = write_history(alloc, other)?;
     Ok(history.as_str() == other_history.as_str())
-}
-
-fn copies(alloc: Global, jobs: &[JobSpec]) -> Result<Vec<JobSpec>, AllocError>
-    ensures { IfOk result (λ v. v.items ≡ jobs.now) }
-{
-    let mut copies = Vec::with_capacity(alloc, jobs.len())?;
-    for job in jobs {
-        copies.push(job.copy()?)?;
-    }
-    Ok(copies)
 }

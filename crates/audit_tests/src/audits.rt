@@ -5,7 +5,7 @@ use std::alloc::Global;
 use std::process::Abort;
 
 /// The line of the first journal.
-const FIRST: &str = "file=1 events=5 allocations=1 total=5 uncovered=1\n";
+const FIRST: &str = "file=1 events=5 allocations=1 booked=1 total=5 uncovered=1\n";
 
 /// A journal, and behind it one that begins with this line and has these events.
 fn two(alloc: Global, next: &str, events: &str) -> Option<Vec<List<u8>>> {
@@ -45,7 +45,7 @@ fn audits_one(rt: HostRuntime) -> Result<(), &'static str> {
 fn follows_a_renewal(rt: HostRuntime) -> Result<(), &'static str> {
     let journals = following(rt.alloc(), ONE_JOB, "{\"event\":\"round\"}\n");
     let Ok(wanted) = format!(in rt.alloc();
-        "{FIRST}file=2 events=1 allocations=1 total=0 uncovered=1\nconsistent files=2 events=6 total=5\n"
+        "{FIRST}file=2 events=1 allocations=1 booked=0 total=0 uncovered=1\nconsistent files=2 events=6 total=5\n"
     ) else {
         return Err("no memory");
     };
@@ -57,7 +57,7 @@ fn follows_a_renewal(rt: HostRuntime) -> Result<(), &'static str> {
 fn follows_a_change_of_jobs(rt: HostRuntime) -> Result<(), &'static str> {
     let journals = following(rt.alloc(), TWO_JOBS, "");
     let Ok(wanted) = format!(in rt.alloc();
-        "{FIRST}file=2 events=0 allocations=1 total=0 uncovered=1\nconsistent files=2 events=5 total=5\n"
+        "{FIRST}file=2 events=0 allocations=1 booked=0 total=0 uncovered=1\nconsistent files=2 events=5 total=5\n"
     ) else {
         return Err("no memory");
     };

@@ -29,10 +29,7 @@ impl<R: Wait + Clock + Eprint + Copy, L: Ledger, B: Ledger, N: DeskName> Shared<
 
     fn enter_groups(&self, pass: &mut Pass<L, B, N>, job: &Job) -> Result<(), AllocError> {
         let event = static_targets(self.alloc, job)?;
-        if let Some(answer) = self.enter(pass, event) {
-            self.log_answer(job.name.as_str(), &answer);
-        }
-        Ok(())
+        self.enter_first(pass, job.name.as_str(), event)
     }
 
     /// Whether the static groups of the job at a place list a target by now.
@@ -50,12 +47,26 @@ impl<R: Wait + Clock + Eprint + Copy, L: Ledger, B: Ledger, N: DeskName> Shared<
             let name = collector.name.as_str();
             if self.desk.named(&self.rt, pass, name).is_none() {
                 let event = joining(collector)?;
-                if let Some(answer) = self.enter(pass, event) {
-                    self.log_answer(name, &answer);
-                }
+                self.enter_first(pass, name, event)?;
             }
         }
         Ok(())
+    }
+
+    /// Enters what a service begins with. It does not begin without it.
+    fn enter_first(
+        &self,
+        pass: &mut Pass<L, B, N>,
+        about: &str,
+        event: Event,
+    ) -> Result<(), AllocError> {
+        match self.enter(pass, event) {
+            Some(answer) => {
+                self.log_answer(about, &answer);
+                Ok(())
+            }
+            None => Err(AllocError),
+        }
     }
 }
 

@@ -5,6 +5,7 @@ use alloc_desk::{DeskName, EnterError, Pass};
 use fleet_events::{Answer, Event};
 use log::{info, warn};
 use logfmt::{Logfmt, Quoted};
+use sd_server::EventKind;
 use std::sync::Wait;
 use std::sync::ledger::Ledger;
 use std::time::Clock;
@@ -16,8 +17,12 @@ impl<R: Wait + Clock + Eprint + Copy, L: Ledger, B: Ledger, N: DeskName> Shared<
         if self.is_broken() {
             return None;
         }
+        let kind = EventKind::of(&event);
         match self.desk.submit(&self.rt, pass, event) {
-            Ok(receipt) => Some(receipt.answer),
+            Ok(receipt) => {
+                self.state.count_event(&self.rt, kind, &receipt.answer);
+                Some(receipt.answer)
+            }
             Err(EnterError::JournalFull) => {
                 self.control.end(&self.rt, Ending::Full);
                 None

@@ -2,16 +2,18 @@
 use crate::shared::Shared;
 use alloc_desk::{DeskName, Pass};
 use durable_journal::{append, journal_lines};
-use log::error;
+use lists::List;
+use log::{error, warn};
 use logfmt::Logfmt;
 use sd_server::Kept;
+use std::alloc::AllocError;
 use std::fs::OpenFile;
-use std::io;
 use std::io::Write;
 use std::sync::Wait;
 use std::sync::atomic::{AtomicBool, Ordering};
 use std::sync::ledger::Ledger;
 use std::time::{Clock, Duration};
+use std::{io, thread};
 
 /// How many entries are written at once at most.
 const MOST_AT_ONCE: usize = 4_096;
@@ -29,49 +31,83 @@ pub(crate) struct Keeper<'a, L: Ledger, B: Ledger, N: DeskName, F> {
     pub(crate) is_last: &'a AtomicBool,
 }
 
+/// What is to be written of a journal.
+#[derive(Drop)]
+struct News {
+    /// How many entries.
+    entries: usize,
+    lines: List<u8>,
+}
+
 impl<R: Wait + Clock + Eprint + Copy, L: Ledger, B: Ledger, N: DeskName> Shared<R, L, B, N> {
-    /// Writes what is new in the journal, until all others have ended or the device fails.
+    /// Writes what is new in the journal, until all others have ended or the device fails. What finds no memory is tried again.
     pub(crate) fn keep_journal<F: Write + OpenFile>(&self, keeper: &mut Keeper<'_, L, B, N, F>) {
         let mut written = 0;
         for _ in self.rt.forever() {
             let is_last = keeper.is_last.load(Ordering::SeqCst);
-            match self.keep_more(keeper, written) {
+            let step = match self.news(keeper, written) {
+                Ok(news) => self.keep_news(keeper, written, &news),
+                Err(AllocError) => self.wait_for_memory(is_last),
+            };
+            match step {
+                Ok(0) if is_last => return,
                 Ok(0) => {
-                    if is_last {
-                        return;
-                    }
                     keeper
                         .kept
                         .wait_for_wish(&self.rt, Duration::from_millis(LOOK));
                 }
                 Ok(more) => written = written.saturating_add(more),
-                Err(error) => {
-                    error!(Logfmt(self.rt); "the journal cannot be written: {error}");
-                    self.state.break_down();
-                    keeper.kept.fail(&self.rt);
-                    return;
-                }
+                Err(error) => return self.give_up(keeper, error),
             }
         }
     }
 
-    /// Writes some entries from a position on, and says how many.
-    fn keep_more<F: Write + OpenFile>(
+    /// The lines of some entries from a position on.
+    fn news<F>(
         &self,
         keeper: &mut Keeper<'_, L, B, N, F>,
         from: usize,
-    ) -> io::Result<usize> {
+    ) -> Result<News, AllocError> {
         let entries = self
             .desk
             .entries(&self.rt, self.alloc, keeper.pass, from, MOST_AT_ONCE)?;
-        let count = entries.len();
-        if count > 0 {
-            let lines = journal_lines(self.alloc, entries.as_slice())?;
-            append(keeper.file, lines.as_slice())?;
+        Ok(News {
+            entries: entries.len(),
+            lines: journal_lines(self.alloc, entries.as_slice())?,
+        })
+    }
+
+    /// Writes the lines of the entries from a position on, and says how many those are.
+    fn keep_news<F: Write + OpenFile>(
+        &self,
+        keeper: &mut Keeper<'_, L, B, N, F>,
+        from: usize,
+        news: &News,
+    ) -> io::Result<usize> {
+        if news.entries > 0 {
+            append(keeper.file, news.lines.as_slice())?;
+            self.state.count_written(news.lines.len() as u64);
             keeper
                 .kept
-                .keep(&self.rt, from.saturating_add(count) as u64);
+                .keep(&self.rt, from.saturating_add(news.entries) as u64);
         }
-        Ok(count)
+        Ok(news.entries)
+    }
+
+    /// Nothing is written until there is memory, for which the last turn does not wait.
+    fn wait_for_memory(&self, is_last: bool) -> io::Result<usize> {
+        if is_last {
+            return Err(AllocError.into());
+        }
+        warn!(Logfmt(self.rt); "no memory to write the journal, tried again");
+        thread::sleep(&self.rt, Duration::from_millis(LOOK));
+        Ok(0)
+    }
+
+    /// The device failed: nothing is kept any more.
+    fn give_up<F>(&self, keeper: &Keeper<'_, L, B, N, F>, error: io::Error) {
+        error!(Logfmt(self.rt); "the journal cannot be written: {error}");
+        self.state.break_down();
+        keeper.kept.fail(&self.rt);
     }
 }

@@ -13,6 +13,7 @@ mod entering;
 mod keeping;
 mod office;
 mod one_desk;
+mod publishing;
 mod refreshing;
 mod renewing;
 mod scheduling;

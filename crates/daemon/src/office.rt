@@ -39,7 +39,11 @@ impl<S: Scrape + Drop, F: Drop, C: Configuration + Drop> Office<S, F, C> {
         scrape: S,
         configuration: C,
     ) -> io::Result<Office<S, F, C>> {
-        let state = ServiceState::new(service.settings.lifecycle, service.sources.len() as u64);
+        let state = ServiceState::new(
+            alloc,
+            service.settings.lifecycle,
+            service.sources.len() as u64,
+        );
         Ok(Office {
             listener,
             pages: Arc::try_clone(&service.pages)?,

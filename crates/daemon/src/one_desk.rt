@@ -15,7 +15,7 @@ use crate::shared::Shared;
 use alloc_desk::{Desk, DeskName, Pass};
 use allocation_core::Core;
 use http_get::Scrape;
-use sd_server::{DEFAULT_WORKERS, Handler, Kept, Times, Workers, serve_by_workers};
+use sd_server::{DEFAULT_WORKERS, Handler, Kept, ListTexts, Times, Workers, serve_by_workers};
 use std::alloc::{AllocError, AllocGlobal, Global};
 use std::fs::OpenFile;
 use std::io::Write;
@@ -81,6 +81,7 @@ where
         pages: Arc::try_clone(&office.pages)?,
         state: Arc::try_clone(&office.state)?,
         kept: kept_of(alloc, &office.file)?,
+        texts: Arc::new(alloc, ListTexts::new(alloc))?,
     };
     let ending = run(rt, alloc, service, office, &handler, &mut crew)?;
     let passes = crew.dismiss(alloc)?;
@@ -142,6 +143,7 @@ where
         kept: another_kept(&handler.kept)?,
     };
     if office.is_new {
+        shared.state.forget_sources(rt);
         shared.enter_static_groups(&mut crew.scheduler, service.jobs())?;
         let collectors = service.settings.collectors.as_slice();
         shared.enter_collectors(&mut crew.scheduler, collectors)?;
@@ -298,6 +300,7 @@ fn closed<R: Drop, L: Ledger, B: Ledger, N: DeskName>(
         pages: _,
         state: _,
         kept: _,
+        texts: _,
     } = handler;
     let (Some(desk), Some(pass)) = (Arc::into_inner(desk), Arc::into_inner(pass)) else {
         return Err(io::ErrorKind::ResourceBusy.into());

@@ -4,11 +4,13 @@ use crate::source::Source;
 use alloc_desk::{DeskName, Pass};
 use fleet_events::{Answer, Event};
 use http_get::{RefreshError, Scrape, refresh};
-use lists::List;
+use lists::{List, Plain, Text};
 use log::warn;
-use logfmt::{Logfmt, Quoted};
+use logfmt::{Logfmt, Quoted, timestamp};
 use relabel::Rules;
 use sd_documents::Job;
+use sd_server::SourceNote;
+use std::alloc::AllocError;
 use std::sync::atomic::Ordering;
 use std::sync::ledger::Ledger;
 use std::sync::{Arc, Wait};
@@ -85,7 +87,9 @@ impl<R: Wait + Clock + Eprint + Copy, L: Ledger, B: Ledger, N: DeskName> Shared<
         source: &mut Source,
     ) {
         self.state.count_refresh();
-        match self.list_of(job, scrape, source) {
+        let list = self.list_of(job, scrape, source);
+        self.note_refresh(job, source, &list);
+        match list {
             Ok(event) => self.submit_news(pass, job.name.as_str(), source, event),
             Err(error) => {
                 self.state.count_failed_refresh();
@@ -94,6 +98,39 @@ impl<R: Wait + Clock + Eprint + Copy, L: Ledger, B: Ledger, N: DeskName> Shared<
                 warn!(Logfmt(self.rt); about:% = about, source = number; "refresh failed: {error}");
             }
         }
+    }
+
+    /// Notes for those who look at the service how a refresh ended.
+    fn note_refresh(&self, job: &Job, source: &Source, list: &Result<Event, RefreshError>) {
+        let Ok(note) = self.note_of(job, source, list) else {
+            return;
+        };
+        if self.state.note_refresh(&self.rt, note).is_err() {
+            warn!(Logfmt(self.rt); "no memory to note a refresh");
+        }
+    }
+
+    fn note_of(
+        &self,
+        job: &Job,
+        source: &Source,
+        list: &Result<Event, RefreshError>,
+    ) -> Result<SourceNote, AllocError> {
+        let job = job.name.copy()?;
+        let fault = match list {
+            Ok(_) => "",
+            Err(error) => error.name(),
+        };
+        let fault = Text::from_str(self.alloc, fault)?;
+        let at = timestamp(&self.rt, self.alloc).ok_or(AllocError)?;
+        Ok(SourceNote {
+            job,
+            number: source.settings.number,
+            refreshes: 1,
+            failures: u64::from(list.is_err()),
+            at: Text::from_string(at),
+            fault,
+        })
     }
 
     /// What a source lists now. The job's rules are compiled for each refresh, so that no threads share them.

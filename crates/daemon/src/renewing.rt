@@ -9,10 +9,10 @@ use crate::source::Source;
 use allocation_core::{Core, JobSpec, NotRenewed};
 use durable_journal::{Archive, are_jobs_of, renewed_line};
 use http_get::Scrape;
-use lists::Plain;
+use lists::copies;
 use log::{info, warn};
 use logfmt::Logfmt;
-use replay_lines::{Resumption, resume};
+use replay_lines::resume;
 use std::alloc::{AllocError, Global};
 use std::io;
 use std::time::Clock;
@@ -83,10 +83,19 @@ where
 /// The jobs of a service as an allocator has them, and its sources.
 fn parts_of(alloc: Global, service: &Service) -> io::Result<(Vec<JobSpec>, Vec<Source>)> {
     let sources = sources_of(alloc, service, false)?;
+    let jobs = jobs_of(alloc, service)?;
+    Ok((jobs, sources))
+}
+
+fn jobs_of(alloc: Global, service: &Service) -> io::Result<Vec<JobSpec>> {
     match resume(alloc, service.line().as_bytes())? {
-        Ok(Resumption { core, .. }) => Ok((copied(alloc, core.fleet().jobs())?, sources)),
+        Ok(resumption) => Ok(copied_jobs(alloc, &resumption.core)?),
         Err(_) => Err(io::ErrorKind::InvalidData.into()),
     }
+}
+
+fn copied_jobs(alloc: Global, core: &Core) -> Result<Vec<JobSpec>, AllocError> {
+    copies(alloc, core.fleet().jobs())
 }
 
 /// The allocator under the jobs of a service, and whether it is: it is as it was where they are its own, and else renewed.
@@ -120,7 +129,7 @@ fn renewed<R: Clock + Eprint + Copy, F: Drop, A: Archive<F>>(
 ) -> io::Result<Core>
     ensures { IfOk result (IsLater core) }
 {
-    let Ok(jobs) = copied(alloc, core.fleet().jobs()) else {
+    let Ok(jobs) = copied_jobs(alloc, &core) else {
         warn!(Logfmt(*rt); "no memory to renew the allocator");
         return Ok(core);
     };
@@ -153,14 +162,6 @@ fn renewed_under<R: Clock + Eprint + Copy, F: Drop, A: Archive<F>>(
             Ok((core, false))
         }
     }
-}
-
-fn copied(alloc: Global, jobs: &[JobSpec]) -> Result<Vec<JobSpec>, AllocError> {
-    let mut copies = Vec::with_capacity(alloc, jobs.len())?;
-    for job in jobs {
-        copies.push(job.copy()?)?;
-    }
-    Ok(copies)
 }
 
 /// Begins the journal of a renewed allocator, where the service has a journal.

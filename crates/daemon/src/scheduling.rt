@@ -5,7 +5,7 @@ use crate::control::Ending;
 use crate::shared::Shared;
 use alloc_desk::{DeskName, MOST_ENTRIES, Pass, ReallocateError, Reallocated};
 use fleet::MOST_KNOWN_TARGETS;
-use fleet_events::{Answer, Event};
+use fleet_events::{Answer, CollectorId, Event, TargetId};
 use lists::Text;
 use log::{error, info, warn};
 use logfmt::{Logfmt, Quoted};
@@ -41,6 +41,8 @@ pub(crate) struct Schedule<C> {
     pub(crate) configuration: C,
     /// Whether the configuration was read again, and is to be followed.
     pub(crate) is_read: bool,
+    /// Who holds what, as the last allocation had it.
+    pub(crate) held: Vec<(TargetId, CollectorId)>,
 }
 
 impl<C> Schedule<C> {
@@ -51,6 +53,7 @@ impl<C> Schedule<C> {
             attendance: Attendance::new(alloc),
             configuration,
             is_read: false,
+            held: Vec::new(alloc),
         }
     }
 }
@@ -69,6 +72,8 @@ impl<R: Wait + Clock + Eprint + Copy, L: Ledger, B: Ledger, N: DeskName> Shared<
 
     fn take_turns<C: Configuration>(&self, pass: &mut Pass<L, B, N>, schedule: &mut Schedule<C>) {
         schedule.attendance.begin_desk();
+        schedule.held.clear();
+        self.remember_held(pass, schedule);
         for _ in self.rt.forever() {
             if self
                 .control
@@ -133,15 +138,16 @@ impl<R: Wait + Clock + Eprint + Copy, L: Ledger, B: Ledger, N: DeskName> Shared<
         if open < self.round {
             return;
         }
+        let Some(answer) = self.enter(pass, Event::NextRound) else {
+            return;
+        };
         // Where rounds were missed the next one begins now.
         schedule.opened = match schedule.opened.checked_add(self.round) {
             Some(next) if open < self.round.saturating_mul(2) => next,
             _ => now,
         };
-        if let Some(answer) = self.enter(pass, Event::NextRound) {
-            if matches!(answer, Answer::Not(_)) {
-                self.log_answer("the next round", &answer);
-            }
+        if matches!(answer, Answer::Not(_)) {
+            self.log_answer("the next round", &answer);
         }
     }
 
@@ -159,15 +165,20 @@ impl<R: Wait + Clock + Eprint + Copy, L: Ledger, B: Ledger, N: DeskName> Shared<
         schedule.changed = Some(since);
         if now.saturating_duration_since(since) >= self.settle {
             schedule.changed = None;
-            self.reallocate(pass);
+            self.reallocate(pass, schedule);
         }
     }
 
-    fn reallocate(&self, pass: &mut Pass<L, B, N>) {
+    fn reallocate<C>(&self, pass: &mut Pass<L, B, N>, schedule: &mut Schedule<C>) {
         self.state.count_reallocation();
-        match self.desk.reallocate(&self.rt, self.alloc, pass, TRIES) {
+        let begun = Instant::now(&self.rt);
+        let found = self.desk.reallocate(&self.rt, self.alloc, pass, TRIES);
+        let milliseconds = self.milliseconds_since(begun.ok());
+        self.state.count_search(&self.rt, milliseconds);
+        match found {
             Ok(Reallocated::Published(number)) => {
                 info!(Logfmt(self.rt); number; "allocation published");
+                self.note_published(pass, schedule, number, milliseconds);
             }
             Ok(Reallocated::Unchanged(_)) => {}
             Err(ReallocateError::Overtaken(_)) => {

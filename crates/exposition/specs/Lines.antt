@@ -1,5 +1,5 @@
 -- The lines of a text exposition.
-use Rattle.std.specs.Prelude.{ℕ, List, [], ◌∷◌, ◌++◌, codes}
+use Rattle.std.specs.Prelude.{ℕ, ◌/◌, ◌%◌, List, [], ◌∷◌, ◌++◌, codes}
 use Rattle.std.specs.Fmt.{decimal}
 use Rattle.exposition.specs.Escaping.{escaped}
 use Rattle.exposition.specs.declared.kind.Kind.{Kind}
@@ -16,6 +16,14 @@ family_text name kind help = codes "# HELP " ++ name ++ codes " " ++ help ++ cod
 -- a sample without labels
 abbrev pub plain_text : List ℕ → ℕ → List ℕ
 plain_text name value = name ++ codes " " ++ decimal value ++ codes "\n"
+
+-- so many milliseconds in seconds, with three digits behind the point
+abbrev pub seconds_digits : ℕ → List ℕ
+seconds_digits milliseconds = decimal (milliseconds / 1000) ++ codes "." ++ decimal (milliseconds / 100 % 10) ++ decimal (milliseconds / 10 % 10) ++ decimal (milliseconds % 10)
+
+-- a sample without labels, of so many milliseconds
+abbrev pub seconds_text : List ℕ → ℕ → List ℕ
+seconds_text name milliseconds = name ++ codes " " ++ seconds_digits milliseconds ++ codes "\n"
 
 -- a sample with one label
 abbrev pub labelled_text : List ℕ → List ℕ → List ℕ → ℕ → List ℕ

@@ -1,7 +1,7 @@
 //! A text exposition.
 ghost use Rattle.std.specs.Prelude.{◌≡◌, ◌++◌, IfSome, OnOk, [], string_bytes};
 ghost use Rattle.std.specs.Fmt.{decimal};
-ghost use Rattle.exposition.specs.Lines.{family_text, plain_text, labelled_text};
+ghost use Rattle.exposition.specs.Lines.{family_text, plain_text, labelled_text, seconds_digits, seconds_text};
 
 use crate::escaping::push_escaped;
 use crate::kind::Kind;
@@ -60,6 +60,16 @@ impl Exposition {
         self.put("\n")
     }
 
+    /// A sample without labels: so many milliseconds, in seconds.
+    pub fn seconds(&mut self, name: &str, milliseconds: u64) -> Result<(), AllocError>
+        ensures { OnOk result (self.new ≡ self.old ++ seconds_text name.now milliseconds) }
+    {
+        self.put(name)?;
+        self.put(" ")?;
+        self.put_seconds(milliseconds)?;
+        self.put("\n")
+    }
+
     /// A sample with one label, whose value may be any text.
     pub fn labelled_sample(
         &mut self,
@@ -91,6 +101,16 @@ impl Exposition {
         ensures { OnOk result (self.new ≡ self.old ++ text.now) }
     {
         self.bytes.extend_from_slice(text.as_bytes())
+    }
+
+    fn put_seconds(&mut self, milliseconds: u64) -> Result<(), AllocError>
+        ensures { OnOk result (self.new ≡ self.old ++ seconds_digits milliseconds) }
+    {
+        self.put_number(u128::from(milliseconds / 1_000))?;
+        self.put(".")?;
+        self.put_number(u128::from(milliseconds / 100 % 10))?;
+        self.put_number(u128::from(milliseconds / 10 % 10))?;
+        self.put_number(u128::from(milliseconds % 10))
     }
 
     fn put_number(&mut self, number: u128) -> Result<(), AllocError>

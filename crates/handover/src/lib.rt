@@ -9,8 +9,6 @@ mod error;
 mod holders;
 mod rows;
 mod spans;
-#[cfg(test)]
-mod tests;
 
 pub use error::HoldersError;
 pub use holders::{Holders, LAST_NUMBER};

@@ -10,7 +10,7 @@ use crate::error::LabelError;
 use crate::group::keep_group_names;
 use crate::name::{LabelName, is_label_name};
 use crate::texts::text_of_labels;
-use lists::{List, Plain, Text};
+use lists::{List, Plain, Text, all_same, copies};
 use std::alloc::{AllocError, Global};
 use std::convert::AsStr;
 use std::marker::Model;
@@ -139,33 +139,4 @@ fn names_in(alloc: Global, entries: &[(LabelName, Text)]) -> Result<List<LabelNa
         names.push(entry.0.copy()?)?;
     }
     Ok(names)
-}
-
-/// Equal copies of all entries.
-fn copies(
-    alloc: Global,
-    entries: &[(LabelName, Text)],
-) -> Result<Vec<(LabelName, Text)>, AllocError>
-    ensures { IfOk result (λ v. v.items ≡ entries.now) }
-{
-    let mut all = Vec::with_capacity(alloc, entries.len())?;
-    for entry in entries {
-        all.push(entry.copy()?)?;
-    }
-    Ok(all)
-}
-
-/// Whether two slices have equal entries.
-fn all_same(entries: &[(LabelName, Text)], others: &[(LabelName, Text)]) -> bool
-    ensures { IsTrue result ↔ (entries.now ≡ others.now) }
-{
-    if entries.len() != others.len() {
-        return false;
-    }
-    for i in 0..entries.len() {
-        if !entries[i].same(&others[i]) {
-            return false;
-        }
-    }
-    true
 }

@@ -6,6 +6,6 @@ mod list;
 mod plain;
 mod text;
 
-pub use list::List;
+pub use list::{List, all_same, copies};
 pub use plain::Plain;
 pub use text::Text;

@@ -87,7 +87,7 @@ impl<T: Plain + Drop> Plain for List<T> {
 }
 
 /// Equal copies of all elements.
-fn copies<T: Plain + Drop>(alloc: Global, items: &[T]) -> Result<Vec<T>, AllocError>
+pub fn copies<T: Plain + Drop>(alloc: Global, items: &[T]) -> Result<Vec<T>, AllocError>
     ensures { IfOk result (λ v. v.items ≡ items.now) }
 {
     let mut all = Vec::with_capacity(alloc, items.len())?;
@@ -98,7 +98,7 @@ fn copies<T: Plain + Drop>(alloc: Global, items: &[T]) -> Result<Vec<T>, AllocEr
 }
 
 /// Whether two slices have equal elements.
-fn all_same<T: Plain>(items: &[T], others: &[T]) -> bool
+pub fn all_same<T: Plain>(items: &[T], others: &[T]) -> bool
     ensures { IsTrue result ↔ (items.now ≡ others.now) }
 {
     if items.len() != others.len() {

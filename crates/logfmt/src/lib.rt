@@ -3,6 +3,8 @@
 
 mod logfmt;
 mod quoted;
+mod time;
 
 pub use logfmt::Logfmt;
 pub use quoted::Quoted;
+pub use time::timestamp;

@@ -41,6 +41,22 @@ pub enum Said {
     NotReloaded(Text),
 }
 
+impl Said {
+    /// The status code of the response that says it (RFC 9110, section 15).
+    pub fn status(&self) -> StatusCode
+        ensures { result ≡ status_said self.now }
+    {
+        match self {
+            Said::Answer(answer) => status_of(answer),
+            Said::Page(_) | Said::Taken { .. } => StatusCode::OK,
+            Said::Refused(error) => error.status(),
+            Said::Notice(notice) => notice.status(),
+            Said::Metrics(_) | Said::Document(_) => StatusCode::OK,
+            Said::NotReloaded(_) => StatusCode::INTERNAL_SERVER_ERROR,
+        }
+    }
+}
+
 /// The response that says it. What is not plain text has the media type `application/json`.
 pub fn answer(alloc: Global, said: Said) -> Result<Response<Full<Bytes>>, AllocError>
     ensures { IfOk result (IsResponse (status_said said) (headers_said said) (body_said said)) }

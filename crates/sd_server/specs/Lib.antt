@@ -1,4 +1,5 @@
 pub mod Jobs
 pub mod Replies
 pub mod Says
+pub mod Listing
 pub mod Texts

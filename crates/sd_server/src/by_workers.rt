@@ -62,7 +62,37 @@ where
     Ok(())
 }
 
+/// Serves connections on this thread until it is told to stop. Where it finds no memory to begin, it begins again after a pause.
 fn serve_here<R, L: Ledger, B: Ledger, N: DeskName>(
+    rt: &R,
+    workers: &Workers,
+    listener: &TcpListener,
+    handler: &Handler<R, L, B, N>,
+) -> io::Result<()>
+where
+    R: Wait
+        + Clock
+        + Net<Listener = TcpListener, Stream = TcpStream>
+        + RandomSource
+        + AllocGlobal
+        + Copy
+        + Drop,
+{
+    for _ in rt.forever() {
+        match serve_until_stopped(rt, workers, listener, handler) {
+            Err(error) if error.kind() == io::ErrorKind::OutOfMemory => {
+                if workers.is_stopped() {
+                    return Ok(());
+                }
+                thread::sleep(rt, Duration::from_millis(PAUSE_MILLIS));
+            }
+            ended => return ended,
+        }
+    }
+    unreachable!()
+}
+
+fn serve_until_stopped<R, L: Ledger, B: Ledger, N: DeskName>(
     rt: &R,
     workers: &Workers,
     listener: &TcpListener,

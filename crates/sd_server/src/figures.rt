@@ -37,6 +37,10 @@ pub(crate) struct CollectorFigures {
     pub(crate) draining: bool,
     /// How many live targets it holds in the current allocation.
     pub(crate) held: u64,
+    /// The same job by job.
+    pub(crate) held_by_job: Vec<u64>,
+    /// The number of the allocation that it took last, 0 where it took none.
+    pub(crate) taken: AllocationNumber,
     /// How many it may hold of all jobs together, where each job has a limit for it.
     pub(crate) room: Option<u64>,
 }
@@ -80,10 +84,20 @@ fn idle_collectors(alloc: Global, core: &Core) -> Result<Vec<CollectorFigures>, 
             id: collector.id,
             draining: collector.draining,
             held: 0,
+            held_by_job: zeros(alloc, core.fleet().jobs().len())?,
+            taken: core.taken(collector.id),
             room: room_of(core.fleet().jobs(), collector),
         })?;
     }
     Ok(collectors)
+}
+
+fn zeros(alloc: Global, count: usize) -> Result<Vec<u64>, AllocError> {
+    let mut zeros = Vec::with_capacity(alloc, count)?;
+    for _ in 0..count {
+        zeros.push(0)?;
+    }
+    Ok(zeros)
 }
 
 /// How many targets a collector may hold of all jobs together, where each job has a limit for it.
@@ -118,10 +132,11 @@ fn count_covered(core: &Core, live: &[bool], figures: &mut Figures) {
 
 /// A live target is held by a collector.
 fn count_one(core: &Core, target: usize, collector: CollectorId, figures: &mut Figures) {
-    if let Some(known) = core.fleet().known().get(target) {
-        if let Some(job) = figures.jobs.get_mut(known.job) {
-            job.covered = job.covered.saturating_add(1);
-        }
+    let Some(known) = core.fleet().known().get(target) else {
+        return;
+    };
+    if let Some(job) = figures.jobs.get_mut(known.job) {
+        job.covered = job.covered.saturating_add(1);
     }
     let place = figures
         .collectors
@@ -129,6 +144,9 @@ fn count_one(core: &Core, target: usize, collector: CollectorId, figures: &mut F
     if let Ok(place) = place {
         if let Some(holder) = figures.collectors.get_mut(place) {
             holder.held = holder.held.saturating_add(1);
+            if let Some(held) = holder.held_by_job.get_mut(known.job) {
+                *held = held.saturating_add(1);
+            }
         }
     }
 }

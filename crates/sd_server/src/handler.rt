@@ -4,20 +4,24 @@ ghost use Rattle.std.specs.Arc.{arc_value};
 ghost use Rattle.fleet.specs.Fleet.{id_named};
 ghost use Rattle.alloc_desk.specs.Views.{numbered_of, shares_of};
 ghost use Rattle.sd_server.specs.Jobs.{place_of};
-ghost use Rattle.sd_server.specs.Texts.{certificate_text, groups_text, job_text};
+ghost use Rattle.sd_server.specs.Texts.{certificate_text, job_text};
+ghost use Rattle.sd_server.specs.Listing.{IsGroups};
 ghost use Rattle.sd_server.specs.Says.{IsEntered, IsUncoveredText, OfSome, Says, SaysCollector, SaysCopy, SaysDocument, SaysEvent, SaysHeld, SaysJob, SaysListed, SaysMetrics, SaysNot, SaysPage, SaysQuit, SaysReady, SaysReload, SaysTake, SaysText, SaysUncovered};
 
 use crate::certificate_page::certificate_page;
 use crate::config_pages::ConfigPages;
+use crate::counts::EventKind;
 use crate::figures::{Figures, figures_of};
 use crate::kept::Kept;
+use crate::list_text::ListText;
+use crate::list_texts::ListTexts;
 use crate::metrics_page::metrics_page;
 use crate::service_state::ServiceState;
 use crate::status_page::status_page;
 use crate::uncovered::{Uncovered, uncovered_of};
 use alloc_desk::{Desk, DeskName, EnterError, NumberedTarget, Pass, Receipt, Share};
 use allocation_core::{Answer, Event, Refusal};
-use fleet_events::{CollectorId, TargetId};
+use fleet_events::{AllocationNumber, CollectorId, TargetId};
 use lists::{List, Plain, Text};
 use price_certificate::{Instance, Plan};
 use reach_rules::CollectorName;
@@ -39,6 +43,8 @@ pub struct Handler<R, L: Ledger, B: Ledger, N: DeskName> {
     pub state: Arc<ServiceState>,
     /// How much of the journal is kept, where it is to be kept before an answer is given.
     pub kept: Option<Arc<Kept>>,
+    /// The texts of the lists that were taken.
+    pub texts: Arc<ListTexts<N>>,
 }
 
 impl<R: Wait + Copy, L: Ledger, B: Ledger, N: DeskName> Handler<R, L, B, N> {
@@ -54,7 +60,13 @@ impl<R: Wait + Copy, L: Ledger, B: Ledger, N: DeskName> Handler<R, L, B, N> {
             pages: Arc::try_clone(&self.pages)?,
             state: Arc::try_clone(&self.state)?,
             kept: another_kept(&self.kept)?,
+            texts: Arc::try_clone(&self.texts)?,
         })
+    }
+
+    /// Counts what a request is told.
+    pub(crate) fn count_response(&self, said: &Said) {
+        self.state.count_response(&self.rt, said.status().as_u16());
     }
 
     /// What is told to a request with this body.
@@ -139,7 +151,8 @@ impl<R: Wait + Copy, L: Ledger, B: Ledger, N: DeskName> Handler<R, L, B, N> {
 
     fn metrics_text(&self) -> Result<Text, AllocError> {
         let figures = self.figures()?;
-        metrics_page(self.alloc, &figures, &self.state)
+        let notes = self.state.notes(&self.rt, self.alloc)?;
+        metrics_page(self.alloc, &figures, &notes, &self.state)
     }
 
     fn status(&self) -> Said
@@ -153,7 +166,8 @@ impl<R: Wait + Copy, L: Ledger, B: Ledger, N: DeskName> Handler<R, L, B, N> {
 
     fn status_text(&self) -> Result<Text, AllocError> {
         let figures = self.figures()?;
-        status_page(self.alloc, &figures, &self.state)
+        let notes = self.state.notes(&self.rt, self.alloc)?;
+        status_page(self.alloc, &figures, &notes, &self.state)
     }
 
     fn figures(&self) -> Result<Figures, AllocError> {
@@ -273,12 +287,12 @@ impl<R: Wait + Copy, L: Ledger, B: Ledger, N: DeskName> Handler<R, L, B, N> {
         ensures { SaysTake N.opening place collector result }
     {
         match self.submitted(Event::Take(collector)) {
-            Ok(receipt) => self.listed(place, receipt.answer),
+            Ok(receipt) => self.listed(place, collector, receipt.answer),
             Err(error) => Said::Refused(error),
         }
     }
 
-    fn listed(&self, place: usize, answer: Answer) -> Said
+    fn listed(&self, place: usize, collector: CollectorId, answer: Answer) -> Said
         ensures { SaysListed N.opening place answer result }
     {
         match answer {
@@ -286,7 +300,7 @@ impl<R: Wait + Copy, L: Ledger, B: Ledger, N: DeskName> Handler<R, L, B, N> {
                 allocation,
                 round,
                 held,
-            } => match self.groups(place, held.as_slice()) {
+            } => match self.groups(place, collector, allocation, held.as_slice()) {
                 Ok(groups) => Said::Taken {
                     allocation,
                     round,
@@ -298,8 +312,43 @@ impl<R: Wait + Copy, L: Ledger, B: Ledger, N: DeskName> Handler<R, L, B, N> {
         }
     }
 
-    fn groups(&self, place: usize, held: &[TargetId]) -> Result<Text, AllocError>
-        ensures { IfOk result (λ t. OfSome N.opening (λ h. t ≡ groups_text place held.now h)) }
+    /// The text of what a collector holds of a job in an allocation.
+    fn groups(
+        &self,
+        place: usize,
+        collector: CollectorId,
+        allocation: AllocationNumber,
+        held: &[TargetId],
+    ) -> Result<Text, AllocError>
+        ensures { IfOk result (IsGroups N.opening place held.now) }
+    {
+        if let Some(text) = self.texts.text(&self.rt, collector, place, held)? {
+            return Ok(text);
+        }
+        let text = self.new_groups(place, held)?;
+        if let Ok(kept) = self.kept_text(place, held, &text) {
+            let _ = self
+                .texts
+                .keep(&self.rt, allocation, collector, place, kept);
+        }
+        Ok(text)
+    }
+
+    /// A copy of a text, to be kept.
+    fn kept_text(
+        &self,
+        place: usize,
+        held: &[TargetId],
+        text: &Text,
+    ) -> Result<Arc<ListText<N>>, AllocError>
+        requires { IsGroups N.opening place held.now text.now }
+    {
+        let text = ListText::new(self.alloc, place, held, text)?;
+        Ok(Arc::new(self.alloc, text)?)
+    }
+
+    fn new_groups(&self, place: usize, held: &[TargetId]) -> Result<Text, AllocError>
+        ensures { IfOk result (IsGroups N.opening place held.now) }
     {
         let targets = self.numbered(place, held)?;
         targets_page(self.alloc, targets.as_slice())
@@ -321,7 +370,9 @@ impl<R: Wait + Copy, L: Ledger, B: Ledger, N: DeskName> Handler<R, L, B, N> {
         if self.is_broken() {
             return Err(RequestError::NotKept);
         }
+        let kind = EventKind::of(&event);
         let receipt = self.entered_now(event)?;
+        self.state.count_event(&self.rt, kind, &receipt.answer);
         if self.keeps(receipt.position) {
             return Ok(receipt);
         }

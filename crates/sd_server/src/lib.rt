@@ -8,11 +8,15 @@
 mod by_workers;
 mod certificate_page;
 mod config_pages;
+mod counts;
 mod figures;
 mod handler;
 mod kept;
 mod lingering;
+mod list_text;
+mod list_texts;
 mod metrics_page;
+mod notes;
 mod one_by_one;
 mod pace;
 mod reloading;
@@ -28,8 +32,11 @@ mod workers;
 
 pub use by_workers::serve_by_workers;
 pub use config_pages::ConfigPages;
+pub use counts::EventKind;
 pub use handler::Handler;
 pub use kept::Kept;
+pub use list_texts::ListTexts;
+pub use notes::{AllocationNote, SourceNote};
 pub use one_by_one::serve_one_by_one;
 pub use reloading::Reloading;
 pub use reply::{LONGEST_BODY, Reply};

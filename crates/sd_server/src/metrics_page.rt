@@ -1,5 +1,7 @@
 //! The metrics of a service.
+use crate::counts::{Counts, KINDS, ROUTES, STATUSES};
 use crate::figures::{CollectorFigures, Figures, JobFigures};
+use crate::notes::{Notes, SourceNote};
 use crate::service_state::ServiceState;
 use exposition::{Exposition, Kind};
 use lists::Text;
@@ -9,12 +11,17 @@ use std::alloc::{AllocError, Global};
 pub(crate) fn metrics_page(
     alloc: Global,
     figures: &Figures,
+    notes: &Notes,
     state: &ServiceState,
 ) -> Result<Text, AllocError> {
     let mut page = Exposition::new(alloc);
     write_jobs(&mut page, figures.jobs.as_slice())?;
     write_collectors(&mut page, figures.collectors.as_slice())?;
     write_allocation(&mut page, figures)?;
+    write_last_allocation(&mut page, notes)?;
+    write_events(&mut page, &notes.counts)?;
+    write_requests(&mut page, alloc, &notes.counts)?;
+    write_sources(&mut page, alloc, notes.sources.as_slice())?;
     write_state(&mut page, state)?;
     match page.into_string() {
         Some(text) => Ok(Text::from_string(text)),
@@ -96,17 +103,6 @@ fn write_allocation(page: &mut Exposition, figures: &Figures) -> Result<(), Allo
 }
 
 fn write_state(page: &mut Exposition, state: &ServiceState) -> Result<(), AllocError> {
-    let name = "allocd_refreshes_total";
-    let count = u128::from(state.refreshes());
-    write_counter(page, name, "Refreshes of discovery sources.", count)?;
-    let name = "allocd_refresh_failures_total";
-    let count = u128::from(state.failed_refreshes());
-    write_counter(
-        page,
-        name,
-        "Refreshes of discovery sources that failed.",
-        count,
-    )?;
     let name = "allocd_reallocations_total";
     let count = u128::from(state.reallocations());
     write_counter(page, name, "Searches for an allocation.", count)?;
@@ -117,9 +113,100 @@ fn write_state(page: &mut Exposition, state: &ServiceState) -> Result<(), AllocE
         "Whether the configuration that was read last is followed.",
         followed,
     )?;
+    let name = "allocd_journal_written_bytes_total";
+    let count = u128::from(state.written());
+    write_counter(page, name, "Bytes that were written to journals.", count)
+}
+
+/// What the last published allocation came to, and how long reallocations took.
+fn write_last_allocation(page: &mut Exposition, notes: &Notes) -> Result<(), AllocError> {
+    let (moved, left) = match notes.allocations.first() {
+        Some(last) => (last.moved, last.left),
+        None => (0, 0),
+    };
+    write_gauge(
+        page,
+        "allocd_allocation_moved",
+        "Targets that another collector held before the last published allocation.",
+        u128::from(moved),
+    )?;
+    write_gauge(
+        page,
+        "allocd_allocation_left",
+        "Targets that the last published allocation left with draining collectors.",
+        u128::from(left),
+    )?;
+    let name = "allocd_reallocation_seconds_total";
+    page.family(
+        name,
+        Kind::Counter,
+        "Seconds that searches for an allocation took.",
+    )?;
+    page.seconds(name, notes.milliseconds)
+}
+
+fn write_events(page: &mut Exposition, counts: &Counts) -> Result<(), AllocError> {
+    let name = "allocd_events_total";
+    page.family(name, Kind::Counter, "Events that were entered and done.")?;
+    for (kind, count) in KINDS.iter().zip(counts.done.iter()) {
+        page.labelled_sample(name, "event", kind, u128::from(*count))?;
+    }
+    let name = "allocd_events_refused_total";
+    page.family(name, Kind::Counter, "Events that were entered and refused.")?;
+    for (kind, count) in KINDS.iter().zip(counts.refused.iter()) {
+        page.labelled_sample(name, "event", kind, u128::from(*count))?;
+    }
+    Ok(())
+}
+
+fn write_requests(page: &mut Exposition, alloc: Global, counts: &Counts) -> Result<(), AllocError> {
     let name = "allocd_http_requests_total";
-    let count = u128::from(state.requests());
-    write_counter(page, name, "Requests.", count)
+    page.family(name, Kind::Counter, "Requests by route.")?;
+    for (route, count) in ROUTES.iter().zip(counts.requests.iter()) {
+        page.labelled_sample(name, "route", route, u128::from(*count))?;
+    }
+    let name = "allocd_http_responses_total";
+    page.family(
+        name,
+        Kind::Counter,
+        "Responses by status code, where 0 is any other.",
+    )?;
+    for (status, count) in STATUSES.iter().zip(counts.responses.iter()) {
+        let said = format!(in alloc; "{status}")?;
+        page.labelled_sample(name, "status", said.as_str(), u128::from(*count))?;
+    }
+    Ok(())
+}
+
+fn write_sources(
+    page: &mut Exposition,
+    alloc: Global,
+    sources: &[SourceNote],
+) -> Result<(), AllocError> {
+    let name = "allocd_refreshes_total";
+    page.family(name, Kind::Counter, "Refreshes of discovery sources.")?;
+    for source in sources {
+        let said = name_of(alloc, source)?;
+        page.labelled_sample(name, "source", said.as_str(), u128::from(source.refreshes))?;
+    }
+    let name = "allocd_refresh_failures_total";
+    page.family(
+        name,
+        Kind::Counter,
+        "Refreshes of discovery sources that failed.",
+    )?;
+    for source in sources {
+        let said = name_of(alloc, source)?;
+        page.labelled_sample(name, "source", said.as_str(), u128::from(source.failures))?;
+    }
+    Ok(())
+}
+
+/// A source by its job and its number.
+fn name_of(alloc: Global, source: &SourceNote) -> Result<String, AllocError> {
+    let job = source.job.as_str();
+    let number = source.number;
+    format!(in alloc; "{job}/{number}")
 }
 
 fn write_gauge(

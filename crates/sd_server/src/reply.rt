@@ -1,6 +1,7 @@
 //! A reply: the response to a request, once its body has come.
-ghost use Rattle.std.specs.Prelude.{◌≡◌};
+ghost use Rattle.std.specs.Prelude.{◌≡◌, ◌⊎◌};
 ghost use Rattle.std.specs.Arc.{arc_value};
+ghost use Rattle.sd_routes.specs.declared.request_error.RequestError.TheVariants.{Shape, Memory};
 ghost use Rattle.sd_routes.specs.declared.responding.Said.{Said};
 ghost use Rattle.sd_server.specs.Replies.{CanRead, Gives, MaySay, SaysRead};
 
@@ -73,19 +74,38 @@ impl<R, L: Ledger, B: Ledger, N: DeskName, I: Drop> Reply<R, L, B, N, I> {
 }
 
 impl<R: Wait + Copy, L: Ledger, B: Ledger, N: DeskName, I: Drop> Reading<R, L, B, N, I> {
-    /// What is said once the body has come.
+    /// What is said once the body has come. It is counted.
     fn said(&self, read: Result<Collected, LimitedError<hyper::Error>>) -> Said
+        ensures { SaysRead N.opening (arc_value self.now.handler.pages) self.now.ask result }
+    {
+        let said = self.said_of(read);
+        self.handler.count_response(&said);
+        said
+    }
+
+    fn said_of(&self, read: Result<Collected, LimitedError<hyper::Error>>) -> Said
         ensures { SaysRead N.opening (arc_value self.now.handler.pages) self.now.ask result }
     {
         let collected = match read {
             Ok(collected) => collected,
             Err(LimitedError::LengthLimit) => return Said::Refused(RequestError::TooLong),
-            Err(LimitedError::Body(_)) => return Said::Refused(RequestError::Shape),
+            Err(LimitedError::Body(error)) => return Said::Refused(unread(&error)),
         };
         match collected.to_bytes() {
             Ok(bytes) => self.handler.said(&self.ask, bytes.as_slice()),
             Err(_) => Said::Refused(RequestError::Memory),
         }
+    }
+}
+
+/// Why a body that was not read is refused.
+fn unread(error: &hyper::Error) -> RequestError
+    ensures { (result ≡ Shape) ⊎ (result ≡ Memory) }
+{
+    if error.is_out_of_memory() {
+        RequestError::Memory
+    } else {
+        RequestError::Shape
     }
 }
 

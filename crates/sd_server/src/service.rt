@@ -39,8 +39,16 @@ impl<R: Wait + Copy, L: Ledger, B: Ledger, N: DeskName> AllocatorService<R, L, B
         ensures { Begins N.opening (arc_value self.now.handler.pages) (asked head.now.method (uri_path head.now.uri) (uri_query head.now.uri)) result }
     {
         match route(&self.routes, self.handler.alloc, &head.method, &head.uri) {
-            Ok(ask) => self.begin_with(ask),
-            Err(error) => Begun::Said(Said::Refused(error)),
+            Ok(ask) => {
+                self.handler
+                    .state
+                    .count_request(&self.handler.rt, Some(&ask));
+                self.begin_with(ask)
+            }
+            Err(error) => {
+                self.handler.state.count_request(&self.handler.rt, None);
+                Begun::Said(Said::Refused(error))
+            }
         }
     }
 
@@ -67,10 +75,12 @@ impl<R: Wait + Copy + Drop, L: Ledger, B: Ledger, N: DeskName, I: Drop> Service<
         (asked (request.head_of req).method (uri_path (request.head_of req).uri) (uri_query (request.head_of req).uri)) future };
 
     fn call(&self, req: Request<Incoming<I>>) -> Reply<R, L, B, N, I> {
-        self.handler.state.count_request();
         let (head, body) = req.into_parts();
         match self.begin(&head) {
-            Begun::Said(said) => Reply::of(self.handler.alloc, said),
+            Begun::Said(said) => {
+                self.handler.count_response(&said);
+                Reply::of(self.handler.alloc, said)
+            }
             Begun::Reads(ask) => match self.handler.another() {
                 Ok(handler) => Reply::to(handler, ask, body),
                 Err(_) => Reply::of(self.handler.alloc, Said::Refused(RequestError::Memory)),

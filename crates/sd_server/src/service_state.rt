@@ -1,6 +1,12 @@
 //! What a service says of itself beside its desk.
+use crate::counts::EventKind;
+use crate::notes::{AllocationNote, Notes, SourceNote};
 use crate::reloading::Reloading;
+use fleet_events::Answer;
+use sd_routes::Ask;
+use std::alloc::{AllocError, Global};
 use std::sync::atomic::{AtomicBool, AtomicU64, Ordering};
+use std::sync::{Mutex, Wait};
 
 /// What a service says of itself beside its desk. The threads of the service write it, and requests read it.
 #[derive(Drop)]
@@ -17,12 +23,14 @@ pub struct ServiceState {
     refreshes: AtomicU64,
     failed_refreshes: AtomicU64,
     reallocations: AtomicU64,
-    requests: AtomicU64,
+    /// How many bytes of journals were written.
+    written: AtomicU64,
+    notes: Mutex<Notes>,
 }
 
 impl ServiceState {
     /// The state of a service that has tried none of so many sources.
-    pub fn new(has_lifecycle: bool, sources: u64) -> ServiceState {
+    pub fn new(alloc: Global, has_lifecycle: bool, sources: u64) -> ServiceState {
         ServiceState {
             has_lifecycle,
             is_quitting: AtomicBool::new(false),
@@ -33,7 +41,8 @@ impl ServiceState {
             refreshes: AtomicU64::new(0),
             failed_refreshes: AtomicU64::new(0),
             reallocations: AtomicU64::new(0),
-            requests: AtomicU64::new(0),
+            written: AtomicU64::new(0),
+            notes: Mutex::new(Notes::new(alloc)),
         }
     }
 
@@ -108,11 +117,52 @@ impl ServiceState {
         self.reallocations.load(Ordering::SeqCst)
     }
 
-    pub(crate) fn count_request(&self) {
-        self.requests.fetch_add(1, Ordering::SeqCst);
+    /// So many bytes of a journal were written.
+    pub fn count_written(&self, bytes: u64) {
+        self.written.fetch_add(bytes, Ordering::SeqCst);
     }
 
-    pub(crate) fn requests(&self) -> u64 {
-        self.requests.load(Ordering::SeqCst)
+    pub(crate) fn written(&self) -> u64 {
+        self.written.load(Ordering::SeqCst)
+    }
+
+    /// A request asks for this, or has no route.
+    pub(crate) fn count_request(&self, rt: &impl Wait, ask: Option<&Ask>) {
+        self.notes.lock(rt).counts.count_request(ask);
+    }
+
+    /// A request is answered with this status code.
+    pub(crate) fn count_response(&self, rt: &impl Wait, status: u16) {
+        self.notes.lock(rt).counts.count_response(status);
+    }
+
+    /// An event is answered.
+    pub fn count_event(&self, rt: &impl Wait, kind: EventKind, answer: &Answer) {
+        self.notes.lock(rt).counts.count_event(kind, answer);
+    }
+
+    /// A source was refreshed. Its counts are added to what is known of it.
+    pub fn note_refresh(&self, rt: &impl Wait, refresh: SourceNote) -> Result<(), AllocError> {
+        self.notes.lock(rt).note_refresh(refresh)
+    }
+
+    /// An allocation was published.
+    pub fn note_allocation(&self, rt: &impl Wait, note: AllocationNote) -> Result<(), AllocError> {
+        self.notes.lock(rt).note_allocation(note)
+    }
+
+    /// A reallocation took so many milliseconds.
+    pub fn count_search(&self, rt: &impl Wait, milliseconds: u64) {
+        let mut notes = self.notes.lock(rt);
+        notes.milliseconds = notes.milliseconds.saturating_add(milliseconds);
+    }
+
+    /// Other sources are refreshed from now on.
+    pub fn forget_sources(&self, rt: &impl Wait) {
+        self.notes.lock(rt).sources.clear();
+    }
+
+    pub(crate) fn notes(&self, rt: &impl Wait, alloc: Global) -> Result<Notes, AllocError> {
+        self.notes.lock(rt).copy(alloc)
     }
 }

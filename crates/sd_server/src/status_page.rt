@@ -1,5 +1,6 @@
 //! The page for people.
 use crate::figures::{CollectorFigures, Figures, JobFigures};
+use crate::notes::{AllocationNote, Notes, SourceNote};
 use crate::service_state::ServiceState;
 use hypertext::Hypertext;
 use lists::Text;
@@ -12,19 +13,28 @@ const JOBS: &str =
     "<h2>Jobs</h2>\n<table>\n<tr><th>Job</th><th>Live</th><th>Covered</th><th>Uncovered</th></tr>\n";
 
 const COLLECTORS: &str =
-    "<h2>Collectors</h2>\n<table>\n<tr><th>Collector</th><th>Id</th><th>State</th><th>Holds</th><th>May hold</th><th></th></tr>\n";
+    "<h2>Collectors</h2>\n<table>\n<tr><th>Collector</th><th>Id</th><th>State</th><th>Holds</th><th>May hold</th><th></th><th>Took</th><th>By job</th></tr>\n";
+
+const SOURCES: &str =
+    "<h2>Sources</h2>\n<table>\n<tr><th>Job</th><th>Source</th><th>Refreshes</th><th>Failed</th><th>Last refresh</th><th>Last fault</th></tr>\n";
+
+const ALLOCATIONS: &str =
+    "<h2>Last allocations</h2>\n<table>\n<tr><th>Number</th><th>Published</th><th>Covered</th><th>Moved</th><th>Left</th><th>Milliseconds</th></tr>\n";
 
 /// The page for people, in HTML.
 pub(crate) fn status_page(
     alloc: Global,
     figures: &Figures,
+    notes: &Notes,
     state: &ServiceState,
 ) -> Result<Text, AllocError> {
     let mut page = Hypertext::new(alloc);
     page.markup(HEAD)?;
     write_moment(&mut page, figures)?;
     write_jobs(&mut page, figures.jobs.as_slice())?;
-    write_collectors(&mut page, figures.collectors.as_slice())?;
+    write_collectors(&mut page, figures)?;
+    write_sources(&mut page, notes.sources.as_slice())?;
+    write_allocations(&mut page, notes.allocations.as_slice())?;
     write_state(&mut page, state)?;
     page.markup("</body>\n</html>\n")?;
     match page.into_string() {
@@ -58,14 +68,64 @@ fn write_jobs(page: &mut Hypertext, jobs: &[JobFigures]) -> Result<(), AllocErro
     page.markup("</table>\n")
 }
 
-fn write_collectors(
-    page: &mut Hypertext,
-    collectors: &[CollectorFigures],
-) -> Result<(), AllocError> {
+fn write_collectors(page: &mut Hypertext, figures: &Figures) -> Result<(), AllocError> {
     page.markup(COLLECTORS)?;
-    for collector in collectors {
+    for collector in &figures.collectors {
         page.markup("<tr>")?;
         write_collector(page, collector)?;
+        number_cell(page, u64::from(collector.taken))?;
+        write_held(page, figures.jobs.as_slice(), collector)?;
+        page.markup("</tr>\n")?;
+    }
+    page.markup("</table>\n")
+}
+
+/// What a collector holds, job by job.
+fn write_held(
+    page: &mut Hypertext,
+    jobs: &[JobFigures],
+    collector: &CollectorFigures,
+) -> Result<(), AllocError> {
+    page.markup("<td>")?;
+    for (job, held) in jobs.iter().zip(collector.held_by_job.iter()) {
+        if *held > 0 {
+            page.text(job.name.as_str())?;
+            page.markup(" ")?;
+            page.number(u128::from(*held))?;
+            page.markup("<br>")?;
+        }
+    }
+    page.markup("</td>")
+}
+
+fn write_sources(page: &mut Hypertext, sources: &[SourceNote]) -> Result<(), AllocError> {
+    page.markup(SOURCES)?;
+    for source in sources {
+        page.markup("<tr>")?;
+        text_cell(page, source.job.as_str())?;
+        number_cell(page, u64::from(source.number))?;
+        number_cell(page, source.refreshes)?;
+        number_cell(page, source.failures)?;
+        text_cell(page, source.at.as_str())?;
+        text_cell(page, source.fault.as_str())?;
+        page.markup("</tr>\n")?;
+    }
+    page.markup("</table>\n")
+}
+
+fn write_allocations(
+    page: &mut Hypertext,
+    allocations: &[AllocationNote],
+) -> Result<(), AllocError> {
+    page.markup(ALLOCATIONS)?;
+    for allocation in allocations {
+        page.markup("<tr>")?;
+        number_cell(page, u64::from(allocation.number))?;
+        text_cell(page, allocation.at.as_str())?;
+        number_cell(page, allocation.covered)?;
+        number_cell(page, allocation.moved)?;
+        number_cell(page, allocation.left)?;
+        number_cell(page, allocation.milliseconds)?;
         page.markup("</tr>\n")?;
     }
     page.markup("</table>\n")
@@ -99,15 +159,13 @@ fn write_bar(page: &mut Hypertext, held: u64, room: u64) -> Result<(), AllocErro
 }
 
 fn write_state(page: &mut Hypertext, state: &ServiceState) -> Result<(), AllocError> {
-    page.markup("<h2>Sources</h2>\n<p>")?;
+    page.markup("<p>")?;
     page.number(u128::from(state.refreshes()))?;
     page.markup(" refreshes, of which ")?;
     page.number(u128::from(state.failed_refreshes()))?;
     page.markup(" failed; ")?;
     page.number(u128::from(state.reallocations()))?;
-    page.markup(" reallocations; ")?;
-    page.number(u128::from(state.requests()))?;
-    page.markup(" requests.</p>\n")
+    page.markup(" reallocations.</p>\n")
 }
 
 fn text_cell(page: &mut Hypertext, text: &str) -> Result<(), AllocError> {

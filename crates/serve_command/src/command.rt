@@ -20,7 +20,8 @@ use std::sync::Wait;
 use std::thread::Threads;
 use std::time::Clock;
 
-const VERSION: &str = "allocd 0.1.0\n";
+/// The line of the program's version.
+pub const VERSION: &str = "allocd 0.1.0\n";
 
 /// Does what the words behind `serve` ask for, and gives the exit status: 0 where the service was told to end, 2 where it is not
 /// told what to do, 3 where the machine failed it. The configuration is read again by a thread of its own handle, `host`.

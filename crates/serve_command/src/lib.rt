@@ -7,4 +7,4 @@ mod documents;
 mod place;
 mod running;
 
-pub use command::serve;
+pub use command::{VERSION, serve};

@@ -5,7 +5,7 @@ use alloc_desk::{Desk, DeskName};
 use allocation_core::{Core, JobSpec};
 use lists::Text;
 use sd_documents::read_config;
-use sd_server::{ConfigPages, Handler, ServiceState};
+use sd_server::{ConfigPages, Handler, ListTexts, ServiceState};
 use std::alloc::Global;
 use std::sync::ledger::{Blank, Ledger};
 use std::sync::{Arc, Mutex};
@@ -45,8 +45,9 @@ pub(crate) fn handler_of<R: Copy, L: Ledger, B: Ledger, N: DeskName>(
         desk: Arc::new(alloc, desk).ok()?,
         pass: Arc::new(alloc, Mutex::new(pass)).ok()?,
         pages: Arc::new(alloc, pages_of(alloc)?).ok()?,
-        state: Arc::new(alloc, ServiceState::new(false, 0)).ok()?,
+        state: Arc::new(alloc, ServiceState::new(alloc, false, 0)).ok()?,
         kept: None,
+        texts: Arc::new(alloc, ListTexts::new(alloc)).ok()?,
     })
 }
 

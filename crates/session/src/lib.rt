@@ -10,8 +10,6 @@ mod joining;
 mod lines;
 mod pages;
 mod sums;
-#[cfg(test)]
-mod tests;
 
 pub use document::{MOST_ROUNDS, Session, read_session};
 pub use error::SessionError;

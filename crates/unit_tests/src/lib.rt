@@ -10,6 +10,8 @@ mod discovery_documents;
 #[cfg(test)]
 mod engine;
 #[cfg(test)]
+mod holders;
+#[cfg(test)]
 mod labels;
 #[cfg(test)]
 mod plain;

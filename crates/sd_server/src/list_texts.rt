@@ -1,0 +1,89 @@
+//! The texts of the lists that collectors took, kept for the next time that they ask.
+ghost use Rattle.std.specs.Prelude.{IfOk};
+ghost use Rattle.sd_server.specs.Listing.{IfGroups, IsGroups};
+
+use crate::list_text::ListText;
+use alloc_desk::DeskName;
+use fleet_events::{AllocationNumber, CollectorId, TargetId};
+use indexmap::IndexMap;
+use lists::Text;
+use std::alloc::{AllocError, Global};
+use std::sync::{Arc, Mutex, Wait};
+
+/// The texts of the lists of one allocation, by collector and place of the job. No two collectors hold a target, so they take no more
+/// room than one text of all targets.
+#[derive(Drop)]
+pub struct ListTexts<N: DeskName> {
+    kept: Mutex<Latest<N>>,
+}
+
+#[derive(Drop)]
+struct Latest<N: DeskName> {
+    allocation: AllocationNumber,
+    texts: IndexMap<(CollectorId, usize), Arc<ListText<N>>>,
+}
+
+impl<N: DeskName> ListTexts<N> {
+    /// No texts. It takes no memory.
+    pub fn new(alloc: Global) -> ListTexts<N> {
+        ListTexts {
+            kept: Mutex::new(Latest {
+                allocation: 0,
+                texts: IndexMap::new(alloc),
+            }),
+        }
+    }
+
+    /// The text of what a collector holds of a job, where it is kept.
+    pub(crate) fn text(
+        &self,
+        rt: &impl Wait,
+        collector: CollectorId,
+        place: usize,
+        held: &[TargetId],
+    ) -> Result<Option<Text>, AllocError>
+        ensures { IfOk result (IfGroups N.opening place held.now) }
+    {
+        match self.kept_text(rt, collector, place)? {
+            Some(text) => text.text(place, held),
+            None => Ok(None),
+        }
+    }
+
+    /// What is kept is copied without the lock.
+    fn kept_text(
+        &self,
+        rt: &impl Wait,
+        collector: CollectorId,
+        place: usize,
+    ) -> Result<Option<Arc<ListText<N>>>, AllocError> {
+        let kept = self.kept.lock(rt);
+        match kept.texts.get(&(collector, place)) {
+            Some(text) => Ok(Some(Arc::try_clone(text)?)),
+            None => Ok(None),
+        }
+    }
+
+    /// Keeps a text of an allocation, unless there are texts of a later one. Those of earlier ones go.
+    pub(crate) fn keep(
+        &self,
+        rt: &impl Wait,
+        allocation: AllocationNumber,
+        collector: CollectorId,
+        place: usize,
+        text: Arc<ListText<N>>,
+    ) -> Result<(), AllocError> {
+        let mut kept = self.kept.lock(rt);
+        if allocation < kept.allocation {
+            return Ok(());
+        }
+        if allocation > kept.allocation {
+            kept.allocation = allocation;
+            kept.texts.clear();
+        }
+        kept.texts
+            .insert((collector, place), text)
+            .map_err(AllocError::from)?;
+        Ok(())
+    }
+}

@@ -1,0 +1,139 @@
+//! What a service tells of its sources and of its last allocations.
+use crate::counts::Counts;
+use lists::{Plain, Text};
+use std::alloc::{AllocError, Global};
+
+/// How many of the last allocations are told of.
+pub(crate) const MOST_ALLOCATIONS: usize = 10;
+
+/// What is told of a discovery source.
+#[derive(Debug, Drop)]
+pub struct SourceNote {
+    pub job: Text,
+    /// The number of the source in its job, from 1.
+    pub number: u32,
+    pub refreshes: u64,
+    pub failures: u64,
+    /// When it was refreshed last, as a timestamp (RFC 3339).
+    pub at: Text,
+    /// Why the last refresh failed. Empty where it did not.
+    pub fault: Text,
+}
+
+/// What is told of a published allocation.
+#[derive(Debug, Drop)]
+pub struct AllocationNote {
+    pub number: u32,
+    /// When it was published, as a timestamp (RFC 3339).
+    pub at: Text,
+    /// How many targets somebody holds.
+    pub covered: u64,
+    /// How many targets another live collector held before.
+    pub moved: u64,
+    /// How many targets are left with a draining collector.
+    pub left: u64,
+    /// How long it took to find and publish, in milliseconds.
+    pub milliseconds: u64,
+}
+
+/// What a service notes while it runs.
+#[derive(Debug, Drop)]
+pub(crate) struct Notes {
+    pub(crate) counts: Counts,
+    pub(crate) sources: Vec<SourceNote>,
+    /// The last ones, the latest first.
+    pub(crate) allocations: Vec<AllocationNote>,
+    /// How long all reallocations took together, in milliseconds.
+    pub(crate) milliseconds: u64,
+}
+
+impl Notes {
+    pub(crate) fn new(alloc: Global) -> Notes {
+        Notes {
+            counts: Counts::new(),
+            sources: Vec::new(alloc),
+            allocations: Vec::new(alloc),
+            milliseconds: 0,
+        }
+    }
+
+    pub(crate) fn copy(&self, alloc: Global) -> Result<Notes, AllocError> {
+        Ok(Notes {
+            counts: self.counts,
+            sources: copied_sources(alloc, self.sources.as_slice())?,
+            allocations: copied_allocations(alloc, self.allocations.as_slice())?,
+            milliseconds: self.milliseconds,
+        })
+    }
+
+    /// A source was refreshed.
+    pub(crate) fn note_refresh(&mut self, refresh: SourceNote) -> Result<(), AllocError> {
+        for note in &mut self.sources {
+            if note.number == refresh.number && note.job.same(&refresh.job) {
+                note.refreshes = note.refreshes.saturating_add(refresh.refreshes);
+                note.failures = note.failures.saturating_add(refresh.failures);
+                note.at = refresh.at;
+                note.fault = refresh.fault;
+                return Ok(());
+            }
+        }
+        self.sources.push(refresh)?;
+        Ok(())
+    }
+
+    /// An allocation was published.
+    pub(crate) fn note_allocation(&mut self, note: AllocationNote) -> Result<(), AllocError> {
+        self.allocations.insert(0, note)?;
+        self.allocations.truncate(MOST_ALLOCATIONS);
+        Ok(())
+    }
+}
+
+fn copied_sources(alloc: Global, notes: &[SourceNote]) -> Result<Vec<SourceNote>, AllocError> {
+    let mut copies = Vec::with_capacity(alloc, notes.len())?;
+    for note in notes {
+        copies.push(note.copy()?)?;
+    }
+    Ok(copies)
+}
+
+fn copied_allocations(
+    alloc: Global,
+    notes: &[AllocationNote],
+) -> Result<Vec<AllocationNote>, AllocError> {
+    let mut copies = Vec::with_capacity(alloc, notes.len())?;
+    for note in notes {
+        copies.push(note.copy()?)?;
+    }
+    Ok(copies)
+}
+
+impl SourceNote {
+    fn copy(&self) -> Result<SourceNote, AllocError> {
+        let job = self.job.copy()?;
+        let at = self.at.copy()?;
+        let fault = self.fault.copy()?;
+        Ok(SourceNote {
+            job,
+            number: self.number,
+            refreshes: self.refreshes,
+            failures: self.failures,
+            at,
+            fault,
+        })
+    }
+}
+
+impl AllocationNote {
+    fn copy(&self) -> Result<AllocationNote, AllocError> {
+        let at = self.at.copy()?;
+        Ok(AllocationNote {
+            number: self.number,
+            at,
+            covered: self.covered,
+            moved: self.moved,
+            left: self.left,
+            milliseconds: self.milliseconds,
+        })
+    }
+}

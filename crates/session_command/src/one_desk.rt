@@ -1,0 +1,243 @@
+//! A session over its desk.
+ghost use Rattle.std.specs.Prelude.{◌≡◌, ◌<◌, ◌≤◌, IfOk, OnOk};
+ghost use Rattle.alloc_desk.specs.declared.limits.TheConstants.{MOST_PASSES};
+ghost use Rattle.session_command.specs.Totals.{IsEnded, IsReached};
+
+use crate::asking::ask_all;
+use crate::ended::Halt;
+use crate::staff::{Staff, device};
+use alloc_desk::{Desk, DeskName, Pass};
+use allocation_core::Core;
+use collector_pool::Open;
+use lists::Text;
+use sd_server::{ConfigPages, Handler, ListTexts, ServiceState, serve_one_by_one};
+use session::{Session, total_line};
+use session_rounds::{begin, run_rounds};
+use std::alloc::{AllocError, AllocGlobal, Global};
+use std::net::{Ipv4Addr, Net, SocketAddr, TcpListener, TcpStream};
+use std::random::RandomSource;
+use std::sync::atomic::{AtomicBool, Ordering};
+use std::sync::ledger::{Blank, Ledger};
+use std::sync::{Arc, Mutex, Wait};
+use std::thread;
+use std::thread::Threads;
+use std::time::Clock;
+use tokio::runtime::LocalRuntime;
+
+/// How many passes a desk has beside those of the collectors: that of the refresher, and that of the server.
+pub(crate) const OTHER_SEATS: u32 = 2;
+
+/// Runs a session over a desk with so many passes, and writes its lines.
+pub(crate) fn run_over_desk<R, L, B, N>(
+    rt: &R,
+    alloc: Global,
+    session: &Session,
+    core: Core,
+    seats: u32,
+    calls: Blank,
+    samples: Blank,
+    text: &mut Vec<u8>,
+) -> Result<(), Halt>
+where
+    R: Wait
+        + Threads
+        + Clock
+        + Net<Listener = TcpListener, Stream = TcpStream>
+        + RandomSource
+        + AllocGlobal
+        + Sync
+        + Send
+        + Copy
+        + Drop,
+    L: Ledger + Send + Sync,
+    B: Ledger + Send + Sync,
+    N: DeskName + Send + Sync,
+    requires core { (core ≡ N.opening) × (N.seats ≡ seats) }
+    requires seats { (0 < seats) × (seats ≤ MOST_PASSES) }
+    requires calls { (calls.name ≡ L.name) × (calls.parts ≡ L.parts) × (L.parts ≡ seats) }
+    requires samples { (samples.name ≡ B.name) × (samples.parts ≡ B.parts) × (B.parts ≡ seats) }
+{
+    let Ok((desk, mut passes)) = Desk::<L, B, N>::open(alloc, core, seats, calls, samples) else {
+        return Err(AllocError.into());
+    };
+    let (Some(asked), Some(own)) = (passes.pop(), passes.pop()) else {
+        return Err(AllocError.into());
+    };
+    let mut staff = Staff::muster(rt, alloc, own, passes)?;
+    let handler = handler_of(rt, alloc, session, desk, asked)?;
+    let answers = run(rt, alloc, session, &handler, &mut staff, text)?;
+    let passes = staff.dismiss(alloc)?;
+    write_end(alloc, handler, passes, answers.as_slice(), text)
+}
+
+/// What requests are handled with.
+fn handler_of<R: Copy, L: Ledger, B: Ledger, N: DeskName>(
+    rt: &R,
+    alloc: Global,
+    session: &Session,
+    desk: Desk<L, B, N>,
+    pass: Pass<L, B, N>,
+) -> Result<Handler<R, L, B, N>, AllocError> {
+    Ok(Handler {
+        rt: *rt,
+        alloc,
+        desk: Arc::new(alloc, desk)?,
+        pass: Arc::new(alloc, Mutex::new(pass))?,
+        pages: Arc::new(alloc, ConfigPages::of(alloc, &session.config)?)?,
+        state: Arc::new(alloc, ServiceState::new(alloc, false, 0))?,
+        kept: None,
+        texts: Arc::new(alloc, ListTexts::new(alloc))?,
+    })
+}
+
+/// Runs the rounds and writes their lines. Gives what the allocator answered after them.
+fn run<R, L, B, N>(
+    rt: &R,
+    alloc: Global,
+    session: &Session,
+    handler: &Handler<R, L, B, N>,
+    staff: &mut Staff<R, L, B, N>,
+    text: &mut Vec<u8>,
+) -> Result<Vec<u8>, Halt>
+where
+    R: Wait
+        + Threads
+        + Clock
+        + Net<Listener = TcpListener, Stream = TcpStream>
+        + RandomSource
+        + AllocGlobal
+        + Sync
+        + Send
+        + Copy
+        + Drop,
+    L: Ledger + Send + Sync,
+    B: Ledger + Send + Sync,
+    N: DeskName + Send + Sync,
+{
+    let Staff { refresher, workers } = staff;
+    begin(&handler.desk, rt, alloc, session, refresher, text)?;
+    run_rounds(
+        &handler.desk,
+        rt,
+        alloc,
+        session.config.jobs.as_slice(),
+        session.rounds,
+        workers.as_mut_slice(),
+        refresher,
+        &Open,
+        text,
+    )?;
+    ask(rt, alloc, handler, session.asks.as_slice())
+}
+
+/// Asks a server of the allocator for each path.
+fn ask<R, L, B, N>(
+    rt: &R,
+    alloc: Global,
+    handler: &Handler<R, L, B, N>,
+    paths: &[Text],
+) -> Result<Vec<u8>, Halt>
+where
+    R: Wait
+        + Threads
+        + Clock
+        + Net<Listener = TcpListener, Stream = TcpStream>
+        + RandomSource
+        + AllocGlobal
+        + Sync
+        + Send
+        + Copy
+        + Drop,
+    L: Ledger + Send + Sync,
+    B: Ledger + Send + Sync,
+    N: DeskName + Send + Sync,
+{
+    let mut runtime = LocalRuntime::new(rt)?;
+    let any = SocketAddr::from((Ipv4Addr::LOCALHOST, 0));
+    let listener = tokio::net::TcpListener::bind(rt, any, runtime.handle().reactor())?;
+    let here = listener.local_addr()?;
+    let stop = AtomicBool::new(false);
+    let (served, answers) = thread::join(
+        rt,
+        || serve_one_by_one(rt, &mut runtime, listener, handler, &stop),
+        || ask_then_stop(rt, alloc, here, paths, &stop),
+    );
+    served?;
+    Ok(answers?)
+}
+
+fn ask_then_stop<R>(
+    rt: &R,
+    alloc: Global,
+    here: SocketAddr,
+    paths: &[Text],
+    stop: &AtomicBool,
+) -> Result<Vec<u8>, AllocError>
+where
+    R: Wait
+        + Clock
+        + Net<Listener = TcpListener, Stream = TcpStream>
+        + RandomSource
+        + AllocGlobal
+        + Copy
+        + Drop,
+{
+    let answers = ask_at(rt, alloc, here, paths);
+    stop.store(true, Ordering::SeqCst);
+    let _last = TcpStream::connect(rt, here);
+    answers
+}
+
+fn ask_at<R>(rt: &R, alloc: Global, here: SocketAddr, paths: &[Text]) -> Result<Vec<u8>, AllocError>
+where
+    R: Wait + Clock + Net + RandomSource + AllocGlobal + Copy + Drop,
+{
+    let address = format!(in alloc; "{here}")?;
+    ask_all(alloc, &mut device(rt), address.as_str(), paths)
+}
+
+/// Closes the desk, and writes the total and the answers.
+fn write_end<R: Drop, L: Ledger, B: Ledger, N: DeskName>(
+    alloc: Global,
+    handler: Handler<R, L, B, N>,
+    passes: Vec<Pass<L, B, N>>,
+    answers: &[u8],
+    text: &mut Vec<u8>,
+) -> Result<(), Halt>
+    ensures { OnOk result (IsEnded N.opening answers.now text.old.items text.new.items) }
+{
+    let core = closed(handler, passes)?;
+    let line = total_line(alloc, core.total())?;
+    text.extend_from_slice(line.as_bytes())?;
+    text.extend_from_slice(answers)?;
+    Ok(())
+}
+
+/// Closes the desk of a handler whose server has ended.
+fn closed<R: Drop, L: Ledger, B: Ledger, N: DeskName>(
+    handler: Handler<R, L, B, N>,
+    mut passes: Vec<Pass<L, B, N>>,
+) -> Result<Core, Halt>
+    ensures { IfOk result (IsReached N.opening) }
+{
+    let Handler {
+        rt: _,
+        alloc: _,
+        desk,
+        pass,
+        pages: _,
+        state: _,
+        kept: _,
+        texts: _,
+    } = handler;
+    let (Some(desk), Some(pass)) = (Arc::into_inner(desk), Arc::into_inner(pass)) else {
+        return Err(Halt::Device);
+    };
+    if passes.push(pass.into_inner()).is_err() {
+        return Err(AllocError.into());
+    }
+    match desk.close(passes) {
+        Ok(closed) => Ok(closed.into_core()),
+        Err(_) => Err(Halt::Device),
+    }
+}

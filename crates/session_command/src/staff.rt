@@ -1,0 +1,65 @@
+//! Who works over a session's desk.
+use alloc_desk::{DeskName, Pass};
+use allocation_core::CollectorId;
+use collector_pool::Worker;
+use scrape_client::HyperScrape;
+use session_rounds::Refresher;
+use std::alloc::{AllocError, Global};
+use std::sync::ledger::Ledger;
+use std::time::Duration;
+
+/// How long a fetch may take.
+const LONGEST_SECONDS: u64 = 10;
+
+/// Who refreshes the sources, and the collectors.
+#[derive(Drop)]
+pub(crate) struct Staff<R: Drop, L: Ledger, B: Ledger, N: DeskName> {
+    pub(crate) refresher: Refresher<L, B, N, HyperScrape<R>>,
+    pub(crate) workers: Vec<Worker<L, B, N, HyperScrape<R>>>,
+}
+
+impl<R: Copy + Drop, L: Ledger, B: Ledger, N: DeskName> Staff<R, L, B, N> {
+    /// The first pass is that of the refresher, and each further one that of a collector. A session's collectors have the numbers from
+    /// 1 on, in order.
+    pub(crate) fn muster(
+        rt: &R,
+        alloc: Global,
+        first: Pass<L, B, N>,
+        others: Vec<Pass<L, B, N>>,
+    ) -> Result<Staff<R, L, B, N>, AllocError> {
+        let mut workers = Vec::with_capacity(alloc, others.len())?;
+        let mut id: CollectorId = 0;
+        for pass in others {
+            id = id.saturating_add(1);
+            workers.push(Worker {
+                pass,
+                id,
+                scrape: device(rt),
+                turn: None,
+            })?;
+        }
+        Ok(Staff {
+            refresher: Refresher {
+                pass: first,
+                scrape: device(rt),
+            },
+            workers,
+        })
+    }
+
+    /// Gives the passes back.
+    pub(crate) fn dismiss(self, alloc: Global) -> Result<Vec<Pass<L, B, N>>, AllocError> {
+        let Staff { refresher, workers } = self;
+        let mut passes = Vec::new(alloc);
+        passes.push(refresher.pass)?;
+        for worker in workers {
+            passes.push(worker.pass)?;
+        }
+        Ok(passes)
+    }
+}
+
+/// A device with its limit of time.
+pub(crate) fn device<R: Copy>(rt: &R) -> HyperScrape<R> {
+    HyperScrape::new(*rt, Duration::from_secs(LONGEST_SECONDS))
+}

@@ -1,0 +1,51 @@
+//! The plain program that the spans are compared with.
+use lists::List;
+use std::alloc::{AllocError, Global};
+
+/// The plain program: all allocations as they came.
+#[derive(Drop)]
+pub(super) struct WholeLists {
+    pub(super) published: Vec<List<(u32, u32)>>,
+}
+
+impl WholeLists {
+    pub(super) fn publish(&mut self, pairs: List<(u32, u32)>) -> Result<(), AllocError> {
+        self.published.push(pairs)?;
+        Ok(())
+    }
+
+    pub(super) fn holder(&self, number: u32, target: u32) -> Option<u32> {
+        for pair in self.allocation(number) {
+            if pair.0 == target {
+                return Some(pair.1);
+            }
+        }
+        None
+    }
+
+    pub(super) fn held(
+        &self,
+        alloc: Global,
+        number: u32,
+        collector: u32,
+    ) -> Result<List<u32>, AllocError> {
+        let mut held = List::new(alloc);
+        for pair in self.allocation(number) {
+            if pair.1 == collector {
+                held.push(pair.0)?;
+            }
+        }
+        Ok(held)
+    }
+
+    /// The allocation of a number, the empty one where there is none.
+    fn allocation(&self, number: u32) -> &[(u32, u32)] {
+        if number == 0 {
+            return &[];
+        }
+        match self.published.as_slice().get(number as usize - 1) {
+            Some(pairs) => pairs.as_slice(),
+            None => &[],
+        }
+    }
+}
