@@ -352,7 +352,7 @@ def sources(folder):
     service = Service(folder, fleet(jobs, fetch_timeout="20s"), journal)
     service.is_up()
     ready = comes(lambda: service.ask("GET", "/-/ready")[0] == 200, 100)
-    tell("each source was asked, and four failed", ready and comes(lambda: service.figure("allocd_refresh_failures_total") == 4))
+    tell("each source was asked, and four failed", ready and comes(lambda: sum(service.figure(f'allocd_refresh_failures_total{{source="{name}/1"}}') or 0 for name in paths) == 4))
     found = {name: service.figure(f'allocd_targets{{job="{name}"}}') for name in paths}
     tell("a list of 4,194,304 bytes is taken, and no longer one", (found["longest"], found["longer"]) == (1, 0))
     tell("as many targets as may be are taken, and no list of more", (found["most"], found["more"]) == (16_381, 0))

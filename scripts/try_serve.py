@@ -585,7 +585,7 @@ def slow_source(folder):
     config["scrape_configs"].append({"job_name": "slow", "http_sd_configs": [{"url": url, "refresh_interval": "2s"}]})
     service = Service(folder, config=config)
     service.is_up()
-    tell("a source that trickles fails after fetch_timeout", waits_for(service.port, "allocd_refresh_failures_total 1"))
+    tell("a source that trickles fails after fetch_timeout", waits_for(service.port, 'allocd_refresh_failures_total{source="slow/1"} 1'))
     tell("others go on", ask(service.port, "GET", "/-/ready")[0] == 200 and waits_for(service.port, "allocd_allocation 1"))
     tell("ends", service.quit() == (200, 0))
     source.shutdown()
