@@ -3,7 +3,7 @@
 
 Each command and each request either does as it does with memory, or says that there is none; what it does not do it does once there is memory. In a
 row of more than MOST allocations (2000 where left out) only so many are tried, evenly spread. It needs Linux and a C compiler; parts are `commands`,
-`requests`, `behind` and `starts`. The table is Markdown. It ends with 0 where all rows hold."""
+`sessions`, `requests`, `behind` and `starts`. The table is Markdown. It ends with 0 where all rows hold."""
 
 import collections
 import http.client
@@ -11,6 +11,7 @@ import http.server
 import json
 import mmap
 import os
+import re
 import struct
 import subprocess
 import sys
@@ -75,8 +76,8 @@ class Row:
         if verdict == "other":
             wrong.append(f"{self.name}, allocation {number}: {more}")
 
-    def tell(self):
-        counts = (self.verdicts[it] for it in ("same", "memory", "closed", "other"))
+    def tell(self, verdicts=("same", "memory", "closed", "other")):
+        counts = (self.verdicts[it] for it in verdicts)
         print(f"| {self.name} | {self.met:,} | {self.tried:,} | {' | '.join(f'{it:,}' for it in counts)} |", flush=True)
 
 
@@ -182,6 +183,84 @@ def commands(folder, refusals):
                 refusals.stop()
                 row.add(command_verdict(found, wanted), number, found)
             row.tell()
+
+
+# Sessions
+
+
+def crowded_session():
+    """Two collectors over targets of a group and of a source, of which one is never there."""
+    paths = [f"/t{i}" for i in range(6)]
+    groups = [{"targets": ["@here"], "labels": {"__metrics_path__": path}} for path in paths]
+    pages = [{"path": path, "status": 200, "media": "text/plain", "body": "a 1\nb{x=\"y\"} 2\n" * (i + 1)} for i, path in enumerate(paths[:5])]
+    config = {
+        "scrape_configs": [
+            {"job_name": "node", "static_configs": groups[:4], "http_sd_configs": [{"url": "http://@here/sd"}], "target_limit": 4},
+        ]
+    }
+    return {
+        "config": config,
+        "collectors": [{"name": name, "reach": [{"allow": True, "test": "any"}]} for name in ("a", "b")],
+        "rounds": 2,
+        "serve": [*pages, {"path": "/sd", "status": 200, "media": "application/json", "body": json.dumps(groups[4:])}],
+        "ask": ["/jobs", "/jobs/node/targets?collector_id=a"],
+    }
+
+
+def lines_of_session(out):
+    """The rounds' booked reports and samples, the total, and the other lines."""
+    rounds, total, rest = [], None, []
+    for line in out.decode().splitlines():
+        words = line.split()
+        if words[:1] == ["round"] and words[2::2] == ["booked", "refused", "samples"]:
+            rounds.append((int(words[3]), int(words[7])))
+        elif words[:1] == ["total"]:
+            total = int(words[1])
+        else:
+            rest.append(line)
+    return rounds, total, rest
+
+
+def session_verdict(found, wanted):
+    """A session gives what it gives with memory; or books less, and its total is what its rounds booked; or says that there is no memory."""
+    (status, out), (_, right) = found, wanted
+    if status == 3 and out.endswith(b"memory\n"):
+        return "memory"
+    if status != 0:
+        return "other"
+    rounds, total, rest = lines_of_session(out)
+    most, _, all_rest = lines_of_session(right)
+    if (rounds, rest) == (most, all_rest):
+        return "same"
+    is_sound = total == sum(samples for _, samples in rounds)
+    is_less = len(rounds) == len(most) and all(few <= many for few, many in zip(rounds, most))
+    return "less" if is_sound and is_less else "other"
+
+
+def session(text, environment):
+    """A session's status and output, without the ports."""
+    status, out = run(["session"], text, env=environment, timeout=GENEROUS * 6)
+    return status, re.sub(rb"127\.0\.0\.1:\d+", b"HERE", out)
+
+
+def sessions(folder, refusals):
+    """Turns, rounds and refreshes on threads, as a session runs them."""
+    print("| Session | Allocations met | Tried | As without | Less booked, and so much in all | Want of memory | Other |")
+    print("|---|---|---|---|---|---|---|")
+    with open(f"{ROOT}/examples/session.json", "rb") as it:
+        example = it.read()
+    for name, text in (("`examples/session.json`", example), ("two collectors, six targets", json.dumps(crowded_session()).encode())):
+        for way, last in (("one", None), ("all from there", ALL)):
+            row = Row(f"{name}, {way}")
+            refusals.start()
+            wanted = session(text, refusals.environment)
+            row.met, _ = refusals.stop()
+            for number in spread(row.met):
+                refusals.start(number, last or number)
+                found = session(text, refusals.environment)
+                refusals.stop()
+                row.add(session_verdict(found, wanted), number, found)
+            row.tell(("same", "less", "memory", "other"))
 
 
 # Requests
@@ -638,7 +717,7 @@ def one_start(top, refusals, journal):
     return "same" if whole and crowd and ended == (200, 0) else "other"
 
 
-PARTS = (commands, requests, behind, starts)
+PARTS = (commands, sessions, requests, behind, starts)
 
 
 def main():

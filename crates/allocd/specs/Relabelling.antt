@@ -13,7 +13,7 @@ use Rattle.label_sets.specs.Finish.{finished}
 use Rattle.label_sets.specs.declared.target.Finished.{Finished}
 use Rattle.label_sets.specs.declared.target.Finished.TheVariants.{Target, NoAddress}
 use Rattle.relabel.specs.Applying.{rules_said, IsRefusedFrom, relabelled}
-use Rattle.relabel.specs.declared.error.RuleError.{RuleError}
+use Rattle.relabel.specs.Names.{rule_error_name}
 use Rattle.relabel.specs.declared.error.RuleError.TheVariants as rule
 use Rattle.relabel.specs.declared.error.RulesError.{RulesError}
 use Rattle.relabel.specs.declared.rule.RuleSettings.{RuleSettings}
@@ -81,14 +81,6 @@ pub record IsRelabelled (labels : LabelList) (items : Items) (finding : Finding)
   pub says : finding ≡ finding_of (relabelled settings labels)
 
 -- ---- texts
-
-abbrev pub rule_error_name : RuleError → List ℕ
-rule_error_name rule.Shape = codes "Shape"
-rule_error_name rule.UnknownAction = codes "UnknownAction"
-rule_error_name rule.NoTargetLabel = codes "NoTargetLabel"
-rule_error_name rule.ZeroModulus = codes "ZeroModulus"
-rule_error_name rule.BadPattern = codes "BadPattern"
-rule_error_name rule.Memory = codes "Memory"
 
 abbrev pub target_line : Option (List ℕ) → List ℕ
 target_line (Some text) = codes "target " ++ (text ++ codes "\n")

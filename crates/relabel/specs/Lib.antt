@@ -1,5 +1,6 @@
 pub mod Patterns
 pub mod Compiling
+pub mod Names
 pub mod Reading
 pub mod Spelling
 pub mod Effect

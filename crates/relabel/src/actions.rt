@@ -8,11 +8,11 @@ mod mapping;
 mod replacing;
 
 use crate::action::Action;
-use crate::worker::Worker;
+use crate::rule_matcher::RuleMatcher;
 use label_sets::Labels;
 use std::alloc::{AllocError, Global};
 
-impl<'r> Worker<'r> {
+impl<'r> RuleMatcher<'r> {
     /// Changes the labels as the rule says, or says that the rule drops the target.
     #[tactic(auto, unfolding(crate::specs::Effect::effect))]
     pub(crate) fn run(&mut self, alloc: Global, labels: &mut Labels) -> Result<bool, AllocError>

@@ -6,7 +6,7 @@ ghost use Rattle.relabel.specs.Applying.{relabelled};
 ghost use Rattle.relabel.specs.Discovering.{with_finished, with_relabelled, with_targets, discovered, count_of};
 
 use crate::rules::{Relabelled, Rules, run};
-use crate::worker::Worker;
+use crate::rule_matcher::RuleMatcher;
 use label_sets::{Finished, Target, finish};
 use lists::List;
 use sd_documents::{Group, Job, first_labels};
@@ -38,14 +38,14 @@ impl Rules {
         // Each target is found, dropped or without an address.
         ensures all { IfOk result (λ f. count_of f ≡ sum_by (λ (g : Group). length g.targets) groups.now) }
     {
-        let mut workers = self.workers(alloc)?;
+        let mut matchers = self.matchers(alloc)?;
         let mut found = Found {
             targets: List::new(alloc),
             dropped: 0,
             no_address: 0,
         };
         for group in groups {
-            add_group(alloc, &mut workers, job, source, group, &mut found)?;
+            add_group(alloc, &mut matchers, job, source, group, &mut found)?;
         }
         Ok(found)
     }
@@ -53,19 +53,19 @@ impl Rules {
 
 fn add_group(
     alloc: Global,
-    workers: &mut [Worker<'_>],
+    matchers: &mut [RuleMatcher<'_>],
     job: &Job,
     source: u32,
     group: &Group,
     found: &mut Found,
 ) -> Result<(), AllocError>
     requires { source ≤ length job.now.http_urls }
-    ensures value { OnOk result (found.new ≡ with_targets workers.old job.now source group.now group.now.targets found.old) }
-    ensures same { workers.new ≡ workers.old }
+    ensures value { OnOk result (found.new ≡ with_targets matchers.old job.now source group.now group.now.targets found.old) }
+    ensures same { matchers.new ≡ matchers.old }
 {
     for target in group.targets.as_slice() {
         let labels = first_labels(alloc, job, group, target.as_str(), source)?;
-        let relabelled = run(alloc, workers, labels)?;
+        let relabelled = run(alloc, matchers, labels)?;
         add_relabelled(alloc, found, relabelled)?;
     }
     Ok(())

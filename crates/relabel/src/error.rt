@@ -22,6 +22,25 @@ pub enum RuleError {
     Memory,
 }
 
+impl RuleError {
+    ghost use Rattle.std.specs.Prelude.{◌≡◌};
+    ghost use Rattle.relabel.specs.Names.{rule_error_name};
+
+    /// Its name, as a refused rule is told by.
+    pub fn name(self) -> &'static str
+        ensures { result.now ≡ rule_error_name self }
+    {
+        match self {
+            RuleError::Shape => "Shape",
+            RuleError::UnknownAction => "UnknownAction",
+            RuleError::NoTargetLabel => "NoTargetLabel",
+            RuleError::ZeroModulus => "ZeroModulus",
+            RuleError::BadPattern => "BadPattern",
+            RuleError::Memory => "Memory",
+        }
+    }
+}
+
 impl From<AllocError> for RuleError {
     ghost use Rattle.std.specs.Prelude.{◌≡◌};
     ghost use Rattle.relabel.specs.declared.error.RuleError.TheVariants.{Memory};

@@ -15,8 +15,8 @@ mod laws;
 mod name;
 mod pattern;
 mod rule;
+mod rule_matcher;
 mod rules;
-mod worker;
 
 pub use action::Action;
 pub use discovery::Found;

@@ -10,7 +10,7 @@ ghost use Rattle.relabel.specs.Applying.{rules_said, IsRefusedFrom, relabelled};
 use crate::error::{RuleError, RulesError};
 use crate::pattern::{Compiler, RegexCrate};
 use crate::rule::Rule;
-use crate::worker::Worker;
+use crate::rule_matcher::RuleMatcher;
 use label_sets::Labels;
 use lists::{List, Plain};
 use serde_json::Value;
@@ -76,20 +76,20 @@ impl Rules {
     pub fn apply(&self, alloc: Global, labels: &Labels) -> Result<Relabelled, AllocError>
         ensures { IfOk result (λ r. r ≡ relabelled self.now labels.now) }
     {
-        let mut workers = self.workers(alloc)?;
+        let mut matchers = self.matchers(alloc)?;
         let labels = labels.copy()?;
-        run(alloc, &mut workers, labels)
+        run(alloc, &mut matchers, labels)
     }
 
     /// The rules at work.
-    pub(crate) fn workers(&self, alloc: Global) -> Result<Vec<Worker<'_>>, AllocError>
-        ensures { IfOk result (λ workers. workers.items ≡ self.now) }
+    pub(crate) fn matchers(&self, alloc: Global) -> Result<Vec<RuleMatcher<'_>>, AllocError>
+        ensures { IfOk result (λ matchers. matchers.items ≡ self.now) }
     {
-        let mut workers = Vec::with_capacity(alloc, self.rules.len())?;
+        let mut matchers = Vec::with_capacity(alloc, self.rules.len())?;
         for rule in self.rules.as_slice() {
-            workers.push(Worker::new(alloc, rule)?)?;
+            matchers.push(RuleMatcher::new(alloc, rule)?)?;
         }
-        Ok(workers)
+        Ok(matchers)
     }
 }
 
@@ -110,14 +110,14 @@ fn add_rule<C: Compiler>(
 /// Runs the rules on the labels of a target.
 pub(crate) fn run(
     alloc: Global,
-    workers: &mut [Worker<'_>],
+    matchers: &mut [RuleMatcher<'_>],
     mut labels: Labels,
 ) -> Result<Relabelled, AllocError>
-    ensures value { IfOk result (λ r. r ≡ relabelled workers.old labels) }
-    ensures same { workers.new ≡ workers.old }
+    ensures value { IfOk result (λ r. r ≡ relabelled matchers.old labels) }
+    ensures same { matchers.new ≡ matchers.old }
 {
-    for index in 0..workers.len() {
-        if !workers[index].run(alloc, &mut labels)? {
+    for index in 0..matchers.len() {
+        if !matchers[index].run(alloc, &mut labels)? {
             return Ok(Relabelled::Dropped(index + 1));
         }
     }

@@ -50,6 +50,7 @@ where
         + Copy
         + Drop,
 {
+    handler.state.set_workers(workers.number());
     let ended = thread::map_indices(
         rt,
         alloc,
@@ -119,8 +120,10 @@ where
         match listener.accept() {
             Ok((stream, _from)) => {
                 workers.hold();
+                handler.state.begin_connection();
                 // A connection that failed is dropped, and the next is served.
                 drop(serve_one(rt, &mut runtime, &http, stream, handler, &routes, workers));
+                handler.state.end_connection();
                 workers.release();
             }
             Err(_) => thread::sleep(rt, Duration::from_millis(PAUSE_MILLIS)),

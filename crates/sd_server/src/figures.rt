@@ -130,23 +130,21 @@ fn count_covered(core: &Core, live: &[bool], figures: &mut Figures) {
     }
 }
 
-/// A live target is held by a collector.
+/// A live target is held by a collector. One that has left holds nothing.
 fn count_one(core: &Core, target: usize, collector: CollectorId, figures: &mut Figures) {
-    let Some(known) = core.fleet().known().get(target) else {
+    let place = figures
+        .collectors
+        .binary_search_by(|other| other.id.cmp(&collector));
+    let (Ok(place), Some(known)) = (place, core.fleet().known().get(target)) else {
         return;
     };
     if let Some(job) = figures.jobs.get_mut(known.job) {
         job.covered = job.covered.saturating_add(1);
     }
-    let place = figures
-        .collectors
-        .binary_search_by(|other| other.id.cmp(&collector));
-    if let Ok(place) = place {
-        if let Some(holder) = figures.collectors.get_mut(place) {
-            holder.held = holder.held.saturating_add(1);
-            if let Some(held) = holder.held_by_job.get_mut(known.job) {
-                *held = held.saturating_add(1);
-            }
+    if let Some(holder) = figures.collectors.get_mut(place) {
+        holder.held = holder.held.saturating_add(1);
+        if let Some(held) = holder.held_by_job.get_mut(known.job) {
+            *held = held.saturating_add(1);
         }
     }
 }

@@ -115,7 +115,19 @@ fn write_state(page: &mut Exposition, state: &ServiceState) -> Result<(), AllocE
     )?;
     let name = "allocd_journal_written_bytes_total";
     let count = u128::from(state.written());
-    write_counter(page, name, "Bytes that were written to journals.", count)
+    write_counter(page, name, "Bytes that were written to journals.", count)?;
+    write_gauge(
+        page,
+        "allocd_http_connections",
+        "Connections that are served, idle ones too.",
+        u128::from(state.connections()),
+    )?;
+    write_gauge(
+        page,
+        "allocd_http_connections_max",
+        "Connections that are served at once at most.",
+        u128::from(state.workers()),
+    )
 }
 
 /// What the last published allocation came to, and how long reallocations took.

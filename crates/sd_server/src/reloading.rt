@@ -3,7 +3,8 @@ use lists::{Plain, Text};
 use std::alloc::{AllocError, Global};
 use std::sync::{Condvar, Mutex, Wait};
 
-const CLOSED: &str = "The service ends, or opens another desk: ask again.\n";
+const CLOSED: &str =
+    "The service ends, or opens another desk, which reads its configuration at once: ask again to be told.\n";
 
 /// How a request has the service read its configuration again: it waits until the service has done so, and is told what became of it.
 #[derive(Drop)]

@@ -25,6 +25,10 @@ pub struct ServiceState {
     reallocations: AtomicU64,
     /// How many bytes of journals were written.
     written: AtomicU64,
+    /// How many connections are served at once at most.
+    workers: AtomicU64,
+    /// How many are served.
+    connections: AtomicU64,
     notes: Mutex<Notes>,
 }
 
@@ -42,6 +46,8 @@ impl ServiceState {
             failed_refreshes: AtomicU64::new(0),
             reallocations: AtomicU64::new(0),
             written: AtomicU64::new(0),
+            workers: AtomicU64::new(0),
+            connections: AtomicU64::new(0),
             notes: Mutex::new(Notes::new(alloc)),
         }
     }
@@ -124,6 +130,27 @@ impl ServiceState {
 
     pub(crate) fn written(&self) -> u64 {
         self.written.load(Ordering::SeqCst)
+    }
+
+    /// So many connections are served at once at most from now on.
+    pub(crate) fn set_workers(&self, number: usize) {
+        self.workers.store(number as u64, Ordering::SeqCst);
+    }
+
+    pub(crate) fn workers(&self) -> u64 {
+        self.workers.load(Ordering::SeqCst)
+    }
+
+    pub(crate) fn begin_connection(&self) {
+        self.connections.fetch_add(1, Ordering::SeqCst);
+    }
+
+    pub(crate) fn end_connection(&self) {
+        self.connections.fetch_sub(1, Ordering::SeqCst);
+    }
+
+    pub(crate) fn connections(&self) -> u64 {
+        self.connections.load(Ordering::SeqCst)
     }
 
     /// A request asks for this, or has no route.

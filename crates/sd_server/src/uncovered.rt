@@ -1,6 +1,6 @@
 //! The live targets that nobody holds, and why.
 use allocation_core::Core;
-use fleet_events::TargetId;
+use fleet_events::{CollectorId, TargetId};
 use std::alloc::{AllocError, Global};
 
 /// The live targets of a job that nobody holds in the current allocation, in order of number.
@@ -39,15 +39,25 @@ pub(crate) fn uncovered_of(
     Ok(found)
 }
 
-/// Which of the known targets are live and held by nobody.
+/// Which of the known targets are live and held by nobody. A collector that has left holds nothing.
 fn uncovered_marks(core: &Core) -> Result<Vec<bool>, AllocError> {
     let mut marks = core.fleet().live_marks()?;
-    for (target, _) in core.allocation() {
-        if let Some(mark) = marks.get_mut(*target as usize) {
-            *mark = false;
+    for (target, collector) in core.allocation() {
+        if is_live(core, *collector) {
+            if let Some(mark) = marks.get_mut(*target as usize) {
+                *mark = false;
+            }
         }
     }
     Ok(marks)
+}
+
+fn is_live(core: &Core, collector: CollectorId) -> bool {
+    let place = core
+        .fleet()
+        .collectors()
+        .binary_search_by(|other| other.id.cmp(&collector));
+    place.is_ok()
 }
 
 /// Whether some collector reaches a target and is not draining.

@@ -1,9 +1,9 @@
 //! The line of a session that is refused.
 ghost use Rattle.std.specs.Prelude.{◌≡◌, IfOk, string_bytes};
-ghost use Rattle.session_command.specs.Lines.{rule_error_name, stop_line as stop_line_text};
+ghost use Rattle.session_command.specs.Lines.{stop_line as stop_line_text};
 
 use allocation_core::Answer;
-use relabel::{RuleError, RulesError};
+use relabel::RulesError;
 use session_rounds::SessionStop;
 use std::alloc::{AllocError, Global};
 
@@ -30,20 +30,6 @@ fn rules_line(alloc: Global, error: &RulesError) -> Result<String, AllocError>
     ensures { IfOk result (λ s. string_bytes s ≡ stop_line_text (SessionStop.Rules error.now)) }
 {
     let number = error.number;
-    let name = name_of(error.error);
+    let name = error.error.name();
     format!(in alloc; "refused {number} {name}\n")
-}
-
-/// The name of a rule's refusal.
-fn name_of(error: RuleError) -> &'static str
-    ensures { result.now ≡ rule_error_name error }
-{
-    match error {
-        RuleError::Shape => "Shape",
-        RuleError::UnknownAction => "UnknownAction",
-        RuleError::NoTargetLabel => "NoTargetLabel",
-        RuleError::ZeroModulus => "ZeroModulus",
-        RuleError::BadPattern => "BadPattern",
-        RuleError::Memory => "Memory",
-    }
 }

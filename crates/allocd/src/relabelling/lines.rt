@@ -1,7 +1,7 @@
 //! The texts on findings.
 
 ghost use Rattle.std.specs.Prelude.{◌≡◌, IfOk, string_bytes};
-ghost use Rattle.allocd.specs.Relabelling.{finding_text, rule_error_name};
+ghost use Rattle.allocd.specs.Relabelling.{finding_text};
 
 use super::Finding;
 use lists::Text;
@@ -23,7 +23,7 @@ pub(super) fn text_of(alloc: Global, finding: &Finding) -> Result<String, AllocE
 fn refused_line(alloc: Global, number: usize, error: RuleError) -> Result<String, AllocError>
     ensures { IfOk result (λ text. string_bytes text ≡ finding_text (Finding.RefusedRule number error)) }
 {
-    let name = name_of(error);
+    let name = error.name();
     format!(in alloc; "refused {number} {name}\n")
 }
 
@@ -37,19 +37,5 @@ fn kept_lines(alloc: Global, labels: &Text, target: &Option<Text>) -> Result<Str
             format!(in alloc; "kept {labels}\ntarget {target}\n")
         }
         None => format!(in alloc; "kept {labels}\nno address\n"),
-    }
-}
-
-/// The name of a refusal.
-fn name_of(error: RuleError) -> &'static str
-    ensures { result.now ≡ rule_error_name error }
-{
-    match error {
-        RuleError::Shape => "Shape",
-        RuleError::UnknownAction => "UnknownAction",
-        RuleError::NoTargetLabel => "NoTargetLabel",
-        RuleError::ZeroModulus => "ZeroModulus",
-        RuleError::BadPattern => "BadPattern",
-        RuleError::Memory => "Memory",
     }
 }

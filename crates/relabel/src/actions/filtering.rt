@@ -5,12 +5,12 @@ ghost use Rattle.relabel.specs.Patterns.{matches};
 ghost use Rattle.relabel.specs.Effect.{input_matches, input_is_target};
 
 use crate::input::input_of;
-use crate::worker::Worker;
+use crate::rule_matcher::RuleMatcher;
 use label_sets::{LabelName, Labels};
 use lists::{List, Plain};
 use std::alloc::{AllocError, Global};
 
-impl<'r> Worker<'r> {
+impl<'r> RuleMatcher<'r> {
     /// Whether the pattern matches the input.
     pub(crate) fn matches_input(
         &mut self,

@@ -4,12 +4,12 @@ ghost use Rattle.relabel.specs.Spelling.{is_hash_mod};
 ghost use Rattle.relabel.specs.Effect.{hash_of as hash_of_text, hashed};
 
 use crate::input::input_of;
-use crate::worker::Worker;
+use crate::rule_matcher::RuleMatcher;
 use label_sets::{LabelError, Labels};
 use md5::{Digest, Md5};
 use std::alloc::{AllocError, Global};
 
-impl<'r> Worker<'r> {
+impl<'r> RuleMatcher<'r> {
     pub(crate) fn hash(&self, alloc: Global, labels: &mut Labels) -> Result<(), AllocError>
         requires { IsTrue (is_hash_mod self.now.action) }
         ensures { OnOk result (labels.new ≡ hashed self.now labels.old) }

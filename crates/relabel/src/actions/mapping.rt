@@ -5,12 +5,12 @@ ghost use Rattle.label_sets.specs.Labels.{names_of};
 ghost use Rattle.relabel.specs.Effect.{copy_of, with_copies, mapped};
 
 use crate::actions::replacing::set_named;
-use crate::worker::Worker;
+use crate::rule_matcher::RuleMatcher;
 use label_sets::{LabelName, Labels};
 use lists::{List, Text};
 use std::alloc::{AllocError, Global};
 
-impl<'r> Worker<'r> {
+impl<'r> RuleMatcher<'r> {
     pub(crate) fn map_labels(
         &mut self,
         alloc: Global,

@@ -3,11 +3,11 @@ ghost use Rattle.std.specs.Prelude.{◌≡◌, OnOk};
 ghost use Rattle.relabel.specs.Effect.{with_named, replaced};
 
 use crate::input::input_of;
-use crate::worker::Worker;
+use crate::rule_matcher::RuleMatcher;
 use label_sets::{LabelError, Labels};
 use std::alloc::{AllocError, Global};
 
-impl<'r> Worker<'r> {
+impl<'r> RuleMatcher<'r> {
     pub(crate) fn replace(&mut self, alloc: Global, labels: &mut Labels) -> Result<(), AllocError>
         ensures value { OnOk result (labels.new ≡ replaced self.old labels.old) }
         ensures same { self.new ≡ self.old }

@@ -1,7 +1,7 @@
 use Rattle.std.proofs.Common.{◌≡◌, take, not, filter, if◌then◌else◌}
 use Rattle.label_sets.specs.Labels.{names_of}
 use Rattle.relabel.specs.Patterns.{matches}
-use Rattle.relabel.proofs.worker.Worker.names_where.Given as goal
+use Rattle.relabel.proofs.rule_matcher.RuleMatcher.names_where.Given as goal
 
 abbrev pub invariant-loop-entry : goal.invariant-loop-entry
 invariant-loop-entry l = record {

@@ -1,7 +1,7 @@
 use Rattle.std.proofs.Common.{◌∙◌}
 use Rattle.relabel.specs.Patterns.{matches}
 use Rattle.relabel.proofs.Sweeping.{swept_end}
-use Rattle.relabel.proofs.worker.Worker.drop_labels.Goals as goal
+use Rattle.relabel.proofs.rule_matcher.RuleMatcher.drop_labels.Goals as goal
 
 pub returns-clause-value : goal.returns-clause-value
 returns-clause-value c =

@@ -5,7 +5,7 @@ use Rattle.regex.specs.Strings.{matcher_pattern}
 use Rattle.relabel.specs.Expanding.{AreExpansions}
 use Rattle.relabel.specs.Effect.{expansions}
 use Rattle.relabel.proofs.Expansions.{are_written, small}
-use Rattle.relabel.proofs.worker.Worker.expand.Goals as goal
+use Rattle.relabel.proofs.rule_matcher.RuleMatcher.expand.Goals as goal
 
 pub returns-clause-value : goal.returns-clause-value
 returns-clause-value c =

@@ -3,7 +3,7 @@ use Rattle.label_sets.specs.Name.{is_label_name}
 use Rattle.relabel.specs.declared.rule.RuleSettings.{RuleSettings}
 use Rattle.relabel.specs.Spelling.{is_hash_mod}
 use Rattle.relabel.proofs.Fitting.{fit_parts}
-use Rattle.relabel.proofs.worker.Worker.hash.Goals as goal
+use Rattle.relabel.proofs.rule_matcher.RuleMatcher.hash.Goals as goal
 
 pub nonzero_rem-shard : goal.nonzero_rem-shard
 nonzero_rem-shard c =

@@ -1,4 +1,4 @@
-//! A rule at work.
+//! A rule with what its pattern's searches write to.
 ghost use Rattle.std.specs.Prelude.{◌≡◌, IfOk};
 ghost use Rattle.relabel.specs.Patterns.{matches as is_match};
 ghost use Rattle.relabel.specs.Effect.{expansions as expansions_of};
@@ -12,12 +12,12 @@ use std::marker::Model;
 
 /// A rule with what its searches write to. Contracts see what the rule says.
 #[derive(Drop)]
-pub(crate) struct Worker<'r> {
+pub(crate) struct RuleMatcher<'r> {
     pub(crate) rule: &'r Rule,
     matcher: Matcher<'r>,
 }
 
-impl<'r> Model for Worker<'r> {
+impl<'r> Model for RuleMatcher<'r> {
     ghost use Rattle.regex.specs.Strings.{matcher_pattern};
     ghost use Rattle.relabel.specs.declared.rule.RuleSettings.{RuleSettings};
     ghost use Rattle.relabel.specs.Patterns.{FindsAs};
@@ -29,12 +29,12 @@ impl<'r> Model for Worker<'r> {
     ghost invariant = { λ w. FindsAs w.rule.now.pattern (matcher_pattern w.matcher) };
 }
 
-impl<'r> Worker<'r> {
-    pub(crate) fn new(alloc: Global, rule: &'r Rule) -> Result<Worker<'r>, AllocError>
+impl<'r> RuleMatcher<'r> {
+    pub(crate) fn new(alloc: Global, rule: &'r Rule) -> Result<RuleMatcher<'r>, AllocError>
         ensures { IfOk result (λ w. w ≡ rule.now) }
     {
         let matcher = rule.matcher(alloc)?;
-        Ok(Worker { rule, matcher })
+        Ok(RuleMatcher { rule, matcher })
     }
 
     /// Whether the pattern matches the text.

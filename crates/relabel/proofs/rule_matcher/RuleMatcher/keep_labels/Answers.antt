@@ -1,7 +1,7 @@
 use Rattle.std.proofs.Common.{◌∙◌}
 use Rattle.relabel.specs.Patterns.{matches}
 use Rattle.relabel.proofs.Sweeping.{kept_end}
-use Rattle.relabel.proofs.worker.Worker.keep_labels.Goals as goal
+use Rattle.relabel.proofs.rule_matcher.RuleMatcher.keep_labels.Goals as goal
 
 pub returns-clause-value : goal.returns-clause-value
 returns-clause-value c =
