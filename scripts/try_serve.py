@@ -532,6 +532,10 @@ def strangers(folder):
     for it in threads:
         it.join()
     tell(f"{MANY} clients at once are answered", said == [200] * MANY)
+    held = [socket.create_connection(("127.0.0.1", port), timeout=120) for _ in range(9)]
+    tell("idle connections are told of", waits_for(port, "allocd_http_connections 10\n"))
+    for it in held:
+        it.close()
     silent = []
     for i in range(MANY):
         it = socket.create_connection(("127.0.0.1", port), timeout=120)

@@ -11,7 +11,7 @@ use crate::replay::run_replay;
 use std::alloc::Global;
 use std::io::{Read, Write};
 
-/// What the program can do.
+/// The commands that answer one input.
 #[derive(Clone, Copy, Debug, PartialEq, Eq)]
 pub enum Command {
     Check,

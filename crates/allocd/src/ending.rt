@@ -1,4 +1,4 @@
-//! How the program ends: the only place that knows the exit statuses.
+//! How the program ends: the exit statuses of all commands but `serve`.
 ghost use Rattle.std.specs.Prelude.{◌≡◌};
 ghost use Rattle.allocd.specs.Ending.{exit_status, stop_line};
 

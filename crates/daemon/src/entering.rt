@@ -5,7 +5,7 @@ use alloc_desk::{DeskName, EnterError, Pass};
 use fleet_events::{Answer, Event};
 use log::{info, warn};
 use logfmt::{Logfmt, Quoted};
-use sd_server::EventKind;
+use service_state::EventKind;
 use std::sync::Wait;
 use std::sync::ledger::Ledger;
 use std::time::Clock;

@@ -140,7 +140,7 @@ where
         control: Control::new(),
         state: Arc::try_clone(&handler.state)?,
         listed: AtomicU64::new(0),
-        kept: another_kept(&handler.kept)?,
+        kept: Kept::shared(&handler.kept)?,
     };
     if office.is_new {
         shared.state.forget_sources(rt);
@@ -151,13 +151,6 @@ where
     }
     shared.run(office, &workers, here, handler, crew)?;
     Ok(shared.control.ending(rt).unwrap_or(Ending::Quit))
-}
-
-fn another_kept(kept: &Option<Arc<Kept>>) -> Result<Option<Arc<Kept>>, AllocError> {
-    match kept {
-        Some(kept) => Ok(Some(Arc::try_clone(kept)?)),
-        None => Ok(None),
-    }
 }
 
 impl<R, L, B, N> Shared<R, L, B, N>

@@ -7,7 +7,7 @@ use fleet_events::{CollectorId, TargetId};
 use lists::{Text, copies};
 use log::warn;
 use logfmt::{Logfmt, timestamp};
-use sd_server::{AllocationNote, EventKind};
+use service_state::{AllocationNote, EventKind};
 use std::alloc::AllocError;
 use std::sync::Wait;
 use std::sync::ledger::Ledger;

@@ -9,7 +9,7 @@ use log::warn;
 use logfmt::{Logfmt, Quoted, timestamp};
 use relabel::Rules;
 use sd_documents::Job;
-use sd_server::SourceNote;
+use service_state::SourceNote;
 use std::alloc::AllocError;
 use std::sync::atomic::Ordering;
 use std::sync::ledger::Ledger;

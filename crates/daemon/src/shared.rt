@@ -1,7 +1,8 @@
 //! What the threads of a desk share.
 use crate::control::Control;
 use alloc_desk::{Desk, DeskName};
-use sd_server::{Kept, ServiceState};
+use sd_server::Kept;
+use service_state::ServiceState;
 use std::alloc::Global;
 use std::sync::Arc;
 use std::sync::atomic::AtomicU64;

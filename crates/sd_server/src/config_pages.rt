@@ -22,6 +22,7 @@ pub struct ConfigPages {
 }
 
 impl ConfigPages {
+    /// What a configuration is told by.
     pub fn of(alloc: Global, config: &Config) -> Result<ConfigPages, AllocError>
         ensures scrape_configs { IfOk result (λ p. p.scrape_configs ≡ compact_text (view config.now.as_read)) }
         ensures jobs { IfOk result (λ p. p.jobs ≡ compact_text (jobs_data config.now.jobs)) }

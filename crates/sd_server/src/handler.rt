@@ -10,14 +10,9 @@ ghost use Rattle.sd_server.specs.Says.{IsEntered, IsUncoveredText, OfSome, Says,
 
 use crate::certificate_page::certificate_page;
 use crate::config_pages::ConfigPages;
-use crate::counts::EventKind;
-use crate::figures::{Figures, figures_of};
 use crate::kept::Kept;
 use crate::list_text::ListText;
 use crate::list_texts::ListTexts;
-use crate::metrics_page::metrics_page;
-use crate::service_state::ServiceState;
-use crate::status_page::status_page;
 use crate::uncovered::{Uncovered, uncovered_of};
 use alloc_desk::{Desk, DeskName, EnterError, NumberedTarget, Pass, Receipt, Share};
 use allocation_core::{Answer, Event, Refusal};
@@ -28,6 +23,7 @@ use reach_rules::CollectorName;
 use sd_routes::{
     Ask, Notice, RequestError, Said, event_of, job_page, targets_page, uncovered_page,
 };
+use service_state::{EventKind, Figures, ServiceState, figures_of, metrics_page, status_page};
 use std::alloc::{AllocError, Global};
 use std::sync::ledger::Ledger;
 use std::sync::{Arc, Mutex, Wait};
@@ -59,7 +55,7 @@ impl<R: Wait + Copy, L: Ledger, B: Ledger, N: DeskName> Handler<R, L, B, N> {
             pass: Arc::try_clone(&self.pass)?,
             pages: Arc::try_clone(&self.pages)?,
             state: Arc::try_clone(&self.state)?,
-            kept: another_kept(&self.kept)?,
+            kept: Kept::shared(&self.kept)?,
             texts: Arc::try_clone(&self.texts)?,
         })
     }
@@ -405,13 +401,6 @@ impl<R: Wait + Copy, L: Ledger, B: Ledger, N: DeskName> Handler<R, L, B, N> {
             Err(EnterError::JournalFull) => Err(RequestError::JournalFull),
             Err(EnterError::Memory) => Err(RequestError::Memory),
         }
-    }
-}
-
-fn another_kept(kept: &Option<Arc<Kept>>) -> Result<Option<Arc<Kept>>, AllocError> {
-    match kept {
-        Some(kept) => Ok(Some(Arc::try_clone(kept)?)),
-        None => Ok(None),
     }
 }
 

@@ -1,5 +1,6 @@
 //! How much of a desk's journal a device keeps.
-use std::sync::{Condvar, Mutex, Wait};
+use std::alloc::AllocError;
+use std::sync::{Arc, Condvar, Mutex, Wait};
 use std::time::{Clock, Duration};
 
 /// How much of a desk's journal a device keeps: who submits waits for his entry, and who writes tells how far he is.
@@ -32,6 +33,14 @@ impl Kept {
         }
     }
 
+    /// The same device once more, where there is one.
+    pub fn shared(kept: &Option<Arc<Kept>>) -> Result<Option<Arc<Kept>>, AllocError> {
+        match kept {
+            Some(kept) => Ok(Some(Arc::try_clone(kept)?)),
+            None => Ok(None),
+        }
+    }
+
     /// Waits until the entry at this position is kept, and says whether it is: it is not where the device failed before.
     pub fn wait(&self, rt: &impl Wait, position: u64) -> bool {
         let mut progress = self.progress.lock(rt);
@@ -43,7 +52,7 @@ impl Kept {
         progress.kept > position
     }
 
-    /// So many entries from the first on are kept.
+    /// So many entries from the first on are kept. Each call names at least as many as the one before.
     pub fn keep(&self, rt: &impl Wait, entries: u64) {
         self.progress.lock(rt).kept = entries;
         self.changed.notify_all();
@@ -55,6 +64,7 @@ impl Kept {
         self.changed.notify_all();
     }
 
+    /// Whether the device failed.
     pub fn is_broken(&self, rt: &impl Wait) -> bool {
         self.progress.lock(rt).is_broken
     }

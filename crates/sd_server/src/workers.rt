@@ -25,6 +25,7 @@ pub struct Workers {
 }
 
 impl Workers {
+    /// So many threads, of which none is held.
     pub fn new(alloc: Global, number: usize, times: Times) -> Result<Workers, AllocError> {
         Ok(Workers {
             number,
@@ -35,10 +36,12 @@ impl Workers {
         })
     }
 
+    /// How many threads there are.
     pub fn number(&self) -> usize {
         self.number
     }
 
+    /// How long a connection may take.
     pub fn times(&self) -> Times {
         self.times
     }
@@ -48,6 +51,7 @@ impl Workers {
         self.held.load(Ordering::SeqCst)
     }
 
+    /// Whether the server was told to end.
     pub fn is_stopped(&self) -> bool {
         self.stopped.load(Ordering::SeqCst)
     }

@@ -1,7 +1,7 @@
 //! The command: what its words ask for, and what it tells of it.
 use crate::configuration::ConfigurationFile;
 use crate::documents::read_service;
-use crate::place::place_of;
+use crate::listening::listen_address;
 use crate::running::serve_journal;
 use daemon::Service;
 use journal_files::Fault;
@@ -95,7 +95,7 @@ where
         + Drop,
 {
     let service = read_service(rt, rt.alloc(), options.config)?;
-    let here = place_of(rt, options, &service)?;
+    let here = listen_address(rt, options, &service)?;
     if options.check_config {
         return written(rt, "the configuration is valid\n");
     }

@@ -4,7 +4,7 @@
 mod command;
 mod configuration;
 mod documents;
-mod place;
+mod listening;
 mod running;
 
 pub use command::{VERSION, serve};

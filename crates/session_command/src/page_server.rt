@@ -11,12 +11,13 @@ use std::time::Duration;
 /// How long is waited for a client at most.
 const LONGEST_SECONDS: u64 = 5;
 
-/// How many bytes of a head are read at once, and how often at most.
+/// How many bytes of a head are read at once.
 const PIECE: usize = 1_024;
 
 /// What ends a head.
 const HEAD_END: &[u8] = b"\r\n\r\n";
 
+/// How often is read at most until a head has ended.
 const MOST_READS: u32 = 64;
 
 /// Answers one connection after the other, until the flag is set and one more came.

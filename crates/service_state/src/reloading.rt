@@ -39,7 +39,7 @@ impl Reloading {
     }
 
     /// Waits until the configuration is read again, and gives the line that tells why it is not taken, where it is not.
-    pub(crate) fn ask(&self, rt: &impl Wait, alloc: Global) -> Result<Option<Text>, AllocError> {
+    pub fn ask(&self, rt: &impl Wait, alloc: Global) -> Result<Option<Text>, AllocError> {
         let mut talk = self.talk.lock(rt);
         talk.asked = talk.asked.saturating_add(1);
         let turn = talk.asked;

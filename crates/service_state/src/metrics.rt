@@ -8,7 +8,7 @@ use lists::Text;
 use std::alloc::{AllocError, Global};
 
 /// The metrics of a service, in the text exposition format.
-pub(crate) fn metrics_page(
+pub fn metrics_page(
     alloc: Global,
     figures: &Figures,
     notes: &Notes,

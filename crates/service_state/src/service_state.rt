@@ -66,7 +66,7 @@ impl ServiceState {
     }
 
     /// Whether a request may end the service, or have it read its configuration again.
-    pub(crate) fn has_lifecycle(&self) -> bool {
+    pub fn has_lifecycle(&self) -> bool {
         self.has_lifecycle
     }
 
@@ -85,6 +85,7 @@ impl ServiceState {
         self.is_reloaded.load(Ordering::SeqCst)
     }
 
+    /// Whether it is to end.
     pub fn is_quitting(&self) -> bool {
         self.is_quitting.load(Ordering::SeqCst)
     }
@@ -99,27 +100,30 @@ impl ServiceState {
         self.untried.fetch_sub(1, Ordering::SeqCst);
     }
 
+    /// A source was asked once more.
     pub fn count_refresh(&self) {
         self.refreshes.fetch_add(1, Ordering::SeqCst);
     }
 
-    pub fn refreshes(&self) -> u64 {
+    pub(crate) fn refreshes(&self) -> u64 {
         self.refreshes.load(Ordering::SeqCst)
     }
 
+    /// A source was asked in vain.
     pub fn count_failed_refresh(&self) {
         self.failed_refreshes.fetch_add(1, Ordering::SeqCst);
     }
 
-    pub fn failed_refreshes(&self) -> u64 {
+    pub(crate) fn failed_refreshes(&self) -> u64 {
         self.failed_refreshes.load(Ordering::SeqCst)
     }
 
+    /// A plan was searched.
     pub fn count_reallocation(&self) {
         self.reallocations.fetch_add(1, Ordering::SeqCst);
     }
 
-    pub fn reallocations(&self) -> u64 {
+    pub(crate) fn reallocations(&self) -> u64 {
         self.reallocations.load(Ordering::SeqCst)
     }
 
@@ -133,7 +137,7 @@ impl ServiceState {
     }
 
     /// So many connections are served at once at most from now on.
-    pub(crate) fn set_workers(&self, number: usize) {
+    pub fn set_workers(&self, number: usize) {
         self.workers.store(number as u64, Ordering::SeqCst);
     }
 
@@ -141,11 +145,13 @@ impl ServiceState {
         self.workers.load(Ordering::SeqCst)
     }
 
-    pub(crate) fn begin_connection(&self) {
+    /// One connection more is served.
+    pub fn begin_connection(&self) {
         self.connections.fetch_add(1, Ordering::SeqCst);
     }
 
-    pub(crate) fn end_connection(&self) {
+    /// One connection less is served.
+    pub fn end_connection(&self) {
         self.connections.fetch_sub(1, Ordering::SeqCst);
     }
 
@@ -154,12 +160,12 @@ impl ServiceState {
     }
 
     /// A request asks for this, or has no route.
-    pub(crate) fn count_request(&self, rt: &impl Wait, ask: Option<&Ask>) {
+    pub fn count_request(&self, rt: &impl Wait, ask: Option<&Ask>) {
         self.notes.lock(rt).counts.count_request(ask);
     }
 
     /// A request is answered with this status code.
-    pub(crate) fn count_response(&self, rt: &impl Wait, status: u16) {
+    pub fn count_response(&self, rt: &impl Wait, status: u16) {
         self.notes.lock(rt).counts.count_response(status);
     }
 
@@ -189,7 +195,8 @@ impl ServiceState {
         self.notes.lock(rt).sources.clear();
     }
 
-    pub(crate) fn notes(&self, rt: &impl Wait, alloc: Global) -> Result<Notes, AllocError> {
+    /// What it notes, as it is now.
+    pub fn notes(&self, rt: &impl Wait, alloc: Global) -> Result<Notes, AllocError> {
         self.notes.lock(rt).copy(alloc)
     }
 }

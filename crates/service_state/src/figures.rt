@@ -9,7 +9,7 @@ use std::alloc::{AllocError, Global};
 
 /// What a desk shows of itself in numbers, from one state.
 #[derive(Debug, Drop)]
-pub(crate) struct Figures {
+pub struct Figures {
     pub(crate) jobs: Vec<JobFigures>,
     pub(crate) collectors: Vec<CollectorFigures>,
     /// The number of the current allocation, 0 before the first.
@@ -45,8 +45,8 @@ pub(crate) struct CollectorFigures {
     pub(crate) room: Option<u64>,
 }
 
-/// The numbers of a moment.
-pub(crate) fn figures_of(alloc: Global, record: &Record) -> Result<Figures, AllocError> {
+/// The numbers of a desk at a moment.
+pub fn figures_of(alloc: Global, record: &Record) -> Result<Figures, AllocError> {
     let core = record.core();
     let mut figures = Figures {
         jobs: empty_jobs(alloc, core)?,

@@ -22,7 +22,7 @@ const ALLOCATIONS: &str =
     "<h2>Last allocations</h2>\n<table>\n<tr><th>Number</th><th>Published</th><th>Covered</th><th>Moved</th><th>Left</th><th>Milliseconds</th></tr>\n";
 
 /// The page for people, in HTML.
-pub(crate) fn status_page(
+pub fn status_page(
     alloc: Global,
     figures: &Figures,
     notes: &Notes,

@@ -6,7 +6,7 @@ use std::alloc::AllocGlobal;
 use std::net::{Ipv4Addr, SocketAddr};
 
 /// Where the service is to listen: at the address of the command line, or else at that of the configuration.
-pub(crate) fn place_of<R: AllocGlobal>(
+pub(crate) fn listen_address<R: AllocGlobal>(
     rt: &R,
     options: &ServeOptions<'_>,
     service: &Service,

@@ -38,7 +38,7 @@ pub struct AllocationNote {
 
 /// What a service notes while it runs.
 #[derive(Debug, Drop)]
-pub(crate) struct Notes {
+pub struct Notes {
     pub(crate) counts: Counts,
     pub(crate) sources: Vec<SourceNote>,
     /// The last ones, the latest first.
