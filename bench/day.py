@@ -2,7 +2,8 @@
 """Memory over a day of a full fleet, as fast as it goes: day.py [HOURS [INTERVAL]]     (24 hours, a round each 2s)
 
 16,384 targets and 256 collectors. In each round of a minute each collector asks for its list once, and each target is reported once by
-its holder. The service keeps a journal and renews itself when that is full. It needs the program (ALLOCD_PROGRAM, or dist/allocd)."""
+its holder. The service keeps a journal and renews itself when that is full. As docs/SERVE.md has it, it is run with one arena of the C
+library; MALLOC_ARENA_MAX says another number. It needs the program (ALLOCD_PROGRAM, or dist/allocd)."""
 
 import http.client
 import json
@@ -131,7 +132,7 @@ with tempfile.TemporaryDirectory() as top:
     port = free_port()
     words = [PROGRAM, "serve", "--config", f"{top}/config.json", "--listen", f"127.0.0.1:{port}", "--journal", f"{top}/journal"]
     log = open(f"{top}/log", "w")
-    service = subprocess.Popen(words, stderr=log)
+    service = subprocess.Popen(words, stderr=log, env={"MALLOC_ARENA_MAX": "1", **os.environ})
     while True:
         try:
             if figure(port, "allocd_allocation") >= 1:

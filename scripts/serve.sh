@@ -6,6 +6,8 @@
 set -u
 here=$1
 shift
+# One arena of the C library: with one for each thread it keeps what others freed (docs/SERVE.md, Memory).
+export MALLOC_ARENA_MAX="${MALLOC_ARENA_MAX:-1}"
 "$(dirname "$0")/../allocd" serve --listen "$here" "$@" &
 child=$!
 quit() {
