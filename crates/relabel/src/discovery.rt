@@ -5,8 +5,8 @@ ghost use Rattle.sd_documents.specs.FirstLabels.{first_labels as first_labels_of
 ghost use Rattle.relabel.specs.Applying.{relabelled};
 ghost use Rattle.relabel.specs.Discovering.{with_finished, with_relabelled, with_targets, discovered, count_of};
 
-use crate::rules::{Relabelled, Rules, run};
 use crate::rule_matcher::RuleMatcher;
+use crate::rules::{Relabelled, Rules, run};
 use label_sets::{Finished, Target, finish};
 use lists::List;
 use sd_documents::{Group, Job, first_labels};
