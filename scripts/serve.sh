@@ -6,7 +6,7 @@
 set -u
 here=$1
 shift
-# One arena of the C library: with one for each thread it keeps what others freed (docs/SERVE.md, Memory).
+# One arena of the C library: with one for each thread it keeps what others freed (docs/SERVE.md, Ending it).
 export MALLOC_ARENA_MAX="${MALLOC_ARENA_MAX:-1}"
 "$(dirname "$0")/../allocd" serve --listen "$here" "$@" &
 child=$!

@@ -6,6 +6,7 @@ root=$(cd "$(dirname "$0")/.." && pwd)
 picture=$(realpath -m "${1:-$root/docs/page.png}")
 python3 "$root/examples/targets.py" &
 targets=$!
+until curl -sf http://127.0.0.1:9100/targets > /dev/null; do sleep 0.1; done
 "$root/allocd" serve --config "$root/examples/serve.json" &
 service=$!
 trap 'kill $targets $service 2> /dev/null || true' EXIT
