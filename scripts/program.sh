@@ -2,7 +2,7 @@
 # Read by ./allocd, scripts/release.sh and the scripts of bench/: which program to run, what it was made from, and how it is built.
 
 # The toolchain that all of this was proved with, as `rt version` says it.
-toolchain='rattle-kit-13b logic dac8208d650f15bf'
+toolchain='rattle-kit-13f logic dac8208d650f15bf'
 
 # One hash over all that a build reads, whatever the dates of the files and their order in their folders.
 # usage: sources_hash ROOT
@@ -83,8 +83,8 @@ build_program() {
     sources=$(sources_hash "$root")
     total=$(crates_of "$root" "$name" | wc -l)
     at_once=$(lanes)
-    echo "$name: proving and building $total crates, $at_once at a time. From nothing that takes a quarter of an hour on four free" \
-        "processors, and up to an hour on one. What was proved before is kept." >&2
+    echo "$name: proving and building $total crates, $at_once at a time. From nothing that takes an hour and a half on four free" \
+        "processors, and some four hours on one. What was proved before is kept." >&2
     (cd "$folder" && rt all check --jobs "$at_once") < /dev/null 2>&1 | tee "$log" | tell_progress "$name" "$total" "$began"
     if [ "${PIPESTATUS[0]}" != 0 ]; then
         sed -n '/^== summary/,$p' "$log" | grep -v ': ok$' >&2
