@@ -19,7 +19,7 @@ import tempfile
 import threading
 import time
 
-from allocd_service import CLOSED, ROOT, Service, comes, line_of, replayed, run
+from allocd_service import CLOSED, ROOT, Service, comes, line_of, lines_of, replayed, run
 
 MOST = int(sys.argv[1]) if len(sys.argv) > 1 else 2000
 ALL = (1 << 64) - 1
@@ -601,16 +601,11 @@ class Doing:
     def __init__(self, folder, refusals, deed):
         self.folder, self.refusals, self.deed = folder, refusals, deed
         self.journal = f"{folder}/journal"
-        self.followed = self.read = deed.config
-        self.start()
+        self.start(deed.config)
 
-    def start(self):
-        """It begins with the configuration that its journal has: the one that was read last, or that which was followed before."""
-        for config in (self.read, self.followed):
-            self.service = Service(self.folder, config, self.journal, self.refusals.environment)
-            if self.service.is_up():
-                break
-        self.follow()
+    def start(self, config):
+        self.service = Service(self.folder, config, self.journal, self.refusals.environment)
+        self.service.is_up()
         comes(lambda: answers_together(self.service) == 64, GENEROUS)
 
     def one(self, row, number):
@@ -626,13 +621,11 @@ class Doing:
     def verdict(self, number):
         if comes(lambda: self.service.it.poll() is not None or self.deed.is_done(self.service, number), GENEROUS / 3):
             if self.service.it.poll() is None:
-                self.follow()
                 return "same"
             return self.verdict_of_end(number)
         if self.service.it.poll() is None and self.deed.again:
             self.deed.begin(self.service, number)
             if comes(lambda: self.deed.is_done(self.service, number), GENEROUS):
-                self.follow()
                 return "memory"
         self.service.quit()
         self.start_again()
@@ -644,17 +637,12 @@ class Doing:
         self.start_again()
         self.deed.begin(self.service, number)
         done = comes(lambda: self.deed.is_done(self.service, number), GENEROUS)
-        self.follow()
         return "closed" if status == 3 and done else "other"
 
     def start_again(self):
+        """It begins with the configuration that was read last, whatever jobs its journal has."""
         with open(self.service.config) as it:
-            self.read = json.load(it)
-        self.start()
-
-    def follow(self):
-        with open(self.service.config) as it:
-            self.read = self.followed = json.load(it)
+            self.start(json.load(it))
 
 
 def behind(folder, refusals):
@@ -675,7 +663,7 @@ def behind(folder, refusals):
             doing.one(row, number)
         row.tell()
         doing.service.quit()
-        names = [it for it in os.listdir(top) if it.startswith("journal") and not it.endswith(".next")]
+        names = [it for it in os.listdir(top) if it.startswith("journal") and not it.endswith((".next", ".lock"))]
         bad = [name for name in names if replayed(f"{top}/{name}")[0]]
         if bad:
             wrong.append(f"{deed.name}: {bad} do not replay")
@@ -686,20 +674,50 @@ def starts(folder, refusals):
     """A start either fails as for want of memory, or leads to a service that has what it has with memory."""
     tell_heads()
     for way, last in (("one", None), ("all from there, for a second at most", ALL)):
-        for name, has_journal in (("A start that begins a journal", False), ("A start over a journal", True)):
+        for name, first in (("A start that begins a journal", None), ("A start over a journal", fleet(100, "50ms")), ("A start under other jobs", of_other_jobs())):
             row = Row(f"{name}, {way}")
-            top = f"{folder}/{has_journal}{way[:3]}"
+            top = f"{folder}/{name}, {way[:3]}"
             os.mkdir(top)
             journal = f"{top}/journal"
+            lines = journal_of(top, first, journal)
             refusals.start()
             one_start(top, refusals, journal)
             row.met, _ = refusals.stop()
             for number in spread(row.met):
-                if not has_journal and os.path.exists(journal):
-                    os.remove(journal)
+                put_journal(lines, journal)
                 refusals.start(number, last or number)
                 row.add(one_start(top, refusals, journal), number, "not all is there, or not all threads")
             row.tell()
+
+
+def of_other_jobs():
+    """A configuration with another limit and one job more."""
+    config = fleet(100, "50ms")
+    config["scrape_configs"][0]["target_limit"] = 50
+    config["scrape_configs"].append({"job_name": "gone", "static_configs": [{"targets": ["h:2"]}]})
+    return config
+
+
+def journal_of(top, config, journal):
+    """The lines of the journal of a service under a configuration, if there is one."""
+    if not config:
+        return None
+    service = Service(top, config, journal)
+    service.is_up()
+    comes(lambda: service.figure("allocd_allocation") == 1, GENEROUS)
+    service.quit()
+    return lines_of(journal)
+
+
+def put_journal(lines, journal):
+    """Has a start find these lines, and no other journal."""
+    folder, name = os.path.split(journal)
+    for it in os.listdir(folder):
+        if it.startswith(name):
+            os.remove(f"{folder}/{it}")
+    if lines:
+        with open(journal, "wb") as it:
+            it.write(lines)
 
 
 def one_start(top, refusals, journal):

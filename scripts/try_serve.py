@@ -1,7 +1,7 @@
 #!/usr/bin/env python3
 """Runs `allocd serve` as an operator would, and tells of each thing whether it holds: try_serve.py [KILLS [PART ..]]
 
-Routes, faults of the configuration, reloads, signals, a second start, torn and damaged journals, kills under load, many and silent clients, a source that trickles, a full disk (where a small file
+Routes, faults of the configuration, reloads, signals, a second start, torn and damaged journals, starts under other jobs, kills under load and in the midst of starts, many and silent clients, a source that trickles, a full disk (where a small file
 system can be mounted). It needs Linux and the program (ALLOCD_PROGRAM, or dist/allocd)."""
 
 import collections
@@ -30,10 +30,18 @@ def tell(name, holds, more=""):
     print(f"{'ok' if holds else 'NOT'}: {name}{': ' + str(more) if more != '' else ''}", flush=True)
 
 
+PORTS = set()
+
+
 def free_port():
-    with socket.socket() as it:
-        it.bind(("127.0.0.1", 0))
-        return it.getsockname()[1]
+    """A port that is free and was not given before."""
+    while True:
+        with socket.socket() as it:
+            it.bind(("127.0.0.1", 0))
+            port = it.getsockname()[1]
+        if port not in PORTS:
+            PORTS.add(port)
+            return port
 
 
 def ask(port, method, path, body=None):
@@ -303,10 +311,6 @@ def journals(folder):
     _, _, again = ask(service.port, "POST", "/collectors", {"name": "b", "reach": []})
     tell("it knows what was", joined == '{"answer":"Joined 2"}' and again == '{"refused":"AlreadyJoined 2"}', again)
     service.quit()
-    config = json.loads(json.dumps(CONFIG))
-    config["scrape_configs"][0]["target_limit"] = 3
-    service = Service(folder, journal, config)
-    tell("a configuration with other jobs", service.ended() == 2)
     with open(journal, "rb") as it:
         text = it.read()
     with open(journal, "wb") as it:
@@ -418,12 +422,8 @@ def kills_while_reloading(folder):
     configs = [CONFIG, more_jobs, other_rules]
     seen, starts = [], 0
     for turn in range(KILLS + 1):
-        for config in configs:
-            service = Service(folder, journal, config)
-            if service.is_up():
-                break
-            service.ended()
-        else:
+        service = Service(folder, journal, random.choice(configs))
+        if not service.is_up():
             tell(f"it starts after kill {turn}", False)
             return
         starts += 1
@@ -445,6 +445,140 @@ def kills_while_reloading(folder):
     lost = lost_of(seen, journals)
     tell(f"{KILLS} kills in the midst of reloads lose no answer, and it starts each time", lost == 0 and starts == KILLS + 1, f"{len(seen)} answers, {len(journals)} journals")
     status, out, _ = run("audit", *journals)
+    tell("all journals are audited", status == 0, out.strip().split("\n")[-1])
+
+
+def with_jobs(*jobs, **first):
+    """The configuration with members of its first job, with these jobs behind its own, and with a second collector."""
+    config = json.loads(json.dumps(CONFIG))
+    config["scrape_configs"][0].update(first)
+    config["scrape_configs"] += jobs
+    config["allocator"]["collectors"].append({"name": "b", "reach": [{"allow": True, "test": "any"}]})
+    return config
+
+
+def holders(port, *jobs):
+    """Who holds each target of some jobs."""
+    lists = [json.loads(ask(port, "GET", f"/jobs/{job}/targets")[2]) for job in jobs]
+    return {target: name for it in lists for name, held in it.items() for group in held["targets"] for target in group["targets"]}
+
+
+def bytes_of(folder):
+    """The bytes of each journal in a folder."""
+    found = {}
+    for name in os.listdir(folder):
+        if name.startswith("journal"):
+            with open(f"{folder}/{name}", "rb") as it:
+                found[name] = it.read()
+    return found
+
+
+def text_of(file):
+    with open(file) as it:
+        return it.read()
+
+
+MORE = {"job_name": "more", "static_configs": [{"targets": [f"127.0.0.1:{9300 + i}" for i in range(6)]}]}
+FOUND = [{"url": "http://127.0.0.1:1/", "refresh_interval": "1s"}]
+OTHER_JOBS = "other jobs than the journal"
+
+
+def restarts(folder):
+    journal = f"{folder}/journal"
+    rows = [
+        ("at first", with_jobs(target_limit=10), ("node",), 20),
+        ("a job is added", with_jobs(MORE, target_limit=10), ("node", "more"), 26),
+        ("a limit is changed", with_jobs(MORE, target_limit=8), ("node", "more"), 22),
+        ("a source is added", with_jobs(MORE, target_limit=8, http_sd_configs=FOUND), ("node", "more"), 22),
+        ("a limit and a source are gone", with_jobs(MORE), ("node", "more"), 26),
+        ("a job is removed", with_jobs(), ("node",), 20),
+    ]
+    before, files = {}, 0
+    for name, config, jobs, covered in rows:
+        for again in (False, True):
+            service = Service(folder, journal, config)
+            if not service.is_up():
+                tell(name, False)
+                return
+            full = comes(lambda: len(holders(service.port, *jobs)) == covered)
+            after = holders(service.port, *jobs)
+            moved = [it for it in after if before.get(it, after[it]) != after[it]]
+            ends = service.quit() == (200, 0)
+            files += before != {} and not again
+            kept = len(old_journals(journal)) == files
+            tell(f"{name}{', and again' if again else ''}", full and not moved and ends and kept, f"{len(after)} held, {files} old journals")
+            before = after
+    tell("each renewal is told", text_of(f"{folder}/log").count(OTHER_JOBS) == files)
+    status, out, _ = run("audit", *old_journals(journal), journal)
+    tell("they are audited", status == 0, out.strip().split("\n")[-1])
+    refused_restart(folder, journal)
+
+
+def refused_restart(folder, journal):
+    """A start under so many jobs that no allocator has them changes nothing."""
+    service = Service(folder, journal, with_jobs())
+    service.is_up()
+    for i in range(15):
+        ask(service.port, "POST", "/collectors", {"name": f"c{i}", "reach": []})
+    service.quit()
+    with open(journal, "ab") as it:
+        it.write(b'{"event":"ro')
+    before = bytes_of(folder)
+    many = with_jobs(*({"job_name": f"j{i}"} for i in range(1000)))
+    service = Service(folder, journal, many)
+    status = service.ended(120)
+    why = text_of(f"{folder}/log").strip().split("\n")[-1].removeprefix(f"{folder}/")
+    tell("a start under too many jobs is refused", status == 2 and why.startswith("journal: ") and "jobs times live collectors" in why, why)
+    tell("and the files are what they were, a torn line too", bytes_of(folder) == before)
+    service = Service(folder, journal, with_jobs())
+    tell("the former configuration starts", service.is_up() and service.quit() == (200, 0))
+
+
+def kills_of_restarts(folder):
+    """Starts under one configuration after the other, killed in the midst."""
+    journal = f"{folder}/journal"
+    dice = random.Random(1)
+    configs = [with_jobs(), with_jobs(MORE), with_jobs(target_limit=8), with_jobs(MORE, http_sd_configs=FOUND)]
+    service = Service(folder, journal, configs[0])
+    service.is_up()
+    waits_for(service.port, "allocd_allocation 1")
+    began = time.monotonic()
+    service.quit()
+    service = Service(folder, journal, configs[1])
+    service.is_up()
+    service.it.kill()
+    service.ended()
+    span = 2 * (time.monotonic() - began)
+    for turn in range(20 * KILLS):
+        service = Service(folder, journal, dice.choice(configs))
+        time.sleep(dice.uniform(0, span))
+        service.it.send_signal(signal.SIGKILL)
+        service.ended()
+    service = Service(folder, journal, configs[1])
+    up = service.is_up() and comes(lambda: len(holders(service.port, "node", "more")) == 26)
+    tell(f"{20 * KILLS} kills in the midst of starts under other jobs, and it starts", up and service.quit() == (200, 0), f"{len(old_journals(journal))} old journals")
+    status, out, _ = run("audit", *old_journals(journal), journal)
+    tell("all journals are audited", status == 0, out.strip().split("\n")[-1])
+
+
+def starts_at_once(folder):
+    """Three services that start at one moment under other jobs than the journal's."""
+    journal = f"{folder}/journal"
+    own = [f"{folder}/{i}" for i in range(3)]
+    for it in own:
+        os.mkdir(it)
+    wrong = []
+    for turn in range(20 * KILLS):
+        config = with_jobs(MORE) if turn % 2 else with_jobs()
+        services = []
+        for it in own:
+            services.append(Service(it, journal, config))
+            time.sleep(random.choice((0, 0, 0.005, 0.02)))
+        comes(lambda: sum(it.it.poll() is None for it in services) == 1)
+        ends = [it.quit()[1] if it.it.poll() is None and it.is_up() else it.ended() for it in services]
+        wrong += [ends] if sorted(ends) != [0, 2, 2] else []
+    tell(f"of three starts at once one serves, {20 * KILLS} times", not wrong, wrong[:3] or "")
+    status, out, _ = run("audit", *old_journals(journal), journal)
     tell("all journals are audited", status == 0, out.strip().split("\n")[-1])
 
 
@@ -618,7 +752,7 @@ def full_disk(folder):
         subprocess.run(["umount", "-l", disk])
 
 
-PARTS = (words_and_configurations, routes, reloads, signals, absences, journals, kills, kills_while_reloading, renewals, strangers, slow_source, full_disk)
+PARTS = (words_and_configurations, routes, reloads, signals, absences, journals, kills, kills_while_reloading, restarts, kills_of_restarts, starts_at_once, renewals, strangers, slow_source, full_disk)
 wanted = sys.argv[2:]
 with tempfile.TemporaryDirectory() as top:
     for part in PARTS:

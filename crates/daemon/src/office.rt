@@ -86,9 +86,12 @@ pub(crate) fn sources_of(
     service: &Service,
     are_awaited: bool,
 ) -> Result<Vec<Source>, AllocError> {
+    let count = u32::try_from(service.sources.len()).unwrap_or(u32::MAX);
     let mut sources = Vec::new(alloc);
+    let mut turn: u32 = 0;
     for settings in service.sources.iter() {
-        sources.push(Source::new(*settings, are_awaited))?;
+        turn = turn.saturating_add(1);
+        sources.push(Source::new(*settings, are_awaited, turn, count))?;
     }
     Ok(sources)
 }

@@ -14,6 +14,10 @@ pub(crate) struct Source {
     is_tried: bool,
     /// When its last refresh began.
     began: Option<Instant>,
+    /// How long after its first refresh began the second one does.
+    first_wait: Duration,
+    /// How long after its last refresh began the next one does.
+    wait: Duration,
     /// The text of the list that was submitted last.
     last: Option<Text>,
     /// How many refreshes from now on the same list is not submitted again, where it was refused.
@@ -21,12 +25,15 @@ pub(crate) struct Source {
 }
 
 impl Source {
-    /// A source that is not asked yet. A service that begins is ready once it was tried.
-    pub(crate) fn new(settings: SourceSettings, is_awaited: bool) -> Source {
+    /// A source that is not asked yet, at a turn from 1 on among so many. A service that begins is ready once it was tried. All are
+    /// asked at once first, and from then on at times that are spread.
+    pub(crate) fn new(settings: SourceSettings, is_awaited: bool, turn: u32, count: u32) -> Source {
         Source {
             settings,
             is_tried: !is_awaited,
             began: None,
+            first_wait: part_of(settings.every, turn, count),
+            wait: settings.every,
             last: None,
             refused_for: None,
         }
@@ -40,8 +47,7 @@ impl Source {
     pub(crate) fn due_in(&self, now: Instant) -> Duration {
         match self.began {
             Some(began) => self
-                .settings
-                .every
+                .wait
                 .saturating_sub(now.saturating_duration_since(began)),
             None => Duration::from_secs(0),
         }
@@ -49,6 +55,10 @@ impl Source {
 
     pub(crate) fn begin(&mut self, now: Instant) {
         self.is_tried = true;
+        self.wait = match self.began {
+            Some(_) => self.settings.every,
+            None => self.first_wait,
+        };
         self.began = Some(now);
     }
 
@@ -71,5 +81,13 @@ impl Source {
     pub(crate) fn submitted(&mut self, text: Text, is_refused: bool) {
         self.last = Some(text);
         self.refused_for = is_refused.then_some(REFUSED_AGAIN);
+    }
+}
+
+/// So many parts of a time that is cut into as many.
+fn part_of(time: Duration, turn: u32, count: u32) -> Duration {
+    match time.checked_div(count) {
+        Some(part) => part.saturating_mul(turn),
+        None => time,
     }
 }

@@ -25,6 +25,14 @@ seconds_digits milliseconds = decimal (milliseconds / 1000) ++ codes "." ++ deci
 abbrev pub seconds_text : List ℕ → ℕ → List ℕ
 seconds_text name milliseconds = name ++ codes " " ++ seconds_digits milliseconds ++ codes "\n"
 
+-- a label and its value
+abbrev pub label_text : List ℕ → List ℕ → List ℕ
+label_text label said = label ++ codes "=\"" ++ escaped said ++ codes "\""
+
 -- a sample with one label
 abbrev pub labelled_text : List ℕ → List ℕ → List ℕ → ℕ → List ℕ
-labelled_text name label said value = name ++ codes "{" ++ label ++ codes "=\"" ++ escaped said ++ codes "\"} " ++ decimal value ++ codes "\n"
+labelled_text name label said value = name ++ codes "{" ++ label_text label said ++ codes "} " ++ decimal value ++ codes "\n"
+
+-- a sample with two labels, whose texts these are
+abbrev pub twice_labelled_text : List ℕ → List ℕ → List ℕ → ℕ → List ℕ
+twice_labelled_text name first second value = name ++ codes "{" ++ first ++ codes "," ++ second ++ codes "} " ++ decimal value ++ codes "\n"

@@ -1,7 +1,7 @@
 //! A text exposition.
 ghost use Rattle.std.specs.Prelude.{◌≡◌, ◌++◌, IfSome, OnOk, [], string_bytes};
 ghost use Rattle.std.specs.Fmt.{decimal};
-ghost use Rattle.exposition.specs.Lines.{family_text, plain_text, labelled_text, seconds_digits, seconds_text};
+ghost use Rattle.exposition.specs.Lines.{family_text, label_text, labelled_text, plain_text, seconds_digits, seconds_text, twice_labelled_text};
 
 use crate::escaping::push_escaped;
 use crate::kind::Kind;
@@ -82,10 +82,30 @@ impl Exposition {
     {
         self.put(name)?;
         self.put("{")?;
-        self.put(label)?;
-        self.put("=\"")?;
-        push_escaped(&mut self.bytes, said.as_bytes())?;
-        self.put("\"} ")?;
+        self.put_label(label, said)?;
+        self.put("} ")?;
+        self.put_number(value)?;
+        self.put("\n")
+    }
+
+    /// A sample with two labels, whose values may be any texts.
+    pub fn twice_labelled_sample(
+        &mut self,
+        name: &str,
+        label: &str,
+        said: &str,
+        other_label: &str,
+        other_said: &str,
+        value: u128,
+    ) -> Result<(), AllocError>
+        ensures { OnOk result (self.new ≡ self.old ++ twice_labelled_text name.now (label_text label.now said.now) (label_text other_label.now other_said.now) value) }
+    {
+        self.put(name)?;
+        self.put("{")?;
+        self.put_label(label, said)?;
+        self.put(",")?;
+        self.put_label(other_label, other_said)?;
+        self.put("} ")?;
         self.put_number(value)?;
         self.put("\n")
     }
@@ -101,6 +121,15 @@ impl Exposition {
         ensures { OnOk result (self.new ≡ self.old ++ text.now) }
     {
         self.bytes.extend_from_slice(text.as_bytes())
+    }
+
+    fn put_label(&mut self, label: &str, said: &str) -> Result<(), AllocError>
+        ensures { OnOk result (self.new ≡ self.old ++ label_text label.now said.now) }
+    {
+        self.put(label)?;
+        self.put("=\"")?;
+        push_escaped(&mut self.bytes, said.as_bytes())?;
+        self.put("\"")
     }
 
     fn put_seconds(&mut self, milliseconds: u64) -> Result<(), AllocError>

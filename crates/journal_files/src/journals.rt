@@ -1,7 +1,8 @@
 //! The journals of an allocator on disk: the one that is written, and beside it the old ones by number.
 //!
 //! A journal begins as `PATH.next`. Once it is on the device the last journal becomes `PATH.N`, and then the new one takes its place. So
-//! whenever the machine stops, there is `PATH`, or else `PATH.next` is whole.
+//! whenever the machine stops, there is `PATH`, or else `PATH.next` is whole. Meanwhile nobody else has them: they are his who has the
+//! lock of `PATH.lock`, which keeps its name.
 use crate::fault::Fault;
 use durable_journal::{Archive, append};
 use std::alloc::{AllocError, AllocGlobal, Global};
@@ -10,60 +11,71 @@ use std::path::Path;
 use std::rt::Files;
 use std::{fs, io};
 
-/// The journals of an allocator, of which the path is that of the one that is written.
+/// The journals of an allocator, which nobody else has as long as these are there.
 #[derive(Drop)]
 pub struct Journals<R> {
-    rt: R,
-    alloc: Global,
-    path: String,
+    pub(crate) rt: R,
+    pub(crate) alloc: Global,
+    /// That of the one that is written, where the allocator has one.
+    path: Option<String>,
     /// How many old ones are kept, or all.
     keep: Option<u32>,
+    _lock: Option<File>,
 }
 
-impl<R: Files<File = File>> Journals<R> {
-    /// The journals at a path, of which so many old ones are kept, or all.
-    pub fn new(rt: R, alloc: Global, path: String, keep: Option<u32>) -> Journals<R> {
-        Journals {
+impl<R: Files<File = File> + Drop> Journals<R> {
+    /// The journals at a path, of which so many old ones are kept, or all. An allocator without a path has none.
+    pub fn open(
+        rt: R,
+        alloc: Global,
+        path: Option<String>,
+        keep: Option<u32>,
+    ) -> Result<Journals<R>, Fault> {
+        let lock = match &path {
+            Some(path) => Some(lock_journals(&rt, alloc, path.as_str())?),
+            None => None,
+        };
+        Ok(Journals {
             rt,
             alloc,
             path,
             keep,
-        }
+            _lock: lock,
+        })
     }
+}
 
-    /// Begins the next journal, which nobody else may have, with these bytes.
-    fn begin_next(&self, next: &str, first: &[u8]) -> io::Result<File> {
-        let mut file = open_journal(&self.rt, next)?;
-        if file.try_lock().is_err() {
-            return Err(io::ErrorKind::ResourceBusy.into());
+impl<R> Journals<R> {
+    /// The path of the journal that is written.
+    pub(crate) fn path(&self) -> Option<&str> {
+        match &self.path {
+            Some(path) => Some(path.as_str()),
+            None => None,
         }
-        file.set_len(0)?;
-        append(&mut file, first)?;
-        Ok(file)
     }
 }
 
 impl<R: Files<File = File> + AllocGlobal + Clone + Drop> Journals<R> {
-    /// The greatest number of an old journal, or 0.
-    fn newest(&self) -> io::Result<u32> {
-        let Some(name) = Path::new(self.path.as_str()).file_name() else {
-            return Ok(0);
-        };
-        let mut newest = 0;
-        for entry in fs::read_dir(&self.rt, folder_of(self.path.as_str()))? {
-            let entry = entry?;
-            newest = newest.max(number_of(entry.file_name(), name).unwrap_or(0));
-        }
-        Ok(newest)
+    /// Begins the next journal with these bytes and puts it in the place of the last one, which is at this path.
+    pub(crate) fn change(&self, path: &str, first: &[u8]) -> io::Result<File> {
+        let next = next_path(self.alloc, path)?;
+        let file = begin_next(&self.rt, next.as_str(), first)?;
+        let number = newest(&self.rt, path)?.saturating_add(1);
+        let old = old_path(self.alloc, path, number)?;
+        fs::rename(&self.rt, path, old.as_str())?;
+        fs::rename(&self.rt, next.as_str(), path)?;
+        sync_folder(&self.rt, path)?;
+        self.forget(path, number)?;
+        Ok(file)
     }
 
     /// Removes the old journals that are not kept, where this is the number of the newest.
-    fn forget(&self, newest: u32) -> io::Result<()> {
+    fn forget(&self, path: &str, newest: u32) -> io::Result<()> {
         let Some(keep) = self.keep else {
             return Ok(());
         };
         for number in (1..=newest.saturating_sub(keep)).rev() {
-            let path = old_path(self.alloc, self.path.as_str(), number)?;
+            let path = old_path(self.alloc, path, number)?;
             if !fs::exists(&self.rt, path.as_str())? {
                 return Ok(());
             }
@@ -71,26 +83,32 @@ impl<R: Files<File = File> + AllocGlobal + Clone + Drop> Journals<R> {
         }
         Ok(())
     }
-
-    /// Begins the next journal with these bytes and puts it in the place of the last one.
-    fn change(&self, first: &[u8]) -> io::Result<File> {
-        let path = self.path.as_str();
-        let next = next_path(self.alloc, path)?;
-        let file = self.begin_next(next.as_str(), first)?;
-        let number = self.newest()?.saturating_add(1);
-        let old = old_path(self.alloc, path, number)?;
-        fs::rename(&self.rt, path, old.as_str())?;
-        fs::rename(&self.rt, next.as_str(), path)?;
-        sync_folder(&self.rt, path)?;
-        self.forget(number)?;
-        Ok(file)
-    }
 }
 
 impl<R: Files<File = File> + AllocGlobal + Clone + Drop> Archive<File> for Journals<R> {
     fn begin(&mut self, first: &[u8]) -> io::Result<File> {
-        self.change(first)
+        match self.path() {
+            Some(path) => self.change(path, first),
+            None => Err(io::ErrorKind::NotFound.into()),
+        }
     }
+}
+
+/// Locks the journals at a path for whoever has the file that it gives.
+fn lock_journals<R: Files<File = File>>(rt: &R, alloc: Global, path: &str) -> Result<File, Fault> {
+    let lock = format!(in alloc; "{path}.lock")?;
+    let file = open_journal(rt, lock.as_str())?;
+    lock_file(alloc, path, &file)?;
+    Ok(file)
+}
+
+/// Locks a file of the journals at a path, or says that another service has it.
+pub(crate) fn lock_file(alloc: Global, path: &str, file: &File) -> Result<(), Fault> {
+    if file.try_lock().is_err() {
+        let line = format!(in alloc; "{path}: another service has this journal")?;
+        return Err(Fault::Told(line));
+    }
+    Ok(())
 }
 
 /// Opens the file of a journal to read it and to write at its end.
@@ -100,6 +118,33 @@ pub(crate) fn open_journal<R: Files<File = File>>(rt: &R, path: &str) -> io::Res
         .append(true)
         .create(true)
         .open(rt, path)
+}
+
+/// Begins the next journal, which nobody else may have, with these bytes.
+fn begin_next<R: Files<File = File>>(rt: &R, next: &str, first: &[u8]) -> io::Result<File> {
+    let mut file = open_journal(rt, next)?;
+    if file.try_lock().is_err() {
+        return Err(io::ErrorKind::ResourceBusy.into());
+    }
+    file.set_len(0)?;
+    append(&mut file, first)?;
+    Ok(file)
+}
+
+/// The greatest number of an old journal of the one at a path, or 0.
+fn newest<R: Files<File = File> + AllocGlobal + Clone + Drop>(
+    rt: &R,
+    path: &str,
+) -> io::Result<u32> {
+    let Some(name) = Path::new(path).file_name() else {
+        return Ok(0);
+    };
+    let mut newest = 0;
+    for entry in fs::read_dir(rt, folder_of(path))? {
+        let entry = entry?;
+        newest = newest.max(number_of(entry.file_name(), name).unwrap_or(0));
+    }
+    Ok(newest)
 }
 
 /// Ends what a service began that was to take another journal and ended in the midst. The caller has the journal at the path alone, if

@@ -5,6 +5,7 @@
 mod fault;
 mod journals;
 mod opening;
+mod reading;
 
 pub use fault::Fault;
 pub use journals::Journals;

@@ -1,17 +1,17 @@
-//! The file of the journal, and the allocator that it leads to.
+//! The file of the journal, and the allocator to begin with.
 use crate::fault::Fault;
-use crate::journals::{end_renewal, open_journal, sync_folder};
+use crate::journals::{Journals, end_renewal, lock_file, open_journal, sync_folder};
+use crate::reading::{Journal, Next, Start, configured, read_journal};
 use allocation_core::Core;
-use durable_journal::{Recovered, append, are_jobs_of, recover};
+use durable_journal::append;
 use log::{info, warn};
 use logfmt::Logfmt;
-use replay_lines::{Damage, Resumption, resume};
 use sd_documents::Job;
-use std::alloc::{AllocError, Global};
-use std::fs;
+use std::alloc::{AllocGlobal, Global};
 use std::fs::{File, OpenFile};
 use std::rt::Files;
 use std::time::Clock;
+use std::{fs, io};
 
 /// An allocator, and the file of its journal where it has one.
 #[derive(Drop)]
@@ -20,59 +20,31 @@ pub struct Opened<F> {
     pub file: Option<F>,
 }
 
-/// The allocator that the journal at a path leads to. A new journal begins with this line of the configuration, and so does an allocator
-/// without a journal. The allocator has these jobs, or else it is refused.
-pub fn open_allocator<R: Files<File = File> + Clock + Eprint + Copy>(
-    rt: &R,
-    alloc: Global,
+/// The allocator that the last of the journals leads to, under these jobs of a configuration. Where it has other jobs it is renewed under
+/// these, and another journal begins. A new journal begins with this line of the configuration, and so does an allocator without one.
+pub fn open_allocator<R: Files<File = File> + AllocGlobal + Clock + Eprint + Copy + Drop>(
+    journals: &Journals<R>,
     line: &str,
     jobs: &[Job],
-    path: Option<&str>,
 ) -> Result<Opened<File>, Fault> {
-    let opened = match path {
-        Some(path) => recover_journal(rt, alloc, line, path)?,
-        None => Opened {
-            core: resumed(alloc, line.as_bytes(), "the configuration")?.core,
+    match journals.path() {
+        Some(path) => open_at(journals, path, line, jobs),
+        None => Ok(Opened {
+            core: configured(journals.alloc, line)?,
             file: None,
-        },
-    };
-    if are_jobs_of(opened.core.fleet().jobs(), jobs) {
-        return Ok(opened);
+        }),
     }
-    Err(told(alloc, "the journal has other jobs than the configuration")?)
 }
 
-fn told(alloc: Global, line: &str) -> Result<Fault, AllocError> {
-    Ok(Fault::Told(String::from_str(alloc, line)?))
-}
-
-fn recover_journal<R: Files<File = File> + Clock + Eprint + Copy>(
-    rt: &R,
-    alloc: Global,
-    line: &str,
+fn open_at<R: Files<File = File> + AllocGlobal + Clock + Eprint + Copy + Drop>(
+    journals: &Journals<R>,
     path: &str,
+    line: &str,
+    jobs: &[Job],
 ) -> Result<Opened<File>, Fault> {
-    let mut file = own_journal(rt, alloc, path)?;
-    let (lines, torn) = match recover(alloc, &mut file)? {
-        Recovered::Found { lines, torn } => (lines, torn),
-        Recovered::TooLong => {
-            return Err(Fault::Told(format!(in alloc; "{path}: too long")?));
-        }
-    };
-    if torn > 0 {
-        file.set_len(lines.len() as u64)?;
-        warn!(Logfmt(*rt); bytes = torn; "a torn line at the end of the journal is cut off");
-    }
-    if lines.is_empty() {
-        begin(rt, alloc, line, path, file)
-    } else {
-        let Resumption { core, events } = resumed(alloc, lines.as_slice(), path)?;
-        info!(Logfmt(*rt); events; "the journal is read");
-        Ok(Opened {
-            core,
-            file: Some(file),
-        })
-    }
+    let mut file = own_journal(&journals.rt, journals.alloc, path)?;
+    let start = read_journal(journals.alloc, path, &mut file, line, jobs)?;
+    begin(journals, path, file, start)
 }
 
 /// The file of the journal at a path, which no other service has.
@@ -81,37 +53,73 @@ fn own_journal<R: Files<File = File>>(rt: &R, alloc: Global, path: &str) -> Resu
         end_renewal(rt, alloc, path)?;
     }
     let file = open_journal(rt, path)?;
-    if file.try_lock().is_err() {
-        let line = format!(in alloc; "{path}: another service has this journal")?;
-        return Err(Fault::Told(line));
-    }
-    end_renewal(rt, alloc, path)?;
+    own_file(rt, alloc, path, &file)?;
     Ok(file)
 }
 
-/// Begins a journal with the line of a configuration.
-fn begin<R: Files<File = File>>(
+fn own_file<R: Files<File = File>>(
     rt: &R,
     alloc: Global,
-    line: &str,
     path: &str,
-    mut file: File,
+    file: &File,
+) -> Result<(), Fault> {
+    lock_file(alloc, path, file)?;
+    end_renewal(rt, alloc, path)
+}
+
+fn begin<R: Files<File = File> + AllocGlobal + Clock + Eprint + Copy + Drop>(
+    journals: &Journals<R>,
+    path: &str,
+    file: File,
+    start: Start,
 ) -> Result<Opened<File>, Fault> {
-    let first = format!(in alloc; "{line}\n")?;
-    append(&mut file, first.as_bytes())?;
-    sync_folder(rt, path)?;
-    let Resumption { core, .. } = resumed(alloc, first.as_bytes(), path)?;
+    let Start { core, journal } = start;
+    let file = next_file(journals, path, file, &journal)?;
     Ok(Opened {
         core,
         file: Some(file),
     })
 }
 
-fn resumed(alloc: Global, lines: &[u8], path: &str) -> Result<Resumption, Fault> {
-    match resume(alloc, lines)? {
-        Ok(resumption) => Ok(resumption),
-        Err(Damage { line }) => Err(Fault::Told(format!(in alloc;
-            "{path}: line {line} is damaged"
-        )?)),
+/// The file that is written from now on. The one that was read stays locked until then.
+fn next_file<R: Files<File = File> + AllocGlobal + Clock + Eprint + Copy + Drop>(
+    journals: &Journals<R>,
+    path: &str,
+    file: File,
+    journal: &Journal,
+) -> io::Result<File> {
+    cut(&journals.rt, &file, journal)?;
+    match &journal.next {
+        Next::Begins(first) => begun(&journals.rt, path, file, first.as_str()),
+        Next::GoesOn(events) => {
+            info!(Logfmt(journals.rt); events = *events; "the journal is read");
+            Ok(file)
+        }
+        Next::IsReplaced(first) => {
+            let next = journals.change(path, first.as_bytes())?;
+            info!(Logfmt(journals.rt); "the configuration has other jobs than the journal: the allocator is renewed");
+            Ok(next)
+        }
     }
+}
+
+/// The file of a journal that begins with this text.
+fn begun<R: Files<File = File>>(
+    rt: &R,
+    path: &str,
+    mut file: File,
+    first: &str,
+) -> io::Result<File> {
+    append(&mut file, first.as_bytes())?;
+    sync_folder(rt, path)?;
+    Ok(file)
+}
+
+/// Cuts off the torn line at the end of a journal.
+fn cut<R: Clock + Eprint + Copy>(rt: &R, file: &File, journal: &Journal) -> io::Result<()> {
+    if journal.torn > 0 {
+        file.set_len(journal.whole)?;
+        warn!(Logfmt(*rt); bytes = journal.torn; "a torn line at the end of the journal is cut off");
+    }
+    Ok(())
 }

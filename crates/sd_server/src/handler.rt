@@ -60,9 +60,10 @@ impl<R: Wait + Copy, L: Ledger, B: Ledger, N: DeskName> Handler<R, L, B, N> {
         })
     }
 
-    /// Counts what a request is told.
-    pub(crate) fn count_response(&self, said: &Said) {
-        self.state.count_response(&self.rt, said.status().as_u16());
+    /// Counts a request that asks for this, or has no route, by what it is told.
+    pub(crate) fn count_request(&self, ask: Option<&Ask>, said: &Said) {
+        self.state
+            .count_request(&self.rt, ask, said.status().as_u16());
     }
 
     /// What is told to a request with this body.

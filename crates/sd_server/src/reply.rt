@@ -79,7 +79,7 @@ impl<R: Wait + Copy, L: Ledger, B: Ledger, N: DeskName, I: Drop> Reading<R, L, B
         ensures { SaysRead N.opening (arc_value self.now.handler.pages) self.now.ask result }
     {
         let said = self.said_of(read);
-        self.handler.count_response(&said);
+        self.handler.count_request(Some(&self.ask), &said);
         said
     }
 

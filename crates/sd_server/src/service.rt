@@ -39,15 +39,11 @@ impl<R: Wait + Copy, L: Ledger, B: Ledger, N: DeskName> AllocatorService<R, L, B
         ensures { Begins N.opening (arc_value self.now.handler.pages) (asked head.now.method (uri_path head.now.uri) (uri_query head.now.uri)) result }
     {
         match route(&self.routes, self.handler.alloc, &head.method, &head.uri) {
-            Ok(ask) => {
-                self.handler
-                    .state
-                    .count_request(&self.handler.rt, Some(&ask));
-                self.begin_with(ask)
-            }
+            Ok(ask) => self.begin_with(ask),
             Err(error) => {
-                self.handler.state.count_request(&self.handler.rt, None);
-                Begun::Said(Said::Refused(error))
+                let said = Said::Refused(error);
+                self.handler.count_request(None, &said);
+                Begun::Said(said)
             }
         }
     }
@@ -57,7 +53,11 @@ impl<R: Wait + Copy, L: Ledger, B: Ledger, N: DeskName> AllocatorService<R, L, B
     {
         match ask {
             Ask::Join | Ask::Drain(_) | Ask::SetLimits(_) | Ask::Report => Begun::Reads(ask),
-            _ => Begun::Said(self.handler.said(&ask, b"")),
+            _ => {
+                let said = self.handler.said(&ask, b"");
+                self.handler.count_request(Some(&ask), &said);
+                Begun::Said(said)
+            }
         }
     }
 }
@@ -77,10 +77,7 @@ impl<R: Wait + Copy + Drop, L: Ledger, B: Ledger, N: DeskName, I: Drop> Service<
     fn call(&self, req: Request<Incoming<I>>) -> Reply<R, L, B, N, I> {
         let (head, body) = req.into_parts();
         match self.begin(&head) {
-            Begun::Said(said) => {
-                self.handler.count_response(&said);
-                Reply::of(self.handler.alloc, said)
-            }
+            Begun::Said(said) => Reply::of(self.handler.alloc, said),
             Begun::Reads(ask) => match self.handler.another() {
                 Ok(handler) => Reply::to(handler, ask, body),
                 Err(_) => Reply::of(self.handler.alloc, Said::Refused(RequestError::Memory)),

@@ -55,19 +55,15 @@ where
 }
 
 /// The allocator that a journal leads to, and where the journals are.
-fn open_journals<R: Files<File = File> + Clock + Eprint + Copy>(
+fn open_journals<R: Files<File = File> + AllocGlobal + Clock + Eprint + Copy + Drop>(
     rt: &R,
     alloc: Global,
     service: &Service,
     journal: Option<String>,
 ) -> Result<(Opened<File>, Journals<R>), Fault> {
-    let path = match &journal {
-        Some(path) => Some(path.as_str()),
-        None => None,
-    };
-    let opened = open_allocator(rt, alloc, service.line(), service.jobs(), path)?;
-    let path = journal.unwrap_or(String::new(alloc));
-    Ok((opened, Journals::new(*rt, alloc, path, service.keep())))
+    let journals = Journals::open(*rt, alloc, journal, service.keep())?;
+    let opened = open_allocator(&journals, service.line(), service.jobs())?;
+    Ok((opened, journals))
 }
 
 fn serve_opened<R>(

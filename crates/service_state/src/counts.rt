@@ -1,5 +1,5 @@
-//! What a service counts: requests by route, responses by status, events by kind.
-use fleet_events::{Answer, Event};
+//! What a service counts: requests by route and status, events by kind and answer.
+use fleet_events::{Answer, Event, Refusal};
 use sd_routes::Ask;
 
 /// The routes as they are told, and what no route has.
@@ -31,6 +31,41 @@ pub(crate) const STATUSES: [u16; 11] = [200, 400, 403, 404, 405, 409, 413, 500, 
 pub(crate) const KINDS: [&str; 9] = [
     "discover", "join", "leave", "drain", "limits", "install", "round", "take", "report",
 ];
+
+/// The names of answers: first those of events that were done, and then those of refusals.
+pub(crate) const ANSWERS: [&str; 28] = [
+    "Discovered",
+    "Joined",
+    "Left",
+    "Draining",
+    "LimitsSet",
+    "Published",
+    "RoundOpen",
+    "Taken",
+    "Booked",
+    "UnknownJob",
+    "UnknownSource",
+    "TooManyLive",
+    "TooManyKnown",
+    "AlreadyJoined",
+    "TooManyCollectors",
+    "IdsSpent",
+    "UnknownCollector",
+    "AlreadyDraining",
+    "Refused",
+    "Unchanged",
+    "NumbersSpent",
+    "RoundsSpent",
+    "NotTaken",
+    "UnknownTarget",
+    "NotHolder",
+    "RoundClosed",
+    "RoundNotOpen",
+    "AlreadyBooked",
+];
+
+/// How many of the answers are of events that were done.
+const DONE: usize = 9;
 
 /// What an event is.
 #[derive(Clone, Copy, Debug)]
@@ -80,46 +115,47 @@ impl EventKind {
 /// Counts since the service began.
 #[derive(Clone, Copy, Debug, Drop)]
 pub(crate) struct Counts {
-    /// Of requests, at the places of their routes.
-    pub(crate) requests: [u64; 18],
-    /// Of responses, at the places of their statuses.
-    pub(crate) responses: [u64; 11],
-    /// Of events that changed something, at the places of their kinds.
-    pub(crate) done: [u64; 9],
-    /// Of events that were refused, at the places of their kinds.
-    pub(crate) refused: [u64; 9],
+    /// Of requests that were answered, at the places of their routes and statuses.
+    pub(crate) requests: [[u64; 11]; 18],
+    /// Of events, at the places of their kinds and answers.
+    pub(crate) events: [[u64; 28]; 9],
 }
 
 impl Counts {
     pub(crate) fn new() -> Counts {
         Counts {
-            requests: [0; 18],
-            responses: [0; 11],
-            done: [0; 9],
-            refused: [0; 9],
+            requests: [[0; 11]; 18],
+            events: [[0; 28]; 9],
         }
     }
 
-    /// One request more, that asks for this, or has no route.
-    pub(crate) fn count_request(&mut self, ask: Option<&Ask>) {
-        let place = match ask {
+    /// One request more that is answered with this status. It asks for this, or has no route.
+    pub(crate) fn count_request(&mut self, ask: Option<&Ask>, status: u16) {
+        let route = match ask {
             Some(ask) => place_of(ask),
             None => ROUTES.len() - 1,
         };
-        count(&mut self.requests, place);
-    }
-
-    pub(crate) fn count_response(&mut self, status: u16) {
-        let place = STATUSES.iter().position(|other| *other == status);
-        count(&mut self.responses, place.unwrap_or(STATUSES.len() - 1));
-    }
-
-    pub(crate) fn count_event(&mut self, kind: EventKind, answer: &Answer) {
-        match answer {
-            Answer::Not(_) => count(&mut self.refused, kind.place()),
-            _ => count(&mut self.done, kind.place()),
+        let status = STATUSES.iter().position(|other| *other == status);
+        if let Some(of_route) = self.requests.get_mut(route) {
+            count(of_route, status.unwrap_or(STATUSES.len() - 1));
         }
     }
+
+    /// One event more.
+    pub(crate) fn count_event(&mut self, kind: EventKind, answer: &Answer) {
+        if let Some(of_kind) = self.events.get_mut(kind.place()) {
+            count(of_kind, answer_place(answer));
+        }
+    }
+}
+
+/// How many events of a kind were refused, by the counts of its answers.
+pub(crate) fn refused(of_kind: &[u64]) -> u64 {
+    let mut sum: u64 = 0;
+    for number in of_kind.iter().skip(DONE) {
+        sum = sum.saturating_add(*number);
+    }
+    sum
 }
 
 fn count(counts: &mut [u64], place: usize) {
@@ -148,5 +184,46 @@ fn place_of(ask: &Ask) -> usize {
         Ask::Metrics => 14,
         Ask::Reload => 15,
         Ask::Quit => 16,
+    }
+}
+
+/// The place of an answer among the answers.
+fn answer_place(answer: &Answer) -> usize {
+    match answer {
+        Answer::Discovered { .. } => 0,
+        Answer::Joined(_) => 1,
+        Answer::Left => 2,
+        Answer::Draining => 3,
+        Answer::LimitsSet => 4,
+        Answer::Published(_) => 5,
+        Answer::RoundOpen(_) => 6,
+        Answer::Taken { .. } => 7,
+        Answer::Booked => 8,
+        Answer::Not(refusal) => refusal_place(refusal).saturating_add(DONE),
+    }
+}
+
+/// The place of a refusal among the refusals.
+fn refusal_place(refusal: &Refusal) -> usize {
+    match refusal {
+        Refusal::UnknownJob => 0,
+        Refusal::UnknownSource => 1,
+        Refusal::TooManyLive => 2,
+        Refusal::TooManyKnown => 3,
+        Refusal::AlreadyJoined(_) => 4,
+        Refusal::TooManyCollectors => 5,
+        Refusal::IdsSpent => 6,
+        Refusal::UnknownCollector => 7,
+        Refusal::AlreadyDraining => 8,
+        Refusal::Refused(_) => 9,
+        Refusal::Unchanged(_) => 10,
+        Refusal::NumbersSpent => 11,
+        Refusal::RoundsSpent => 12,
+        Refusal::NotTaken(_) => 13,
+        Refusal::UnknownTarget => 14,
+        Refusal::NotHolder(_) => 15,
+        Refusal::RoundClosed(_) => 16,
+        Refusal::RoundNotOpen(_) => 17,
+        Refusal::AlreadyBooked => 18,
     }
 }

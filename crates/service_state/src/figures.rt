@@ -37,12 +37,23 @@ pub(crate) struct CollectorFigures {
     pub(crate) draining: bool,
     /// How many live targets it holds in the current allocation.
     pub(crate) held: u64,
-    /// The same job by job.
-    pub(crate) held_by_job: Vec<u64>,
+    /// Its shares, job by job.
+    pub(crate) shares: Vec<ShareFigures>,
     /// The number of the allocation that it took last, 0 where it took none.
     pub(crate) taken: AllocationNumber,
     /// How many it may hold of all jobs together, where each job has a limit for it.
     pub(crate) room: Option<u64>,
+}
+
+/// A collector's share of a job.
+#[derive(Clone, Copy, Debug)]
+pub(crate) struct ShareFigures {
+    /// How many live targets it has in the current allocation.
+    pub(crate) held: u64,
+    /// How many it may have, 0 where nothing limits it.
+    pub(crate) limit: u32,
+    /// Whether the collector has a limit of its own for the job.
+    pub(crate) has_own_limit: bool,
 }
 
 /// The numbers of a desk at a moment.
@@ -84,7 +95,7 @@ fn idle_collectors(alloc: Global, core: &Core) -> Result<Vec<CollectorFigures>, 
             id: collector.id,
             draining: collector.draining,
             held: 0,
-            held_by_job: zeros(alloc, core.fleet().jobs().len())?,
+            shares: idle_shares(alloc, core.fleet().jobs(), collector)?,
             taken: core.taken(collector.id),
             room: room_of(core.fleet().jobs(), collector),
         })?;
@@ -92,12 +103,20 @@ fn idle_collectors(alloc: Global, core: &Core) -> Result<Vec<CollectorFigures>, 
     Ok(collectors)
 }
 
-fn zeros(alloc: Global, count: usize) -> Result<Vec<u64>, AllocError> {
-    let mut zeros = Vec::with_capacity(alloc, count)?;
-    for _ in 0..count {
-        zeros.push(0)?;
+fn idle_shares(
+    alloc: Global,
+    jobs: &[JobSpec],
+    collector: &Collector,
+) -> Result<Vec<ShareFigures>, AllocError> {
+    let mut shares = Vec::with_capacity(alloc, jobs.len())?;
+    for job in jobs {
+        shares.push(ShareFigures {
+            held: 0,
+            limit: collector.share_limit(job),
+            has_own_limit: collector.limits.limit(job.name.as_str()) > 0,
+        })?;
     }
-    Ok(zeros)
+    Ok(shares)
 }
 
 /// How many targets a collector may hold of all jobs together, where each job has a limit for it.
@@ -143,8 +162,8 @@ fn count_one(core: &Core, target: usize, collector: CollectorId, figures: &mut F
     }
     if let Some(holder) = figures.collectors.get_mut(place) {
         holder.held = holder.held.saturating_add(1);
-        if let Some(held) = holder.held_by_job.get_mut(known.job) {
-            *held = held.saturating_add(1);
+        if let Some(share) = holder.shares.get_mut(known.job) {
+            share.held = share.held.saturating_add(1);
         }
     }
 }

@@ -1,5 +1,5 @@
 //! The metrics of a service.
-use crate::counts::{Counts, KINDS, ROUTES, STATUSES};
+use crate::counts::{ANSWERS, Counts, KINDS, ROUTES, STATUSES, refused};
 use crate::figures::{CollectorFigures, Figures, JobFigures};
 use crate::notes::{Notes, SourceNote};
 use crate::service_state::ServiceState;
@@ -159,33 +159,65 @@ fn write_last_allocation(page: &mut Exposition, notes: &Notes) -> Result<(), All
 
 fn write_events(page: &mut Exposition, counts: &Counts) -> Result<(), AllocError> {
     let name = "allocd_events_total";
-    page.family(name, Kind::Counter, "Events that were entered and done.")?;
-    for (kind, count) in KINDS.iter().zip(counts.done.iter()) {
-        page.labelled_sample(name, "event", kind, u128::from(*count))?;
+    page.family(
+        name,
+        Kind::Counter,
+        "Events that were entered, by what they were answered.",
+    )?;
+    for (kind, of_kind) in KINDS.iter().zip(counts.events.iter()) {
+        write_answers(page, name, kind, of_kind)?;
     }
     let name = "allocd_events_refused_total";
     page.family(name, Kind::Counter, "Events that were entered and refused.")?;
-    for (kind, count) in KINDS.iter().zip(counts.refused.iter()) {
-        page.labelled_sample(name, "event", kind, u128::from(*count))?;
+    for (kind, of_kind) in KINDS.iter().zip(counts.events.iter()) {
+        page.labelled_sample(name, "event", kind, u128::from(refused(of_kind)))?;
+    }
+    Ok(())
+}
+
+/// The answers to events of a kind, but for those that none was given.
+fn write_answers(
+    page: &mut Exposition,
+    name: &str,
+    kind: &str,
+    of_kind: &[u64],
+) -> Result<(), AllocError> {
+    for (answer, count) in ANSWERS.iter().zip(of_kind.iter()) {
+        if *count > 0 {
+            let count = u128::from(*count);
+            page.twice_labelled_sample(name, "event", kind, "answer", answer, count)?;
+        }
     }
     Ok(())
 }
 
 fn write_requests(page: &mut Exposition, alloc: Global, counts: &Counts) -> Result<(), AllocError> {
     let name = "allocd_http_requests_total";
-    page.family(name, Kind::Counter, "Requests by route.")?;
-    for (route, count) in ROUTES.iter().zip(counts.requests.iter()) {
-        page.labelled_sample(name, "route", route, u128::from(*count))?;
-    }
-    let name = "allocd_http_responses_total";
     page.family(
         name,
         Kind::Counter,
-        "Responses by status code, where 0 is any other.",
+        "Requests that were answered, by route and status code, where 0 is any other code.",
     )?;
-    for (status, count) in STATUSES.iter().zip(counts.responses.iter()) {
-        let said = format!(in alloc; "{status}")?;
-        page.labelled_sample(name, "status", said.as_str(), u128::from(*count))?;
+    for (route, of_route) in ROUTES.iter().zip(counts.requests.iter()) {
+        write_statuses(page, alloc, name, route, of_route)?;
+    }
+    Ok(())
+}
+
+/// The status codes of a route's answers, but for those that none had.
+fn write_statuses(
+    page: &mut Exposition,
+    alloc: Global,
+    name: &str,
+    route: &str,
+    of_route: &[u64],
+) -> Result<(), AllocError> {
+    for (status, count) in STATUSES.iter().zip(of_route.iter()) {
+        if *count > 0 {
+            let status = format!(in alloc; "{status}")?;
+            let count = u128::from(*count);
+            page.twice_labelled_sample(name, "route", route, "status", status.as_str(), count)?;
+        }
     }
     Ok(())
 }

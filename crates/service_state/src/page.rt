@@ -1,5 +1,5 @@
 //! The page for people.
-use crate::figures::{CollectorFigures, Figures, JobFigures};
+use crate::figures::{CollectorFigures, Figures, JobFigures, ShareFigures};
 use crate::notes::{AllocationNote, Notes, SourceNote};
 use crate::service_state::ServiceState;
 use hypertext::Hypertext;
@@ -74,28 +74,39 @@ fn write_collectors(page: &mut Hypertext, figures: &Figures) -> Result<(), Alloc
         page.markup("<tr>")?;
         write_collector(page, collector)?;
         number_cell(page, u64::from(collector.taken))?;
-        write_held(page, figures.jobs.as_slice(), collector)?;
+        write_shares(page, figures.jobs.as_slice(), collector.shares.as_slice())?;
         page.markup("</tr>\n")?;
     }
     page.markup("</table>\n")
 }
 
-/// What a collector holds, job by job.
-fn write_held(
+/// What a collector holds, job by job, and how many it may: of jobs of which it holds some, or for which it has a limit of its own.
+fn write_shares(
     page: &mut Hypertext,
     jobs: &[JobFigures],
-    collector: &CollectorFigures,
+    shares: &[ShareFigures],
 ) -> Result<(), AllocError> {
     page.markup("<td>")?;
-    for (job, held) in jobs.iter().zip(collector.held_by_job.iter()) {
-        if *held > 0 {
+    for (job, share) in jobs.iter().zip(shares.iter()) {
+        if share.held > 0 || share.has_own_limit {
             page.text(job.name.as_str())?;
-            page.markup(" ")?;
-            page.number(u128::from(*held))?;
-            page.markup("<br>")?;
+            write_share(page, share)?;
         }
     }
     page.markup("</td>")
+}
+
+fn write_share(page: &mut Hypertext, share: &ShareFigures) -> Result<(), AllocError> {
+    page.markup(" ")?;
+    page.number(u128::from(share.held))?;
+    if share.limit > 0 {
+        page.markup(" of ")?;
+        page.number(u128::from(share.limit))?;
+    }
+    if share.has_own_limit {
+        page.markup(", own limit")?;
+    }
+    page.markup("<br>")
 }
 
 fn write_sources(page: &mut Hypertext, sources: &[SourceNote]) -> Result<(), AllocError> {

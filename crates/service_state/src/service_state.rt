@@ -159,14 +159,9 @@ impl ServiceState {
         self.connections.load(Ordering::SeqCst)
     }
 
-    /// A request asks for this, or has no route.
-    pub fn count_request(&self, rt: &impl Wait, ask: Option<&Ask>) {
-        self.notes.lock(rt).counts.count_request(ask);
-    }
-
-    /// A request is answered with this status code.
-    pub fn count_response(&self, rt: &impl Wait, status: u16) {
-        self.notes.lock(rt).counts.count_response(status);
+    /// A request that asks for this, or has no route, is answered with this status code.
+    pub fn count_request(&self, rt: &impl Wait, ask: Option<&Ask>, status: u16) {
+        self.notes.lock(rt).counts.count_request(ask, status);
     }
 
     /// An event is answered.
