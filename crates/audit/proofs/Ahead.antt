@@ -1,6 +1,7 @@
 -- An audit journal by journal: what was written and what is left make up the whole.
 use Rattle.std.proofs.Common.{◌≡◌, ℕ, ◌+◌, true, false, List, [], ◌∷◌, ◌++◌, Some, Result, Ok, Err, refl, sym, ap, ◌∙◌, subst}
-use Rattle.std.specs.Prelude.{is_ok}
+use Rattle.std.specs.Prelude.{OnErr, is_ok}
+use Rattle.replay_lines.specs.Lines.{AddsFront}
 use Rattle.std.proofs.lemmas.List.{append_assoc, append-nil}
 use Rattle.replay_lines.specs.declared.resuming.Resumption.{Resumption}
 use Rattle.scrape_books.specs.Books.{total_of}
@@ -57,6 +58,11 @@ ahead_on whole files p next all journal journals old now new ahead is good state
 pub ahead_text : (whole left : Report) (old now new : List ℕ) → IsAhead whole left old now → new ≡ now ++ left.text → new ≡ old ++ whole.text
 ahead_text whole left old now new ahead e =
     e ∙ ap (λ (t : List ℕ). t ++ left.text) ahead.added ∙ append_assoc old ahead.front left.text ∙ ap (λ (t : List ℕ). old ++ t) (sym ahead.text)
+
+-- where memory ends there is a front of it
+pub ahead_front : {A E : Type 0} (result : Result A E) (whole left : Report) (old now new : List ℕ) → IsAhead whole left old now → new ≡ now → OnErr result (AddsFront whole.text old new)
+ahead_front (Ok x) whole left old now new ahead e = tt
+ahead_front (Err error) whole left old now new ahead e = record { front = ahead.front; rest = left.text; whole = ahead.text; added = e ∙ ahead.added }
 
 -- at the first journal with a fault
 pub record IsDone (whole : Report) (old new : List ℕ) : Type 0 where

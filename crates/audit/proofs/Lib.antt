@@ -2,3 +2,6 @@ mod FirstLine
 mod Refusals
 mod Ahead
 mod Tallying
+mod Opened
+mod Telling
+mod InRow

@@ -1,8 +1,9 @@
 //! Audits from the first journal to the last.
-ghost use Rattle.std.specs.Prelude.{◌≡◌, ◌++◌, IfOk, Ok, OnOk, OnErr, is_ok};
+ghost use Rattle.std.specs.Prelude.{◌≡◌, ◌++◌, IfOk, Ok, OnOk, OnErr, is_ok, true};
 ghost use Rattle.replay_lines.specs.Lines.{AddsFront};
 ghost use Rattle.audit.specs.Audits.{checked_text, progress_past, report_of, report_on};
 ghost use Rattle.audit.specs.Checks.{checked};
+ghost use Rattle.audit.specs.Renewals.{AreRenewals, AreRenewalsFrom, BeginsWithRenewal};
 
 use crate::checking::checked;
 use crate::lines::{write_fault, write_journal, write_whole};
@@ -40,7 +41,8 @@ impl Progress {
 }
 
 /// Audits journals, in order, and appends what is written to the text: a line for each, and then a line of the whole, or the
-/// first fault. Without memory the text has the lines so far.
+/// first fault. Without memory the text has the lines so far. Where it is consistent, the state that each journal but the first opens
+/// is the renewal of that in which the one before it ended, under the jobs of its own first line.
 #[tactic(auto, unfolding(crate::specs::Audits::report_of))]
 pub fn audit(
     alloc: Global,
@@ -50,6 +52,7 @@ pub fn audit(
     ensures text { OnOk result (text.new.items ≡ text.old.items ++ (report_of journals.now).text) }
     ensures audited { IfOk result (λ a. a ≡ (report_of journals.now).audited) }
     ensures memory { OnErr result (AddsFront (report_of journals.now).text text.old.items text.new.items) }
+    ensures renewals { IfOk result (λ a. a ≡ Audited.Consistent → AreRenewals journals.now) }
 {
     let mut progress = Progress {
         before: None,
@@ -68,6 +71,7 @@ fn audit_all(
     ensures text { OnOk result (text.new.items ≡ text.old.items ++ (report_on 0 progress.old journals.now).text) }
     ensures audited { IfOk result (λ a. a ≡ (report_on 0 progress.old journals.now).audited) }
     ensures memory { OnErr result (AddsFront (report_on 0 progress.old journals.now).text text.old.items text.new.items) }
+    ensures renewals { IfOk result (λ a. a ≡ Audited.Consistent → AreRenewalsFrom progress.old.before journals.now) }
 {
     for i in 0..journals.len() {
         if !audit_next(alloc, progress, i + 1, journals[i].as_slice(), text)? {
@@ -92,6 +96,7 @@ fn audit_next(
     ensures good { IfOk result (λ b. b ≡ is_ok (checked progress.old.before journal.now)) }
     ensures next { OnOk result (progress.new ≡ progress_past progress.old (checked progress.old.before journal.now)) }
     ensures memory { OnErr result (text.new.items ≡ text.old.items) }
+    ensures renewal { IfOk result (λ b. b ≡ true → BeginsWithRenewal progress.old.before journal.now) }
 {
     match checked(alloc, progress.before.take(), journal)? {
         Ok(end) => {

@@ -1,9 +1,12 @@
 //! One journal after another.
-ghost use Rattle.std.specs.Prelude.{◌≡◌, IfOk};
+ghost use Rattle.std.specs.Prelude.{◌≡◌, IfNone, IfOk, OnOk};
 ghost use Rattle.audit.specs.Checks.{begins, checked, first_fault, first_fault_of};
+ghost use Rattle.audit.specs.Laws.{IsWhole};
+ghost use Rattle.audit.specs.Renewals.{BeginsWithRenewal, IsRenewalOf};
 
 use crate::fault::{Fault, unreadable};
 use crate::first_line::first_line;
+use crate::laws::opened_are_whole;
 use crate::renewal::renewal_fault;
 use allocation_core::Core;
 use replay_lines::{Resumption, resume};
@@ -16,7 +19,8 @@ pub(crate) fn checked(
     before: Option<Core>,
     journal: &[u8],
 ) -> Result<Result<Resumption, Fault>, AllocError>
-    ensures { IfOk result (λ r. r ≡ checked before journal.now) }
+    ensures checked { IfOk result (λ r. r ≡ checked before journal.now) }
+    ensures renewal { IfOk result (λ r. OnOk r (BeginsWithRenewal before journal.now)) }
 {
     if let Some(fault) = first_fault_of(alloc, before, journal)? {
         return Ok(Err(fault));
@@ -32,7 +36,8 @@ fn first_fault_of(
     before: Option<Core>,
     journal: &[u8],
 ) -> Result<Option<Fault>, AllocError>
-    ensures { IfOk result (λ o. o ≡ first_fault_of before journal.now) }
+    ensures fault { IfOk result (λ o. o ≡ first_fault_of before journal.now) }
+    ensures renewal { IfOk result (λ o. IfNone o (BeginsWithRenewal before journal.now)) }
 {
     match before {
         Some(core) => first_fault(alloc, core, journal),
@@ -43,8 +48,10 @@ fn first_fault_of(
 /// What is wrong with the first line of a journal that follows the core.
 #[tactic(auto, unfolding(crate::specs::Checks::first_fault))]
 fn first_fault(alloc: Global, core: Core, journal: &[u8]) -> Result<Option<Fault>, AllocError>
-    ensures { IfOk result (λ o. o ≡ first_fault core journal.now) }
+    ensures fault { IfOk result (λ o. o ≡ first_fault core journal.now) }
+    ensures renewal { IfOk result (λ o. IfNone o (BeginsWithRenewal (Some core) journal.now)) }
 {
+    opened_are_whole();
     match resume(alloc, first_line(journal))? {
         Ok(start) => start_fault(alloc, core, &start.core),
         Err(damage) => Ok(Some(unreadable(damage))),
@@ -52,7 +59,8 @@ fn first_fault(alloc: Global, core: Core, journal: &[u8]) -> Result<Option<Fault
 }
 
 fn start_fault(alloc: Global, core: Core, start: &Core) -> Result<Option<Fault>, AllocError>
-    ensures { IfOk result (λ o. o ≡ begins core start.now) }
+    ensures fault { IfOk result (λ o. o ≡ begins core start.now) }
+    ensures renewal { IfOk result (λ o. IsWhole start.now → IfNone o (IsRenewalOf core start.now)) }
 {
     match renewal_fault(alloc, core, start)? {
         Some(why) => Ok(Some(Fault { line: 1, why })),

@@ -1,9 +1,13 @@
 //! Whether a state is the renewal of another.
-ghost use Rattle.std.specs.Prelude.{◌≡◌, ◌≢◌, IfErr, IfOk, None, OnOk, Some, if◌then◌else◌};
+ghost use Rattle.std.specs.Prelude.{◌≡◌, ◌≢◌, ◌<◌, ℕ, AllPairs, IfErr, IfNone, IfOk, None, OnOk, Some, if◌then◌else◌, true};
 ghost use Rattle.allocation_core.specs.Renewed.{IsWhyNot, renewal_refusal, renewed};
+ghost use Rattle.allocation_core.specs.State.{current_pairs};
 ghost use Rattle.audit.specs.Checks.{refused_why, renewal_fault, same_history};
+ghost use Rattle.audit.specs.Laws.{IsWhole, ReadAlike};
+ghost use Rattle.audit.specs.Renewals.{IsRenewalOf};
 
 use crate::fault::Why;
+use crate::laws::histories_tell;
 use allocation_core::{Core, JobSpec, RenewalError};
 use core_history::write_history;
 use lists::copies;
@@ -16,8 +20,10 @@ pub(crate) fn renewal_fault(
     core: Core,
     next: &Core,
 ) -> Result<Option<Why>, AllocError>
-    ensures { IfOk result (λ o. o ≡ renewal_fault core next.now) }
+    ensures fault { IfOk result (λ o. o ≡ renewal_fault core next.now) }
+    ensures renewal { IfOk result (λ o. IsWhole next.now → IfNone o (IsRenewalOf core next.now)) }
 {
+    histories_tell();
     let jobs = copies(alloc, next.fleet().jobs())?;
     match renewed_under(core, jobs) {
         Ok(renewed) => other_state(alloc, &renewed, next),
@@ -28,8 +34,10 @@ pub(crate) fn renewal_fault(
 fn renewed_under(core: Core, jobs: Vec<JobSpec>) -> Result<Core, RenewalError>
     ensures renewed { IfOk result (λ c. c ≡ renewed core jobs.items) }
     ensures granted { OnOk result (renewal_refusal core jobs.items ≡ None) }
+    ensures ascending { OnOk result (AllPairs (λ (a b : ℕ × ℕ). a.0 < b.0) (current_pairs core)) }
     ensures refused { IfErr result (λ why. IsWhyNot (renewal_refusal core jobs.items) why) }
 {
+    let _pairs = core.allocation();
     match core.renew(jobs) {
         Ok(renewed) => Ok(renewed),
         Err(refused) => Err(refused.why),
@@ -37,7 +45,8 @@ fn renewed_under(core: Core, jobs: Vec<JobSpec>) -> Result<Core, RenewalError>
 }
 
 fn other_state(alloc: Global, renewed: &Core, next: &Core) -> Result<Option<Why>, AllocError>
-    ensures { IfOk result (λ o. o ≡ (if same_history renewed.now next.now then None else Some Why.OtherState)) }
+    ensures fault { IfOk result (λ o. o ≡ (if same_history renewed.now next.now then None else Some Why.OtherState)) }
+    ensures alike { IfOk result (λ o. IfNone o (ReadAlike renewed.now next.now)) }
 {
     if same_history(alloc, renewed, next)? {
         return Ok(None);
@@ -61,6 +70,7 @@ fn why_refused(why: RenewalError) -> Result<Option<Why>, AllocError>
 #[tactic(auto, unfolding(crate::specs::Checks::same_history))]
 fn same_history(alloc: Global, core: &Core, other: &Core) -> Result<bool, AllocError>
     ensures same { IfOk result (λ s. s ≡ same_history core.now other.now) }
+    ensures alike { IfOk result (λ s. s ≡ true → ReadAlike core.now other.now) }
 {
     let history = write_history(alloc, core)?;
     let other_history = write_history(alloc, other)?;

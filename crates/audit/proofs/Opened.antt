@@ -1,0 +1,109 @@
+-- Of a state that a first line opens a history leaves nothing out.
+use Rattle.std.proofs.Common.{◌≡◌, ◌==◌, ℕ, Bool, true, false, not, cond, List, [], ◌∷◌, Option, Some, None, option_and_then, Result, Ok, Err, refl, sym, ap, ◌∙◌, subst}
+use Rattle.std.specs.List.{onto_first}
+use Rattle.std.specs.Option.{option_map_or}
+use Rattle.serde_json.specs.Data.{Data}
+use Rattle.price_certificate.specs.Problem.{Problem}
+use Rattle.price_certificate.specs.declared.plan.Plan.{Plan}
+use Rattle.handover.specs.Handover.{last_of, only}
+use Rattle.fleet.specs.Fleet.{FleetState}
+use Rattle.fleet.specs.Jobs.{are_jobs}
+use Rattle.fleet.specs.Parts.{fleet_of, parts_fault}
+use Rattle.fleet.specs.declared.error.PartsError.{PartsError}
+use Rattle.fleet.specs.declared.job.JobSpec.{JobSpec}
+use Rattle.allocation_core.specs.State.{State, first_state, restored}
+use Rattle.core_history.specs.History.{by_fault, checked, checked_in, history_in, is_allocation, parts_in, state_of}
+use Rattle.core_history.specs.declared.error.HistoryError.{HistoryError}
+use Rattle.core_history.specs.declared.error.HistoryError.TheVariants.{BadAllocation, BadRound}
+use Rattle.replay_lines.specs.AsRuns.{events_of}
+use Rattle.replay_lines.specs.Configurations.{history_of, jobs_in, opened, opened_from, resumed_with, same_jobs}
+use Rattle.replay_lines.specs.Replays.{lines_in}
+use Rattle.replay_lines.specs.Resumes.{damage_at, resumed, resumed_by, resumed_from, resumption_at, unread_from}
+use Rattle.replay_lines.specs.declared.resuming.Resumption.{Resumption}
+use Rattle.audit.specs.Checks.{first_line}
+use Rattle.audit.specs.Laws.{IsWhole, OpenedAreWhole}
+
+-- ---- a state that a history says
+
+last_only : (pairs : List (ℕ × ℕ)) → last_of (only pairs) ≡ pairs
+last_only [] = refl
+last_only (q ∷ pairs) = refl
+
+restored_whole : (fleet : FleetState) (pairs : List (ℕ × ℕ)) (problem : Problem) (plan : Plan) (round : ℕ) → is_allocation fleet pairs ≡ true → IsWhole (restored fleet pairs problem plan round)
+restored_whole fleet pairs problem plan round e =
+    record {
+      allocation = ap (λ (ps : List (ℕ × ℕ)). is_allocation fleet ps) (last_only pairs) ∙ e;
+      is = ap (λ (ps : List (ℕ × ℕ)). restored fleet ps problem plan round) (last_only pairs);
+    }
+
+-- what passes both checks
+record Passes (b : Bool) (m n : State) : Type 0 where
+  good : b ≡ true
+  same : m ≡ n
+
+passes : (b c : Bool) (m n : State) → ◌≡◌ {A = Result State HistoryError} (cond (not b) (Err BadAllocation) (cond c (Err BadRound) (Ok m))) (Ok n) → Passes b m n
+passes true true m n e = absurd (cc)
+passes true false m n e = record { good = refl; same = cc }
+passes false c m n e = absurd (cc)
+
+whole_by : (fault : Option PartsError) (h : _) (n : State) → by_fault fault h ≡ Ok n → IsWhole n
+whole_by (Some fault) h n e = absurd (cc)
+whole_by None h n e =
+    let p = passes (is_allocation (fleet_of h.fleet) h.allocation) (h.round == 0) (state_of h) n e in
+    subst IsWhole p.same (restored_whole (fleet_of h.fleet) h.allocation h.certificate.instance h.certificate.plan h.round p.good)
+
+history_whole : (h : _) (n : State) → checked_in h ≡ Ok n → IsWhole n
+unfolding checked
+history_whole None n e = absurd (cc)
+history_whole (Some h) n e = whole_by (parts_fault (fleet_of h.fleet)) h n e
+
+said_whole : (d : Data) (n : State) → history_in d ≡ Ok n → IsWhole n
+unfolding history_in
+said_whole d n e = history_whole (parts_in d) n e
+
+-- ---- or the first one of its jobs
+
+first_whole : (jobs : List JobSpec) → IsWhole (first_state jobs)
+first_whole jobs = record { allocation = refl; is = refl }
+
+some_by : (b : Bool) (m n : State) → cond b (Some m) None ≡ Some n → m ≡ n
+some_by true m n e = cc
+some_by false m n e = absurd (cc)
+
+resumed_whole : (jobs : List JobSpec) (said : Result State HistoryError) (n : State) → ((m : State) → said ≡ Ok m → IsWhole m) → resumed_with jobs said ≡ Some n → IsWhole n
+resumed_whole jobs (Err fault) n whole e = absurd (cc)
+resumed_whole jobs (Ok m) n whole e = subst IsWhole (some_by (same_jobs m.fleet.jobs jobs) m n e) (whole m refl)
+
+from_whole : (history : Option Data) (jobs : List JobSpec) (n : State) → opened_from history jobs ≡ Some n → IsWhole n
+from_whole None jobs n e = subst IsWhole (some_by (are_jobs jobs) (first_state jobs) n e) (first_whole jobs)
+from_whole (Some d) jobs n e = resumed_whole jobs (history_in d) n (said_whole d) e
+
+whole_in : (history : Option Data) (jobs : Option (List JobSpec)) (n : State) → option_and_then (opened_from history) jobs ≡ Some n → IsWhole n
+whole_in history None n e = absurd (cc)
+whole_in history (Some jobs) n e = from_whole history jobs n e
+
+pub opened_whole : OpenedAreWhole
+unfolding opened
+opened_whole line n e = whole_in (history_of line) (jobs_in line) n e
+
+-- ---- a first line alone
+
+one_by : (feed : Bool) (b : ℕ) (bs : List ℕ) → (b == 10) ≡ feed → lines_in bs ≡ bs ∷ [] → lines_in (cond feed [] (b ∷ bs)) ≡ cond feed [] (b ∷ bs) ∷ []
+one_by true b bs e one = refl
+one_by false b bs e one = ap (λ (t : Bool). cond t ([] ∷ lines_in bs) (onto_first b (lines_in bs))) e ∙ ap (onto_first b) one
+
+one_line : (journal : List ℕ) → lines_in (first_line journal) ≡ first_line journal ∷ []
+one_line [] = refl
+one_line (b ∷ bs) = one_by (b == 10) b (first_line bs) refl (one_line bs)
+
+opened_by : (m : Option State) (start : Resumption) → option_map_or (λ (m : State). resumed_from m []) m (Err (damage_at 1)) ≡ Ok start → m ≡ Some start.core
+unfolding unread_from events_of
+opened_by None start e = absurd (cc)
+opened_by (Some m) start e =
+    let same : resumption_at m 0 ≡ start = cc in
+    ap (λ (r : Resumption). (let o : Option State = Some r.core in o)) same
+
+-- what it leads to is what it opens
+pub start_opened : (journal : List ℕ) (start : Resumption) → resumed (first_line journal) ≡ Ok start → opened (first_line journal) ≡ Some start.core
+unfolding resumed
+start_opened journal start e = opened_by (opened (first_line journal)) start (ap resumed_by (sym (one_line journal)) ∙ e)

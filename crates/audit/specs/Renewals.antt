@@ -1,0 +1,27 @@
+-- What an audit without a fault says of the states: each journal opens the renewal of the state in which the one before it ended.
+use Rattle.std.specs.Prelude.{◌≡◌, ℕ, List, [], ◌∷◌, Option, Some, None, Ok}
+use Rattle.allocation_core.specs.Renewed.{renewal_refusal, renewed}
+use Rattle.allocation_core.specs.State.{State}
+use Rattle.replay_lines.specs.Configurations.{opened}
+use Rattle.replay_lines.specs.Resumes.{resumed}
+use Rattle.replay_lines.specs.declared.resuming.Resumption.{Resumption}
+use Rattle.audit.specs.Checks.{first_line}
+
+-- n is the renewal of m under n's own jobs, and nothing is against that
+pub record IsRenewalOf (m n : State) : Type 0 where
+  pub granted : renewal_refusal m n.fleet.jobs ≡ None
+  pub is : n ≡ renewed m n.fleet.jobs
+
+-- the first line opens the renewal of the state, where there is one
+abbrev pub BeginsWithRenewal : Option State → List ℕ → Type 0
+BeginsWithRenewal None journal = Unit {0}
+BeginsWithRenewal (Some m) journal = (n : State) × (opened (first_line journal) ≡ Some n) × IsRenewalOf m n
+
+-- behind a journal that ended in this state
+unfoldable pub AreRenewalsFrom : Option State → List (List ℕ) → Type 0
+AreRenewalsFrom before [] = Unit {0}
+AreRenewalsFrom before (journal ∷ journals) = (end : Resumption) × (resumed journal ≡ Ok end) × BeginsWithRenewal before journal × AreRenewalsFrom (Some end.core) journals
+
+-- The lines of each journal lead to a state, and the first line of the next one opens the renewal of that.
+abbrev pub AreRenewals : List (List ℕ) → Type 0
+AreRenewals journals = AreRenewalsFrom None journals
