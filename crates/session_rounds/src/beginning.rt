@@ -1,4 +1,7 @@
 //! What a session enters before its rounds.
+ghost use Rattle.std.specs.Prelude.{◌≡◌, All, OnOk};
+ghost use Rattle.session_rounds.specs.Beginnings.{AskedJobs, AskedSource, AskedSources, BooksNothing, asked_count};
+
 use crate::entering::{enter, enter_joins, reallocate, static_targets};
 use crate::refreshing::{Refresher, last_source};
 use crate::stop::SessionStop;
@@ -20,7 +23,11 @@ pub fn begin<L: Ledger, B: Ledger, N: DeskName, S: Scrape, R: Wait>(
     session: &Session,
     refresher: &mut Refresher<L, B, N, S>,
     text: &mut Vec<u8>,
-) -> Result<(), SessionStop> {
+) -> Result<(), SessionStop>
+    ensures asked { OnOk result (AskedJobs S.may_fetch session.now.config.jobs refresher.old.scrape refresher.new.scrape text.old.items text.new.items) }
+    ensures booked { All BooksNothing session.now.joins → refresher.new.pass.booked ≡ refresher.old.pass.booked }
+    ensures seat { refresher.new.pass.seat ≡ refresher.old.pass.seat }
+{
     enter_joins(desk, rt, &mut refresher.pass, session.joins.as_slice())?;
     for job in session.config.jobs.as_slice() {
         let rules = Rules::read(alloc, job.rules.as_slice())?;
@@ -38,11 +45,15 @@ fn list_job<L: Ledger, B: Ledger, N: DeskName, S: Scrape, R: Wait>(
     rules: &Rules,
     refresher: &mut Refresher<L, B, N, S>,
     text: &mut Vec<u8>,
-) -> Result<(), SessionStop> {
+) -> Result<(), SessionStop>
+    ensures asked { OnOk result (AskedSources S.may_fetch job.now rules.now 1 (asked_count job.now) refresher.old.scrape refresher.new.scrape text.old.items text.new.items) }
+    ensures booked { refresher.new.pass.booked ≡ refresher.old.pass.booked }
+    ensures seat { refresher.new.pass.seat ≡ refresher.old.pass.seat }
+{
     let targets = static_targets(alloc, job, rules)?;
     enter(desk, rt, &mut refresher.pass, targets)?;
-    for source in 1..=last_source(job) {
-        list_source(desk, rt, alloc, job, rules, source, refresher, text)?;
+    for index in 0..last_source(job) {
+        list_source(desk, rt, alloc, job, rules, 1 + index, refresher, text)?;
     }
     Ok(())
 }
@@ -56,7 +67,11 @@ fn list_source<L: Ledger, B: Ledger, N: DeskName, S: Scrape, R: Wait>(
     source: u32,
     refresher: &mut Refresher<L, B, N, S>,
     text: &mut Vec<u8>,
-) -> Result<(), SessionStop> {
+) -> Result<(), SessionStop>
+    ensures asked { OnOk result (AskedSource S.may_fetch job.now rules.now source refresher.old.scrape refresher.new.scrape text.old.items text.new.items) }
+    ensures booked { refresher.new.pass.booked ≡ refresher.old.pass.booked }
+    ensures seat { refresher.new.pass.seat ≡ refresher.old.pass.seat }
+{
     match refresh(alloc, job, rules, source, &mut refresher.scrape) {
         Ok(event) => enter(desk, rt, &mut refresher.pass, event),
         Err(RefreshError::Memory) => Err(SessionStop::Memory),

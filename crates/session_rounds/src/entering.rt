@@ -1,4 +1,7 @@
 //! Events that a session enters.
+ghost use Rattle.std.specs.Prelude.{◌≡◌, All, IfOk};
+ghost use Rattle.session_rounds.specs.Beginnings.{BooksNothing};
+
 use crate::stop::{SessionStop, stop_of};
 use alloc_desk::{Desk, DeskName, Pass};
 use allocation_core::{Answer, Event};
@@ -18,7 +21,10 @@ pub(crate) fn enter<L: Ledger, B: Ledger, N: DeskName, R: Wait>(
     rt: &R,
     pass: &mut Pass<L, B, N>,
     event: Event,
-) -> Result<(), SessionStop> {
+) -> Result<(), SessionStop>
+    ensures booked { BooksNothing event → pass.new.booked ≡ pass.old.booked }
+    ensures seat { pass.new.seat ≡ pass.old.seat }
+{
     let receipt = desk.submit(rt, pass, event)?;
     if matches!(&receipt.answer, Answer::Not(_)) {
         return Err(SessionStop::Refused(receipt.answer));
@@ -32,7 +38,10 @@ pub(crate) fn enter_joins<L: Ledger, B: Ledger, N: DeskName, R: Wait>(
     rt: &R,
     pass: &mut Pass<L, B, N>,
     joins: &[Event],
-) -> Result<(), SessionStop> {
+) -> Result<(), SessionStop>
+    ensures booked { All BooksNothing joins.now → pass.new.booked ≡ pass.old.booked }
+    ensures seat { pass.new.seat ≡ pass.old.seat }
+{
     for join in joins {
         let join = join.copy()?;
         enter(desk, rt, pass, join)?;
@@ -41,7 +50,9 @@ pub(crate) fn enter_joins<L: Ledger, B: Ledger, N: DeskName, R: Wait>(
 }
 
 /// What the static groups of a job list.
-pub(crate) fn static_targets(alloc: Global, job: &Job, rules: &Rules) -> Result<Event, AllocError> {
+pub(crate) fn static_targets(alloc: Global, job: &Job, rules: &Rules) -> Result<Event, AllocError>
+    ensures { IfOk result BooksNothing }
+{
     let Found { targets, .. } = rules.discover(alloc, job, 0, job.static_groups.as_slice())?;
     let job = job.name.copy()?;
     Ok(Event::Discover {
@@ -57,7 +68,10 @@ pub(crate) fn reallocate<L: Ledger, B: Ledger, N: DeskName, R: Wait>(
     rt: &R,
     alloc: Global,
     pass: &mut Pass<L, B, N>,
-) -> Result<(), SessionStop> {
+) -> Result<(), SessionStop>
+    ensures booked { pass.new.booked ≡ pass.old.booked }
+    ensures seat { pass.new.seat ≡ pass.old.seat }
+{
     match desk.reallocate(rt, alloc, pass, TRIES) {
         Ok(_) => Ok(()),
         Err(fault) => stop_of(&fault),

@@ -1,4 +1,7 @@
 //! Refreshing the sources while a round runs.
+ghost use Rattle.std.specs.Prelude.{◌≡◌};
+ghost use Rattle.session_rounds.specs.Beginnings.{asked_count};
+
 use crate::entering::reallocate;
 use crate::stop::SessionStop;
 use alloc_desk::{Desk, DeskName, EnterError, Pass};
@@ -23,7 +26,10 @@ pub(crate) fn renew<L: Ledger, B: Ledger, N: DeskName, S: Scrape, R: Wait>(
     alloc: Global,
     jobs: &[Job],
     refresher: &mut Refresher<L, B, N, S>,
-) -> Result<(), SessionStop> {
+) -> Result<(), SessionStop>
+    ensures booked { refresher.new.pass.booked ≡ refresher.old.pass.booked }
+    ensures seat { refresher.new.pass.seat ≡ refresher.old.pass.seat }
+{
     for job in jobs {
         let rules = Rules::read(alloc, job.rules.as_slice())?;
         renew_job(desk, rt, alloc, job, &rules, refresher)?;
@@ -38,15 +44,20 @@ fn renew_job<L: Ledger, B: Ledger, N: DeskName, S: Scrape, R: Wait>(
     job: &Job,
     rules: &Rules,
     refresher: &mut Refresher<L, B, N, S>,
-) -> Result<(), SessionStop> {
-    for source in 1..=last_source(job) {
-        renew_source(desk, rt, alloc, job, rules, source, refresher)?;
+) -> Result<(), SessionStop>
+    ensures booked { refresher.new.pass.booked ≡ refresher.old.pass.booked }
+    ensures seat { refresher.new.pass.seat ≡ refresher.old.pass.seat }
+{
+    for index in 0..last_source(job) {
+        renew_source(desk, rt, alloc, job, rules, 1 + index, refresher)?;
     }
     Ok(())
 }
 
 /// The number of the last source of a job: source 0 has its static groups, and each further one a URL.
-pub(crate) fn last_source(job: &Job) -> u32 {
+pub(crate) fn last_source(job: &Job) -> u32
+    ensures { result ≡ asked_count job.now }
+{
     u32::try_from(job.http_urls.len()).unwrap_or(u32::MAX)
 }
 
@@ -58,7 +69,10 @@ fn renew_source<L: Ledger, B: Ledger, N: DeskName, S: Scrape, R: Wait>(
     rules: &Rules,
     source: u32,
     refresher: &mut Refresher<L, B, N, S>,
-) -> Result<(), SessionStop> {
+) -> Result<(), SessionStop>
+    ensures booked { refresher.new.pass.booked ≡ refresher.old.pass.booked }
+    ensures seat { refresher.new.pass.seat ≡ refresher.old.pass.seat }
+{
     match refresh(alloc, job, rules, source, &mut refresher.scrape) {
         Ok(event) => match desk.submit(rt, &mut refresher.pass, event) {
             Ok(_) => Ok(()),

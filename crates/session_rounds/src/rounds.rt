@@ -1,12 +1,13 @@
 //! The rounds.
-ghost use Rattle.std.specs.Prelude.{◌≡◌, ◌++◌, map, IfOk, OnOk};
+ghost use Rattle.std.specs.Prelude.{◌≡◌, ◌++◌, map, All, IfOk, IfSome, OnOk};
 ghost use Rattle.session.specs.Lines.{no_sums, round_line as round_line_text, sums_from};
+ghost use Rattle.session_rounds.specs.Rounds.{HadTurns, IsDone, RanRounds};
 ghost use Rattle.session_rounds.specs.Turns.{turns_in};
 
 use crate::entering::enter;
 use crate::refreshing::{Refresher, renew};
 use crate::stop::SessionStop;
-use alloc_desk::{Desk, DeskName};
+use alloc_desk::{Desk, DeskName, Pass};
 use allocation_core::Event;
 use collector_pool::{Gate, Turn, TurnEnd, Worker, run_round};
 use http_get::Scrape;
@@ -37,19 +38,71 @@ pub fn run_rounds<
     refresher: &mut Refresher<L, B, N, S>,
     gate: &G,
     text: &mut Vec<u8>,
-) -> Result<(), SessionStop> {
+) -> Result<(), SessionStop>
+    ensures rounds { OnOk result (RanRounds S.may_fetch N.opening jobs.now rounds workers.old workers.new text.old.items text.new.items) }
+    ensures booked { refresher.new.pass.booked ≡ refresher.old.pass.booked }
+    ensures seat { refresher.new.pass.seat ≡ refresher.old.pass.seat }
+{
     for round in 0..rounds {
-        if round > 0 {
-            enter(desk, rt, &mut refresher.pass, Event::NextRound)?;
-        }
+        open_round(desk, rt, round, &mut refresher.pass)?;
         run_one(desk, rt, alloc, jobs, workers, refresher, gate)?;
         write_round(alloc, 1 + round, workers, text)?;
     }
     Ok(())
 }
 
-/// Runs the round that is open.
+/// Opens a round. The first is open from the start.
+fn open_round<L: Ledger, B: Ledger, N: DeskName, R: Wait>(
+    desk: &Desk<L, B, N>,
+    rt: &R,
+    round: u32,
+    pass: &mut Pass<L, B, N>,
+) -> Result<(), SessionStop>
+    ensures booked { pass.new.booked ≡ pass.old.booked }
+    ensures seat { pass.new.seat ≡ pass.old.seat }
+{
+    if round == 0 {
+        return Ok(());
+    }
+    enter(desk, rt, pass, Event::NextRound)
+}
+
+/// Runs the round that is open. The refresher's device may be of another type than the workers'.
 fn run_one<
+    L: Ledger + Send + Sync,
+    B: Ledger + Send + Sync,
+    N: DeskName + Send + Sync,
+    S: Scrape + Send,
+    T: Scrape,
+    G: Gate + Sync,
+    R: Threads + Wait + Sync,
+>(
+    desk: &Desk<L, B, N>,
+    rt: &R,
+    alloc: Global,
+    jobs: &[Job],
+    workers: &mut [Worker<L, B, N, S>],
+    refresher: &mut Refresher<L, B, N, T>,
+    gate: &G,
+) -> Result<(), SessionStop>
+    ensures turns { HadTurns S.may_fetch N.opening jobs.now workers.old (turns_in (map (λ w. w.turn) workers.new)) workers.new }
+    ensures done { OnOk result (All IsDone (turns_in (map (λ w. w.turn) workers.new))) }
+    ensures booked { refresher.new.pass.booked ≡ refresher.old.pass.booked }
+    ensures seat { refresher.new.pass.seat ≡ refresher.old.pass.seat }
+{
+    // Each closure borrows an allocator of its own.
+    let renewing = alloc;
+    let ((), renewed) = thread::join_mut(
+        rt,
+        &mut || run_turns(desk, rt, alloc, jobs, gate, workers),
+        &mut || renew(desk, rt, renewing, jobs, refresher),
+    );
+    renewed?;
+    all_done(workers)
+}
+
+/// One turn of each worker.
+fn run_turns<
     L: Ledger + Send + Sync,
     B: Ledger + Send + Sync,
     N: DeskName + Send + Sync,
@@ -61,41 +114,38 @@ fn run_one<
     rt: &R,
     alloc: Global,
     jobs: &[Job],
-    workers: &mut [Worker<L, B, N, S>],
-    refresher: &mut Refresher<L, B, N, S>,
     gate: &G,
-) -> Result<(), SessionStop> {
-    let ((), renewed) = thread::join(
-        rt,
-        || run_round(desk, rt, alloc, jobs, workers, gate),
-        || renew(desk, rt, alloc, jobs, refresher),
-    );
-    renewed?;
-    all_ended(workers)
+    workers: &mut [Worker<L, B, N, S>],
+)
+    ensures { HadTurns S.may_fetch N.opening jobs.now workers.old (turns_in (map (λ w. w.turn) workers.new)) workers.new }
+{
+    run_round(desk, rt, alloc, jobs, workers, gate);
 }
 
 /// Whether no turn met a full journal or ran out of memory.
-fn all_ended<L: Ledger, B: Ledger, N: DeskName, S>(
+fn all_done<L: Ledger, B: Ledger, N: DeskName, S>(
     workers: &[Worker<L, B, N, S>],
-) -> Result<(), SessionStop> {
+) -> Result<(), SessionStop>
+    ensures { OnOk result (All IsDone (turns_in (map (λ w. w.turn) workers.now))) }
+{
     for worker in workers {
-        match worker.turn {
-            Some(
-                Turn {
-                    end: TurnEnd::JournalFull,
-                    ..
-                },
-            ) => return Err(SessionStop::JournalFull),
-            Some(
-                Turn {
-                    end: TurnEnd::Memory,
-                    ..
-                },
-            ) => return Err(SessionStop::Memory),
-            _ => {}
-        }
+        done(worker.turn)?;
     }
     Ok(())
+}
+
+/// Whether a turn, where there was one, met neither.
+fn done(turn: Option<Turn>) -> Result<(), SessionStop>
+    ensures { OnOk result (IfSome turn IsDone) }
+{
+    let Some(turn) = turn else {
+        return Ok(());
+    };
+    match turn.end {
+        TurnEnd::Complete | TurnEnd::NotJoined => Ok(()),
+        TurnEnd::JournalFull => Err(SessionStop::JournalFull),
+        TurnEnd::Memory => Err(SessionStop::Memory),
+    }
 }
 
 /// Writes the line of a round, with the sums over the workers' turns.
