@@ -1,7 +1,8 @@
 //! The thread that keeps the journal in a file.
+use crate::journal_file::JournalFile;
 use crate::shared::Shared;
 use alloc_desk::{DeskName, Pass};
-use durable_journal::{append, journal_lines};
+use durable_journal::journal_lines;
 use lists::List;
 use log::{error, warn};
 use logfmt::Logfmt;
@@ -25,7 +26,7 @@ const LOOK: u64 = 50;
 #[derive(Drop)]
 pub(crate) struct Keeper<'a, L: Ledger, B: Ledger, N: DeskName, F> {
     pub(crate) pass: &'a mut Pass<L, B, N>,
-    pub(crate) file: &'a mut F,
+    pub(crate) file: &'a mut JournalFile<F>,
     pub(crate) kept: &'a Kept,
     /// Whether all others have ended, so that no entry comes any more.
     pub(crate) is_last: &'a AtomicBool,
@@ -85,8 +86,9 @@ impl<R: Wait + Clock + Eprint + Copy, L: Ledger, B: Ledger, N: DeskName> Shared<
         news: &News,
     ) -> io::Result<usize> {
         if news.entries > 0 {
-            append(keeper.file, news.lines.as_slice())?;
+            keeper.file.append(news.lines.as_slice())?;
             self.state.count_written(news.lines.len() as u64);
+            self.is_long.store(keeper.file.is_long(), Ordering::SeqCst);
             keeper
                 .kept
                 .keep(&self.rt, from.saturating_add(news.entries) as u64);
@@ -105,8 +107,9 @@ impl<R: Wait + Clock + Eprint + Copy, L: Ledger, B: Ledger, N: DeskName> Shared<
     }
 
     /// The device failed: nothing is kept any more.
-    fn give_up<F>(&self, keeper: &Keeper<'_, L, B, N, F>, error: io::Error) {
+    fn give_up<F>(&self, keeper: &mut Keeper<'_, L, B, N, F>, error: io::Error) {
         error!(Logfmt(self.rt); "the journal cannot be written: {error}");
+        keeper.file.is_broken = true;
         self.state.break_down();
         keeper.kept.fail(&self.rt);
     }

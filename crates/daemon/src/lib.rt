@@ -10,6 +10,7 @@ mod configuration;
 mod control;
 mod crew;
 mod entering;
+mod journal_file;
 mod keeping;
 mod office;
 mod one_desk;
@@ -23,5 +24,6 @@ mod shared;
 mod source;
 
 pub use configuration::Configuration;
+pub use journal_file::JournalFile;
 pub use service::{Service, ServiceError};
 pub use serving::serve;

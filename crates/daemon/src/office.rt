@@ -1,5 +1,6 @@
 //! What a service keeps from one desk to the next.
 use crate::configuration::Configuration;
+use crate::journal_file::JournalFile;
 use crate::refreshing::Watch;
 use crate::scheduling::Schedule;
 use crate::service::Service;
@@ -24,7 +25,7 @@ pub(crate) struct Office<S, F, C> {
     pub(crate) schedule: Schedule<C>,
     pub(crate) watch: Watch<S>,
     /// The journal's file.
-    pub(crate) file: Option<F>,
+    pub(crate) file: Option<JournalFile<F>>,
     /// Whether no desk was opened yet for the configuration.
     pub(crate) is_new: bool,
 }
@@ -36,7 +37,7 @@ impl<S: Scrape + Drop, F: Drop, C: Configuration + Drop> Office<S, F, C> {
         alloc: Global,
         service: &Service,
         listener: TcpListener,
-        file: Option<F>,
+        file: Option<JournalFile<F>>,
         scrape: S,
         configuration: C,
     ) -> io::Result<Office<S, F, C>> {

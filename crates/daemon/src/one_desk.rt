@@ -6,6 +6,7 @@ ghost use Rattle.daemon.specs.Later.{IsLater};
 use crate::configuration::Configuration;
 use crate::control::{Control, Ending};
 use crate::crew::Crew;
+use crate::journal_file::JournalFile;
 use crate::keeping::Keeper;
 use crate::office::Office;
 use crate::refreshing::Watch;
@@ -80,7 +81,7 @@ where
         pass: Arc::new(alloc, Mutex::new(asked))?,
         pages: Arc::try_clone(&office.pages)?,
         state: Arc::try_clone(&office.state)?,
-        kept: kept_of(alloc, &office.file)?,
+        kept: kept_of(rt, alloc, &office.file)?,
         texts: Arc::new(alloc, ListTexts::new(alloc))?,
     };
     let ending = run(rt, alloc, service, office, &handler, &mut crew)?;
@@ -90,10 +91,26 @@ where
 }
 
 /// What tells how much of the journal is kept, where there is a file for it.
-fn kept_of<F>(alloc: Global, file: &Option<F>) -> Result<Option<Arc<Kept>>, AllocError> {
+fn kept_of<F>(
+    rt: &impl Wait,
+    alloc: Global,
+    file: &Option<JournalFile<F>>,
+) -> Result<Option<Arc<Kept>>, AllocError> {
+    let Some(file) = file else {
+        return Ok(None);
+    };
+    let kept = Arc::new(alloc, Kept::new())?;
+    if file.is_broken {
+        kept.fail(rt);
+    }
+    Ok(Some(kept))
+}
+
+/// Whether there is a journal's file, and another one is to begin.
+fn is_long<F>(file: &Option<JournalFile<F>>) -> bool {
     match file {
-        Some(_) => Ok(Some(Arc::new(alloc, Kept::new())?)),
-        None => Ok(None),
+        Some(file) => file.is_long(),
+        None => false,
     }
 }
 
@@ -140,9 +157,13 @@ where
         control: Control::new(),
         state: Arc::try_clone(&handler.state)?,
         listed: AtomicU64::new(0),
+        is_long: AtomicBool::new(is_long(&office.file)),
         kept: Kept::shared(&handler.kept)?,
     };
-    if office.is_new {
+    if shared.is_broken() {
+        // What the configuration begins with is left to the next start.
+        shared.state.break_down();
+    } else if office.is_new {
         shared.state.forget_sources(rt);
         shared.enter_static_groups(&mut crew.scheduler, service.jobs())?;
         let collectors = service.settings.collectors.as_slice();
@@ -208,7 +229,8 @@ where
         served
     }
 
-    /// Runs the threads but that which keeps the journal.
+    /// Runs the threads but that which keeps the journal. Where another desk follows, requests are answered until a refresh that has begun
+    /// has ended, too.
     fn run_others<S: Scrape + Send + Drop, C: Configuration + Send>(
         &self,
         listener: &TcpListener,
@@ -226,17 +248,21 @@ where
             || -> ((), ())
                 requires { IsSend L.row × IsSend B.row × IsSend N.row × IsSend S.row × IsSend C.row }
             {
-                thread::join(
+                let ended = thread::join(
                     &self.rt,
                     || self.schedule(workers, here, scheduler, schedule),
                     || self.refresh_sources(refresher, watch),
-                )
+                );
+                if !self.is_quitting() {
+                    workers.stop(&self.rt, here);
+                }
+                ended
             },
         );
         served
     }
 
-    /// Opens rounds and reallocates until the desk is to be closed, and then stops the workers.
+    /// Opens rounds and reallocates until the desk is to be closed. Where the service is to end, no request is taken from then on.
     fn schedule<C: Configuration>(
         &self,
         workers: &Workers,
@@ -245,7 +271,14 @@ where
         schedule: &mut Schedule<C>,
     ) {
         self.keep_schedule(pass, schedule);
-        workers.stop(&self.rt, here);
+        if self.is_quitting() {
+            workers.stop(&self.rt, here);
+        }
+    }
+
+    /// Whether the desk is closed since the service is to end.
+    fn is_quitting(&self) -> bool {
+        self.control.ending(&self.rt) == Some(Ending::Quit)
     }
 
     /// Answers requests until the workers are stopped. Where no server can be, the service ends.
@@ -264,10 +297,13 @@ where
     fn keep<F: Write + OpenFile>(
         &self,
         pass: &mut Pass<L, B, N>,
-        file: &mut Option<F>,
+        file: &mut Option<JournalFile<F>>,
         is_last: &AtomicBool,
     ) {
         if let (Some(file), Some(kept)) = (file, &self.kept) {
+            if file.is_broken {
+                return;
+            }
             self.keep_journal(&mut Keeper {
                 pass,
                 file,

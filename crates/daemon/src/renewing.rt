@@ -3,6 +3,7 @@ ghost use Rattle.std.specs.Prelude.{◌≡◌, IfOk};
 ghost use Rattle.daemon.specs.Later.{IsLater};
 
 use crate::configuration::Configuration;
+use crate::journal_file::JournalFile;
 use crate::office::{Office, sources_of};
 use crate::service::Service;
 use crate::source::Source;
@@ -10,7 +11,7 @@ use allocation_core::{Core, JobSpec, NotRenewed};
 use durable_journal::{Archive, are_jobs_of, renewed_line};
 use http_get::Scrape;
 use lists::copies;
-use log::{info, warn};
+use log::{error, info, warn};
 use logfmt::Logfmt;
 use replay_lines::resume;
 use std::alloc::{AllocError, Global};
@@ -105,7 +106,7 @@ fn under<R: Clock + Eprint + Copy, F: Drop, A: Archive<F>>(
     alloc: Global,
     service: &Service,
     archive: &mut A,
-    file: &mut Option<F>,
+    file: &mut Option<JournalFile<F>>,
     jobs: Vec<JobSpec>,
     core: Core,
 ) -> io::Result<(Core, bool)>
@@ -124,7 +125,7 @@ fn renewed<R: Clock + Eprint + Copy, F: Drop, A: Archive<F>>(
     alloc: Global,
     service: &Service,
     archive: &mut A,
-    file: &mut Option<F>,
+    file: &mut Option<JournalFile<F>>,
     core: Core,
 ) -> io::Result<Core>
     ensures { IfOk result (IsLater core) }
@@ -145,7 +146,7 @@ fn renewed_under<R: Clock + Eprint + Copy, F: Drop, A: Archive<F>>(
     alloc: Global,
     service: &Service,
     archive: &mut A,
-    file: &mut Option<F>,
+    file: &mut Option<JournalFile<F>>,
     jobs: Vec<JobSpec>,
     core: Core,
 ) -> io::Result<(Core, bool)>
@@ -153,7 +154,7 @@ fn renewed_under<R: Clock + Eprint + Copy, F: Drop, A: Archive<F>>(
 {
     match core.renew(jobs) {
         Ok(renewed) => {
-            begin_journal(alloc, service, archive, file, &renewed)?;
+            begin_journal(rt, alloc, service, archive, file, &renewed)?;
             info!(Logfmt(*rt); "the allocator is renewed");
             Ok((renewed, true))
         }
@@ -164,22 +165,42 @@ fn renewed_under<R: Clock + Eprint + Copy, F: Drop, A: Archive<F>>(
     }
 }
 
-/// Begins the journal of a renewed allocator, where the service has a journal.
-fn begin_journal<F: Drop, A: Archive<F>>(
+/// Begins the journal of a renewed allocator, where the service has a journal. Where the device fails, nothing is kept any more.
+fn begin_journal<R: Clock + Eprint + Copy, F: Drop, A: Archive<F>>(
+    rt: &R,
     alloc: Global,
     service: &Service,
     archive: &mut A,
-    file: &mut Option<F>,
+    file: &mut Option<JournalFile<F>>,
     core: &Core,
 ) -> io::Result<()> {
-    if file.is_none() {
+    let Some(file) = file else {
         return Ok(());
-    }
+    };
     let Some(line) = renewed_line(alloc, service.line().as_bytes(), core)? else {
         return Err(io::ErrorKind::InvalidData.into());
     };
     let line = line.as_str();
     let first = format!(in alloc; "{line}\n")?;
-    *file = Some(archive.begin(first.as_bytes())?);
+    match archive.begin(first.as_bytes()) {
+        Ok(next) => {
+            *file = JournalFile::begun(next, first.len() as u64);
+            Ok(())
+        }
+        Err(error) => break_down(rt, file, error),
+    }
+}
+
+/// Nothing is kept any more, unless it was memory that failed.
+fn break_down<R: Clock + Eprint + Copy, F>(
+    rt: &R,
+    file: &mut JournalFile<F>,
+    error: io::Error,
+) -> io::Result<()> {
+    if error.kind() == io::ErrorKind::OutOfMemory {
+        return Err(error);
+    }
+    error!(Logfmt(*rt); "another journal cannot be begun: {error}");
+    file.is_broken = true;
     Ok(())
 }

@@ -194,7 +194,7 @@ impl<R: Wait + Clock + Eprint + Copy, L: Ledger, B: Ledger, N: DeskName> Shared<
         }
     }
 
-    /// Has the desk closed when its journal is nearly full, or the list of the targets that were ever known.
+    /// Has the desk closed when its journal or the file of it is nearly full, or the list of the targets that were ever known.
     fn close_when_full(&self, pass: &mut Pass<L, B, N>) {
         let (entries, known) = self.desk.read(&self.rt, pass, |record| {
             (record.journal().len(), record.core().fleet().known().len())
@@ -202,6 +202,7 @@ impl<R: Wait + Clock + Eprint + Copy, L: Ledger, B: Ledger, N: DeskName> Shared<
         if entries + SPARE_ENTRIES >= MOST_ENTRIES
             || known + SPARE_TARGETS >= MOST_KNOWN_TARGETS
             || self.listed.load(Ordering::SeqCst) >= MOST_LISTED
+            || self.is_long.load(Ordering::SeqCst)
         {
             info!(Logfmt(self.rt); entries, known; "nearly full: the allocator is renewed, and another desk is opened");
             self.control.end(&self.rt, Ending::Full);

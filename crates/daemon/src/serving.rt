@@ -4,6 +4,7 @@ ghost use Rattle.daemon.specs.Later.{IsLater};
 
 use crate::configuration::Configuration;
 use crate::control::Ending;
+use crate::journal_file::JournalFile;
 use crate::office::Office;
 use crate::one_desk::{SEATS, serve_desk};
 use crate::renewing::continued;
@@ -32,7 +33,7 @@ pub fn serve<R, F, A, C>(
     alloc: Global,
     service: Service,
     listener: TcpListener,
-    file: Option<F>,
+    file: Option<JournalFile<F>>,
     archive: &mut A,
     configuration: C,
     core: Core,

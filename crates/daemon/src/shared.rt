@@ -5,7 +5,7 @@ use sd_server::Kept;
 use service_state::ServiceState;
 use std::alloc::Global;
 use std::sync::Arc;
-use std::sync::atomic::AtomicU64;
+use std::sync::atomic::{AtomicBool, AtomicU64};
 use std::sync::ledger::Ledger;
 use std::time::Duration;
 
@@ -25,6 +25,8 @@ pub(crate) struct Shared<R, L: Ledger, B: Ledger, N: DeskName> {
     pub(crate) state: Arc<ServiceState>,
     /// How many targets the lists have that were entered.
     pub(crate) listed: AtomicU64,
+    /// Whether the journal's file is so long that another one is to begin.
+    pub(crate) is_long: AtomicBool,
     /// How much of the journal is kept, where there is a file for it.
     pub(crate) kept: Option<Arc<Kept>>,
 }

@@ -18,6 +18,8 @@ use std::{fs, io};
 pub struct Opened<F> {
     pub core: Core,
     pub file: Option<F>,
+    /// How many bytes its journal has.
+    pub bytes: u64,
 }
 
 /// The allocator that the last of the journals leads to, under these jobs of a configuration. Where it has other jobs it is renewed under
@@ -32,6 +34,7 @@ pub fn open_allocator<R: Files<File = File> + AllocGlobal + Clock + Eprint + Cop
         None => Ok(Opened {
             core: configured(journals.alloc, line)?,
             file: None,
+            bytes: 0,
         }),
     }
 }
@@ -78,6 +81,7 @@ fn begin<R: Files<File = File> + AllocGlobal + Clock + Eprint + Copy + Drop>(
     Ok(Opened {
         core,
         file: Some(file),
+        bytes: journal.bytes(),
     })
 }
 

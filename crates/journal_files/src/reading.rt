@@ -26,6 +26,16 @@ pub(crate) struct Journal {
     pub(crate) next: Next,
 }
 
+impl Journal {
+    /// How many bytes the journal has that goes on.
+    pub(crate) fn bytes(&self) -> u64 {
+        match &self.next {
+            Next::GoesOn(_) => self.whole,
+            Next::Begins(first) | Next::IsReplaced(first) => first.len() as u64,
+        }
+    }
+}
+
 /// What is to become of a journal.
 #[derive(Drop)]
 pub(crate) enum Next {

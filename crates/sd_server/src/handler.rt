@@ -27,6 +27,7 @@ use service_state::{EventKind, Figures, ServiceState, figures_of, metrics_page, 
 use std::alloc::{AllocError, Global};
 use std::sync::ledger::Ledger;
 use std::sync::{Arc, Mutex, Wait};
+use std::time::Clock;
 
 /// What a request is handled with: the runtime's handle, the desk, a pass of it and the configuration's pages.
 #[derive(Drop)]
@@ -43,7 +44,7 @@ pub struct Handler<R, L: Ledger, B: Ledger, N: DeskName> {
     pub texts: Arc<ListTexts<N>>,
 }
 
-impl<R: Wait + Copy, L: Ledger, B: Ledger, N: DeskName> Handler<R, L, B, N> {
+impl<R: Wait + Clock + Copy, L: Ledger, B: Ledger, N: DeskName> Handler<R, L, B, N> {
     /// Another for the same desk and the same pass.
     pub fn another(&self) -> Result<Handler<R, L, B, N>, AllocError>
         ensures { IfOk result (λ h. arc_value h.pages ≡ arc_value self.now.pages) }

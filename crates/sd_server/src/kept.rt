@@ -3,6 +3,9 @@ use std::alloc::AllocError;
 use std::sync::{Arc, Condvar, Mutex, Wait};
 use std::time::{Clock, Duration};
 
+/// How long is waited for an entry at most, in milliseconds: a device that does not come back holds nobody for longer.
+pub const LONGEST_WAIT_MILLIS: u64 = 20_000;
+
 /// How much of a desk's journal a device keeps: who submits waits for his entry, and who writes tells how far he is.
 #[derive(Drop)]
 pub struct Kept {
@@ -41,14 +44,17 @@ impl Kept {
         }
     }
 
-    /// Waits until the entry at this position is kept, and says whether it is: it is not where the device failed before.
-    pub fn wait(&self, rt: &impl Wait, position: u64) -> bool {
+    /// Waits until the entry at this position is kept, and says whether it is: it is not where the device failed before, or takes too long.
+    pub fn wait<R: Wait + Clock>(&self, rt: &R, position: u64) -> bool {
         let mut progress = self.progress.lock(rt);
         progress.wanted = progress.wanted.max(position.saturating_add(1));
         self.changed.notify_all();
-        let progress = self.changed.wait_while(rt, progress, |progress| {
-            progress.kept <= position && !progress.is_broken
-        });
+        let longest = Duration::from_millis(LONGEST_WAIT_MILLIS);
+        let (progress, _) = self
+            .changed
+            .wait_timeout_while(rt, progress, longest, |progress| {
+                progress.kept <= position && !progress.is_broken
+            });
         progress.kept > position
     }
 

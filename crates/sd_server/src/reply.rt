@@ -18,6 +18,7 @@ use sd_routes::{Ask, RequestError, Said, answer};
 use std::alloc::{AllocError, Global};
 use std::sync::Wait;
 use std::sync::ledger::Ledger;
+use std::time::Clock;
 
 /// The most bytes of a posted body.
 pub const LONGEST_BODY: usize = 1_048_576;
@@ -73,7 +74,7 @@ impl<R, L: Ledger, B: Ledger, N: DeskName, I: Drop> Reply<R, L, B, N, I> {
     }
 }
 
-impl<R: Wait + Copy, L: Ledger, B: Ledger, N: DeskName, I: Drop> Reading<R, L, B, N, I> {
+impl<R: Wait + Clock + Copy, L: Ledger, B: Ledger, N: DeskName, I: Drop> Reading<R, L, B, N, I> {
     /// What is said once the body has come. It is counted.
     fn said(&self, read: Result<Collected, LimitedError<hyper::Error>>) -> Said
         ensures { SaysRead N.opening (arc_value self.now.handler.pages) self.now.ask result }
@@ -109,7 +110,7 @@ fn unread(error: &hyper::Error) -> RequestError
     }
 }
 
-impl<R: Wait + Copy + Drop, L: Ledger, B: Ledger, N: DeskName, I: Drop> Future
+impl<R: Wait + Clock + Copy + Drop, L: Ledger, B: Ledger, N: DeskName, I: Drop> Future
     for Reply<R, L, B, N, I> {
     type Output = Result<Response<Full<Bytes>>, AllocError>;
 

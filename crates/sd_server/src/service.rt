@@ -18,6 +18,7 @@ use sd_routes::{Ask, RequestError, Routes, Said, route};
 use std::alloc::AllocError;
 use std::sync::ledger::Ledger;
 use std::sync::{Arc, Wait};
+use std::time::Clock;
 
 /// Answers requests with what a desk says.
 #[derive(Drop)]
@@ -34,7 +35,7 @@ enum Begun {
     Reads(Ask),
 }
 
-impl<R: Wait + Copy, L: Ledger, B: Ledger, N: DeskName> AllocatorService<R, L, B, N> {
+impl<R: Wait + Clock + Copy, L: Ledger, B: Ledger, N: DeskName> AllocatorService<R, L, B, N> {
     fn begin(&self, head: &Parts) -> Begun
         ensures { Begins N.opening (arc_value self.now.handler.pages) (asked head.now.method (uri_path head.now.uri) (uri_query head.now.uri)) result }
     {
@@ -62,7 +63,7 @@ impl<R: Wait + Copy, L: Ledger, B: Ledger, N: DeskName> AllocatorService<R, L, B
     }
 }
 
-impl<R: Wait + Copy + Drop, L: Ledger, B: Ledger, N: DeskName, I: Drop> Service<
+impl<R: Wait + Clock + Copy + Drop, L: Ledger, B: Ledger, N: DeskName, I: Drop> Service<
     Request<Incoming<I>>,
 > for AllocatorService<R, L, B, N> {
     type Response = Response<Full<Bytes>>;

@@ -1,7 +1,7 @@
 //! The service over the allocator of its journal.
 use crate::configuration::ConfigurationFile;
 use allocation_core::Core;
-use daemon::Service;
+use daemon::{JournalFile, Service};
 use journal_files::{Fault, Journals, Opened, open_allocator};
 use log::info;
 use logfmt::Logfmt;
@@ -90,7 +90,7 @@ where
         + Copy
         + Drop,
 {
-    let Opened { core, file } = opened;
+    let Opened { core, file, bytes } = opened;
     if let Ok(here) = listener.local_addr() {
         info!(Logfmt(*rt); address:% = here; "listening");
     }
@@ -99,7 +99,7 @@ where
         alloc,
         service,
         listener,
-        file,
+        file.map(|file| JournalFile::new(file, bytes)),
         journals,
         configuration,
         core,

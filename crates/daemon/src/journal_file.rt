@@ -1,0 +1,56 @@
+//! The file of a journal.
+use durable_journal::append;
+use std::fs::OpenFile;
+use std::io;
+use std::io::Write;
+
+/// How many bytes a journal may have before another one begins: 48 MiB, a quarter less than `allocd replay` and `allocd audit` read.
+const MOST_GROWN: u64 = 50_331_648;
+
+/// The file of a journal that goes on.
+#[derive(Drop)]
+pub struct JournalFile<F> {
+    file: F,
+    /// How many bytes the journal has.
+    grown: u64,
+    /// How many it may have before another one begins.
+    most: u64,
+    /// Whether nothing can be kept any more.
+    pub(crate) is_broken: bool,
+}
+
+impl<F> JournalFile<F> {
+    /// The file of a journal of so many bytes.
+    pub fn new(file: F, bytes: u64) -> JournalFile<F> {
+        JournalFile {
+            file,
+            grown: bytes,
+            most: MOST_GROWN,
+            is_broken: false,
+        }
+    }
+
+    /// The file of a journal that has its first line, of so many bytes. Where that is long, the journal may grow to twice of it.
+    pub(crate) fn begun(file: F, bytes: u64) -> JournalFile<F> {
+        JournalFile {
+            file,
+            grown: bytes,
+            most: MOST_GROWN.max(bytes.saturating_mul(2)),
+            is_broken: false,
+        }
+    }
+
+    /// Whether another journal is to begin.
+    pub(crate) fn is_long(&self) -> bool {
+        self.grown >= self.most
+    }
+}
+
+impl<F: Write + OpenFile> JournalFile<F> {
+    /// Writes lines behind those that are there, and has the device keep them.
+    pub(crate) fn append(&mut self, lines: &[u8]) -> io::Result<()> {
+        append(&mut self.file, lines)?;
+        self.grown = self.grown.saturating_add(lines.len() as u64);
+        Ok(())
+    }
+}
