@@ -1,7 +1,7 @@
 //! The command: what its words ask for, and what it tells of it.
 use crate::configuration::ConfigurationFile;
 use crate::documents::read_service;
-use crate::listening::listen_address;
+use crate::listening::{listen_address, listener_at};
 use crate::running::serve_journal;
 use daemon::Service;
 use journal_files::Fault;
@@ -101,7 +101,7 @@ where
     }
     let journal = journal_of(rt.alloc(), options, &service)?;
     let configuration = ConfigurationFile::new(host, rt.alloc(), options.config)?;
-    let listener = TcpListener::bind(rt, here)?;
+    let listener = listener_at(rt, here)?;
     serve_journal(rt, rt.alloc(), service, configuration, listener, journal)
 }
 

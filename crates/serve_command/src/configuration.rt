@@ -37,10 +37,13 @@ impl ConfigurationFile {
         Ok(document)
     }
 
-    /// The line that tells a fault. It is empty where there is no memory for it.
+    /// The line that tells a fault, the first where it has several. It is empty where there is no memory for it.
     fn line_of(&self, fault: Fault) -> Text {
         let line = match fault {
-            Fault::Told(line) => format!(in self.alloc; "{line}\n"),
+            Fault::Told(lines) => {
+                let line = lines.lines().next().unwrap_or("");
+                format!(in self.alloc; "{line}\n")
+            }
             Fault::Machine(error) => format!(in self.alloc; "{error}\n"),
         };
         Text::from_string(line.unwrap_or(String::new(self.alloc)))

@@ -1,4 +1,5 @@
 //! The configuration file.
+use crate::faults::{all_faults, document_fault};
 use daemon::{Service, ServiceError};
 use durable_journal::configuration_line;
 use journal_files::Fault;
@@ -40,8 +41,16 @@ pub(crate) fn read_document<R: Files<File = File>>(
     Ok(document)
 }
 
-/// The service that the document of a configuration file asks for.
+/// The service that the document of a configuration file asks for. Where it is faulty its faults are told, a line each.
 pub(crate) fn service_in(alloc: Global, path: &str, document: &[u8]) -> Result<Service, Fault> {
+    match read_parts(alloc, path, document) {
+        Err(Fault::Told(first)) => Err(Fault::Told(all_faults(alloc, path, document, first)?)),
+        done => done,
+    }
+}
+
+/// The same, or what is found first to be wrong.
+fn read_parts(alloc: Global, path: &str, document: &[u8]) -> Result<Service, Fault> {
     let config = config_in(alloc, path, document)?;
     let settings = settings_in(alloc, path, document)?;
     let Some(line) = configuration_line(alloc, document)? else {
@@ -54,7 +63,7 @@ fn config_in(alloc: Global, path: &str, document: &[u8]) -> Result<Config, Fault
     match read_config(alloc, document) {
         Ok(config) => Ok(config),
         Err(SdError::Memory) => Err(AllocError.into()),
-        Err(error) => Err(Fault::Told(format!(in alloc; "{path}: {error}")?)),
+        Err(error) => Err(Fault::Told(document_fault(alloc, path, &error)?)),
     }
 }
 

@@ -4,6 +4,7 @@
 mod command;
 mod configuration;
 mod documents;
+mod faults;
 mod listening;
 mod running;
 

@@ -1,9 +1,12 @@
 //! Where the service listens.
 use daemon::Service;
 use journal_files::Fault;
+use log::error;
+use logfmt::Logfmt;
 use service_settings::{Address, ServeOptions, address_of};
 use std::alloc::AllocGlobal;
-use std::net::{Ipv4Addr, SocketAddr};
+use std::net::{Ipv4Addr, Net, SocketAddr, TcpListener, TcpStream};
+use std::time::Clock;
 
 /// Where the service is to listen: at the address of the command line, or else at that of the configuration.
 pub(crate) fn listen_address<R: AllocGlobal>(
@@ -24,6 +27,20 @@ fn listen_at<R: AllocGlobal>(rt: &R, listen: &str) -> Result<SocketAddr, Fault> 
         None => Err(Fault::Told(format!(in rt.alloc();
             "allocd serve: {listen} is no address to listen at"
         )?)),
+    }
+}
+
+/// The listener at an address, which is told where it cannot be had.
+pub(crate) fn listener_at<R>(rt: &R, here: SocketAddr) -> Result<TcpListener, Fault>
+where
+    R: Net<Listener = TcpListener, Stream = TcpStream> + Clock + Eprint + Copy,
+{
+    match TcpListener::bind(rt, here) {
+        Ok(listener) => Ok(listener),
+        Err(error) => {
+            error!(Logfmt(*rt); address:% = here; "nothing can listen there: {error}");
+            Err(error.into())
+        }
     }
 }
 

@@ -3,8 +3,8 @@ use crate::configuration::ConfigurationFile;
 use allocation_core::Core;
 use daemon::{JournalFile, Service};
 use journal_files::{Fault, Journals, Opened, open_allocator};
-use log::info;
-use logfmt::Logfmt;
+use log::{error, info};
+use logfmt::{Logfmt, Quoted};
 use std::alloc::{AllocGlobal, Global};
 use std::fs::File;
 use std::io;
@@ -39,7 +39,7 @@ where
         + Copy
         + Drop,
 {
-    let (opened, mut journals) = open_journals(rt, alloc, &service, journal)?;
+    let (opened, mut journals) = open_journals(rt, alloc, &service, &journal)?;
     let core = serve_opened(
         rt,
         alloc,
@@ -54,14 +54,32 @@ where
     Ok(())
 }
 
-/// The allocator that a journal leads to, and where the journals are.
+/// The allocator that a journal leads to, and where the journals are. A journal that the machine cannot open is told.
 fn open_journals<R: Files<File = File> + AllocGlobal + Clock + Eprint + Copy + Drop>(
     rt: &R,
     alloc: Global,
     service: &Service,
-    journal: Option<String>,
+    journal: &Option<String>,
 ) -> Result<(Opened<File>, Journals<R>), Fault> {
-    let journals = Journals::open(*rt, alloc, journal, service.keep())?;
+    let opened = journals_at(rt, alloc, service, journal);
+    if let (Err(Fault::Machine(error)), Some(path)) = (&opened, journal) {
+        let path = Quoted(path.as_str());
+        error!(Logfmt(*rt); journal:% = path; "the journal cannot be opened: {error}");
+    }
+    opened
+}
+
+fn journals_at<R: Files<File = File> + AllocGlobal + Clock + Eprint + Copy + Drop>(
+    rt: &R,
+    alloc: Global,
+    service: &Service,
+    journal: &Option<String>,
+) -> Result<(Opened<File>, Journals<R>), Fault> {
+    let path = match journal {
+        Some(path) => Some(String::from_str(alloc, path.as_str())?),
+        None => None,
+    };
+    let journals = Journals::open(*rt, alloc, path, service.keep())?;
     let opened = open_allocator(&journals, service.line(), service.jobs())?;
     Ok((opened, journals))
 }
