@@ -4,7 +4,7 @@ use std::fs::OpenFile;
 use std::io;
 use std::io::Write;
 
-/// How many bytes a journal may have before another one begins: 48 MiB, a quarter less than `allocd replay` and `allocd audit` read.
+/// How many bytes a journal may have before another one begins: 48 MiB, a quarter less than `allocd replay` reads.
 const MOST_GROWN: u64 = 50_331_648;
 
 /// The file of a journal that goes on.
