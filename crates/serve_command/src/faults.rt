@@ -2,7 +2,7 @@
 use json_values::{member, parse, text_of};
 use lists::Text;
 use logfmt::Quoted;
-use relabel::{Rules, RulesError};
+use relabel::{RuleError, Rules, RulesError};
 use sd_documents::{Config, Limit, Member, SdError, read_config};
 use serde_json::Value;
 use service_settings::read_settings;
@@ -126,7 +126,12 @@ fn rules_fault(alloc: Global, config: &Config) -> Result<Option<String>, AllocEr
     for job in config.jobs.as_slice() {
         match Rules::read(alloc, job.rules.as_slice()) {
             Ok(_) => {}
-            Err(RulesError::Memory) => return Err(AllocError),
+            Err(
+                RulesError {
+                    error: RuleError::Memory,
+                    ..
+                },
+            ) => return Err(AllocError),
             Err(error) => return Ok(Some(format!(in alloc; "relabel_configs: {error}")?)),
         }
     }
