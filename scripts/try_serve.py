@@ -1,10 +1,12 @@
 #!/usr/bin/env python3
 """Runs `allocd serve` as an operator would, and tells of each thing whether it holds: try_serve.py [KILLS [PART ..]]
 
-Routes, faults of the configuration, reloads, signals, a second start, torn and damaged journals, starts under other jobs, kills under load and in the midst of starts, many and silent clients, a source that trickles, a full disk (where a small file
-system can be mounted). It needs Linux and the program (ALLOCD_PROGRAM, or dist/allocd)."""
+Routes, faults of the configuration and of the machine, reloads, signals, a second start, torn, damaged and long journals, starts under other
+jobs, kills under load and in the midst of starts, many and silent clients, sources that trickle or fall silent, a full disk, also as a
+journal is to begin (where a small file system can be mounted). It needs Linux and the program (ALLOCD_PROGRAM, or dist/allocd)."""
 
 import collections
+import contextlib
 import http.client
 import http.server
 import json
@@ -145,6 +147,68 @@ def words_and_configurations(folder):
     tell("a configuration that is right", status == 0, out.strip())
 
 
+FAULTY = {
+    "scrape_configs": [
+        {"job_name": "node", "target_limit": -1},
+        {"job_name": "well"},
+        {"job_name": "web", "relabel_configs": [{"action": "frob"}]},
+        {"job_name": "a \"b\"", "params": 7},
+    ]
+}
+FAULTS = [
+    'scrape_configs[0], job "node": target_limit: another shape',
+    'scrape_configs[2], job "web": relabel_configs: rule 1: an unknown action',
+    'scrape_configs[3], job "a \\"b\\"": params: another shape',
+]
+
+
+def lines_told(folder, text):
+    """The lines of a fault, without the path that each begins with."""
+    return [line.split(".json: ", 1)[-1] for line in text.strip().split("\n")]
+
+
+def faults(folder):
+    with open(f"{folder}/bad.json", "w") as it:
+        json.dump(FAULTY, it)
+    status, out, err = run("serve", "--check-config", "--config", f"{folder}/bad.json")
+    tell("each job's fault is told, with its member", status == 2 and out == "" and lines_told(folder, err) == FAULTS, lines_told(folder, err))
+    service = Service(folder, config=FAULTY)
+    ended = service.ended()
+    with open(f"{folder}/log") as it:
+        told = it.read()
+    tell("a start tells the same, and is none", ended == 2 and lines_told(folder, told) == FAULTS)
+    service = Service(folder)
+    service.is_up()
+    status, _, text = rewrite(service, FAULTY)
+    tell("a reload tells the first", status == 500 and lines_told(folder, text) == FAULTS[:1], text.strip().removeprefix(f"{folder}/"))
+    many = {"scrape_configs": [{"job_name": f"j{i}", "params": 7} for i in range(40)]}
+    with open(f"{folder}/bad.json", "w") as it:
+        json.dump(many, it)
+    status, _, err = run("serve", "--check-config", "--config", f"{folder}/bad.json")
+    tell("of many faults 16 are told", status == 2 and len(lines_told(folder, err)) == 16)
+    tell("ends", service.quit() == (200, 0))
+
+
+def log_of(folder):
+    with open(f"{folder}/log") as it:
+        return it.read()
+
+
+def failures(folder):
+    service = Service(folder, f"{folder}/missing/journal")
+    tell("a journal in a folder that is not there", service.ended() == 3 and f"{folder}/missing/journal" in log_of(folder))
+    os.mkdir(f"{folder}/journal.d")
+    service = Service(folder, f"{folder}/journal.d")
+    tell("a journal that is a folder", service.ended() == 3 and f'journal="{folder}/journal.d"' in log_of(folder))
+    first = Service(folder, f"{folder}/journal")
+    first.is_up()
+    second = Service(folder, f"{folder}/journal")
+    tell("a journal that another service has", second.ended() == 2 and f"{folder}/journal: another service has this journal" in log_of(folder))
+    taken = Service(folder, more=("--listen", f"127.0.0.1:{first.port}"))
+    tell("a port that another has", taken.ended() == 3 and f"address=127.0.0.1:{first.port}" in log_of(folder))
+    tell("ends", first.quit() == (200, 0))
+
+
 def routes(folder):
     service = Service(folder)
     tell("it starts", service.is_up())
@@ -261,6 +325,10 @@ def signals(folder):
     tell("SIGHUP has it read its configuration again", up and comes(lambda: 'allocd_targets{job="node"} 21' in ask(port, "GET", "/metrics")[2]))
     it.send_signal(signal.SIGTERM)
     tell("SIGTERM ends it with status 0", it.wait(20) == 0)
+    it = subprocess.Popen(bridge, stderr=subprocess.PIPE, text=True)
+    up = comes(lambda: ask(port, "GET", "/-/healthy")[0] == 200)
+    it.send_signal(signal.SIGINT)
+    tell("SIGINT, too", up and it.wait(20) == 0)
 
 
 def absences(folder):
@@ -729,30 +797,162 @@ def slow_source(folder):
     source.shutdown()
 
 
-def full_disk(folder):
+class Silent(http.server.BaseHTTPRequestHandler):
+    """A discovery source that takes a request and says nothing."""
+
+    asked = threading.Event()
+
+    def do_GET(self):
+        Silent.asked.set()
+        time.sleep(60)
+
+    def log_message(self, *_):
+        pass
+
+
+def silent_source(folder):
+    source = http.server.ThreadingHTTPServer(("127.0.0.1", 0), Silent)
+    source.daemon_threads = True
+    threading.Thread(target=source.serve_forever, daemon=True).start()
+    config = json.loads(json.dumps(CONFIG))
+    config["allocator"]["fetch_timeout"] = "5s"
+    config["scrape_configs"].append({"job_name": "dumb", "http_sd_configs": [{"url": f"http://127.0.0.1:{source.server_port}/"}]})
+    service = Service(folder, config=config)
+    service.is_up()
+    Silent.asked.wait(20)
+    began = time.monotonic()
+    status, _, text = rewrite(service, config)
+    longest = 0
+    while time.monotonic() < began + 8:
+        before = time.monotonic()
+        while True:
+            try:
+                ask(service.port, "GET", "/jobs/node/targets?collector_id=a")
+                break
+            except OSError:
+                time.sleep(0.01)
+        longest = max(longest, time.monotonic() - before)
+    tell("while a source is silent, a reload holds up no request", status == 200 and longest < 2, f"{longest:.2f} seconds at most")
+    service.it.kill()
+    service.ended()
+    source.shutdown()
+
+
+@contextlib.contextmanager
+def small_disk(folder):
+    """A file system of 64 KiB, or None where nothing can be mounted."""
     disk = f"{folder}/disk"
     os.mkdir(disk)
     mounted = subprocess.run(["mount", "-t", "tmpfs", "-o", "size=64k", "tmpfs", disk], capture_output=True)
     if mounted.returncode:
-        print("skipped: a full disk (nothing can be mounted here)")
+        print("skipped: a small disk (nothing can be mounted here)")
+        yield None
         return
     try:
-        service = Service(folder, f"{disk}/journal")
-        service.is_up()
-        status = 200
-        for i in range(3000):
-            status, _, text = ask(service.port, "POST", "/collectors", {"name": "x" * 100 + str(i % 7), "reach": []})
-            if status == 503:
-                break
-        tell("on a full disk what is posted is not done", status == 503, text)
-        tell("reads go on", ask(service.port, "GET", "/jobs/node/targets")[0] == 200)
-        tell("it says that it is not ready", ask(service.port, "GET", "/-/ready")[0] == 503)
-        service.quit()
+        yield disk
     finally:
         subprocess.run(["umount", "-l", disk])
 
 
-PARTS = (words_and_configurations, routes, reloads, signals, absences, journals, kills, kills_while_reloading, restarts, kills_of_restarts, starts_at_once, renewals, strangers, slow_source, full_disk)
+def joins_until_refused(port):
+    """What joins were answered until one is 503, and that."""
+    said = []
+    for i in range(3000):
+        status, _, text = ask(port, "POST", "/collectors", {"name": "x" * 100 + str(i % 7), "reach": []})
+        if status == 503:
+            return said, text
+        answer = json.loads(text)
+        said.append(answer.get("answer") or answer.get("refused"))
+    return said, None
+
+
+def joins_in(journal):
+    """What the joins of a journal are answered by its replay, but that of the configuration."""
+    status, events, answers = replayed(journal)
+    return status, [answer for event, answer in zip(events, answers) if event["event"] == "join" and event["name"] != "a"]
+
+
+def full_disk(folder):
+    with small_disk(folder) as disk:
+        if disk is None:
+            return
+        service = Service(folder, f"{disk}/journal")
+        service.is_up()
+        said, text = joins_until_refused(service.port)
+        tell("on a full disk what is posted is not done", text is not None, text)
+        tell("reads go on", ask(service.port, "GET", "/jobs/node/targets")[0] == 200)
+        tell("it says that it is not ready", ask(service.port, "GET", "/-/ready")[0] == 503)
+        tell("it ends when it is told to", service.quit() == (200, 0))
+        subprocess.run(["cp", f"{disk}/journal", f"{folder}/journal"], check=True)
+    status, joins = joins_in(f"{folder}/journal")
+    tell("the journal has each answer that was given", status == 0 and joins[: len(said)] == said, f"{len(said)} given, {len(joins)} in the journal")
+    service = Service(folder, f"{folder}/journal")
+    tell("with room it goes on from it", service.is_up() and ask(service.port, "POST", "/collectors", {"name": "new", "reach": []})[0] == 200)
+    tell("ends", service.quit() == (200, 0))
+
+
+def full_renewal(folder):
+    with small_disk(folder) as disk:
+        if disk is None:
+            return
+        service = Service(folder, f"{disk}/journal")
+        service.is_up()
+        waits_for(service.port, "allocd_allocation 1")
+        with contextlib.suppress(OSError), open(f"{disk}/filler", "wb", buffering=0) as it:
+            while True:
+                it.write(b"x" * 1024)
+        config = json.loads(json.dumps(CONFIG))
+        config["scrape_configs"].append({"job_name": "more"})
+        rewrite(service, config)
+        tell("where a journal cannot begin, it says that it is not ready", comes(lambda: ask(service.port, "GET", "/-/ready")[0] == 503))
+        status, _, text = ask(service.port, "POST", "/collectors", {"name": "b", "reach": []})
+        tell("what is posted is not done", status == 503, text)
+        tell("reads go on", ask(service.port, "GET", "/jobs/node/targets")[0] == 200)
+        tell("it ends when it is told to", service.quit() == (200, 0))
+        os.remove(f"{disk}/filler")
+        service = Service(folder, f"{disk}/journal", config)
+        tell("with room a start takes the configuration", service.is_up() and '"more"' in ask(service.port, "GET", "/jobs")[2])
+        tell("ends", service.quit() == (200, 0))
+        status, out, _ = run("audit", f"{disk}/journal.1", f"{disk}/journal")
+        tell("the journals are audited", status == 0, out.strip().split("\n")[-1])
+
+
+MOST_GROWN = 48 << 20
+
+
+def long_journals(folder):
+    journal = f"{folder}/journal"
+    service = Service(folder, journal)
+    service.is_up()
+    waits_for(service.port, "allocd_allocation 1")
+    service.quit()
+    targets = [{"targets": [f"h{i}:1"]} for i in range(1500)]
+    line = json.dumps({"event": "discover", "job": "none", "source": 0, "targets": targets}, separators=(",", ":")) + "\n"
+    with open(journal, "a") as it:
+        while it.tell() + len(line) < MOST_GROWN:
+            it.write(line)
+    before = os.path.getsize(journal)
+    service = Service(folder, journal)
+    tell(f"it starts over a journal of {before:,} bytes", service.is_up() or service.is_up())
+    posted = 0
+    while not os.path.exists(f"{journal}.1") and posted < 5000:
+        with contextlib.suppress(OSError, http.client.HTTPException):
+            ask(service.port, "POST", "/collectors", {"name": "x" * 100, "reach": []})
+        posted += 1
+    tell("at 48 MiB another journal begins", os.path.exists(f"{journal}.1"), f"after {posted} requests")
+    comes(lambda: ask(service.port, "GET", "/-/ready")[0] == 200)
+    tell("ends", service.quit() == (200, 0))
+    for name in ("journal.1", "journal"):
+        status, events, answers = replayed(f"{folder}/{name}")
+        tell(f"{name} replays", status == 0 and len(events) + 1 == len(answers), f"{os.path.getsize(f'{folder}/{name}'):,} bytes")
+    status, out, _ = run("audit", f"{journal}.1", journal)
+    tell("they are audited", status == 0, out.strip().split("\n")[-1])
+
+
+PARTS = (
+    words_and_configurations, faults, failures, routes, reloads, signals, absences, journals, kills, kills_while_reloading, restarts,
+    kills_of_restarts, starts_at_once, renewals, long_journals, strangers, slow_source, silent_source, full_disk, full_renewal,
+)
 wanted = sys.argv[2:]
 with tempfile.TemporaryDirectory() as top:
     for part in PARTS:
