@@ -2,7 +2,8 @@
 ghost use Rattle.std.specs.Prelude.{◌≡◌};
 
 use alloc_desk::{Desk, DeskName};
-use allocation_core::{Core, JobSpec};
+use allocation_core::{Answer, Core, JobSpec};
+use fleet_events::read_event;
 use lists::Text;
 use sd_documents::read_config;
 use sd_server::{ConfigPages, Handler, ListTexts};
@@ -24,6 +25,33 @@ pub(crate) fn core_of(alloc: Global) -> Option<Core> {
     ]
     .ok()?;
     Core::open(alloc, jobs).ok()
+}
+
+/// What comes to an allocator before it is served: its collector `h` holds target 0.
+const HELD: [&str; 3] = [
+    r#"{"event":"join","name":"h","reach":[{"allow":true,"test":"any"}]}"#,
+    r#"{"event":"discover","job":"j","source":0,"targets":[{"labels":{"zone":"east"},"targets":["e1:9100"]}]}"#,
+    r#"{"event":"install","pairs":[[0,0]],"item_prices":[6],"bin_prices":[0]}"#,
+];
+
+/// An allocator whose one target is held.
+pub(crate) fn held_core_of(alloc: Global) -> Option<Core> {
+    let mut core = core_of(alloc)?;
+    let answer = applied(alloc, &mut core)?;
+    match answer {
+        Answer::Published(1) => Some(core),
+        _ => None,
+    }
+}
+
+/// The answer to the last of the events.
+fn applied(alloc: Global, core: &mut Core) -> Option<Answer> {
+    let mut last = None;
+    for line in HELD {
+        let event = read_event(alloc, line.as_bytes()).ok()??;
+        last = core.apply(event).ok();
+    }
+    last
 }
 
 /// What requests are handled with, over a desk of one pass.

@@ -16,3 +16,5 @@ mod rows;
 mod strangers;
 #[cfg(test)]
 mod talks;
+#[cfg(test)]
+mod told;

@@ -1,9 +1,9 @@
 //! The documented rows, one connection after the other.
 ghost use Rattle.std.specs.Prelude.{◌≡◌};
 
-use crate::client::says;
-use crate::desks::{core_of, handler_of};
-use crate::rows::ROWS;
+use crate::client::{Row, says};
+use crate::desks::{core_of, handler_of, held_core_of};
+use crate::rows::{HELD_ROWS, ROWS};
 use alloc_desk::DeskName;
 use allocation_core::Core;
 use sd_server::serve_one_by_one;
@@ -29,6 +29,22 @@ fn each_row_is_answered_over_loopback(rt: HostRuntime) -> Result<(), Fail> {
         core,
         Blank::new(1),
         Blank::new(1),
+        ROWS.as_slice(),
+    );
+    assert!(rt; wrong == Some(None));
+    Ok(())
+}
+
+#[test]
+fn each_row_of_a_held_target_is_answered_over_loopback(rt: HostRuntime) -> Result<(), Fail> {
+    let core = held_core_of(rt.alloc()).ok_or("opens")?;
+    let wrong = first_wrong_row::<Brand, Brand, Brand, HostRuntime>(
+        &rt,
+        rt.alloc(),
+        core,
+        Blank::new(1),
+        Blank::new(1),
+        HELD_ROWS.as_slice(),
     );
     assert!(rt; wrong == Some(None));
     Ok(())
@@ -41,6 +57,7 @@ fn first_wrong_row<L: Ledger + Send + Sync, B: Ledger + Send + Sync, N: DeskName
     core: Core,
     calls: Blank,
     samples: Blank,
+    rows: &[Row],
 ) -> Option<Option<usize>>
 where
     R: Wait
@@ -66,7 +83,7 @@ where
     let (served, wrong) = thread::join(
         rt,
         || serve_one_by_one(rt, &mut runtime, listener, &handler, &stop),
-        || ask_all_then_stop(rt, alloc, here, &stop),
+        || ask_all_then_stop(rt, alloc, here, &stop, rows),
     );
     served.ok()?;
     Some(wrong)
@@ -77,8 +94,9 @@ fn ask_all_then_stop<R: Net<Listener = TcpListener, Stream = TcpStream>>(
     alloc: Global,
     here: SocketAddr,
     stop: &AtomicBool,
+    rows: &[Row],
 ) -> Option<usize> {
-    let wrong = ROWS.iter().position(|row| !says(rt, alloc, here, row));
+    let wrong = rows.iter().position(|row| !says(rt, alloc, here, row));
     stop.store(true, Ordering::SeqCst);
     let _last = TcpStream::connect(rt, here);
     wrong

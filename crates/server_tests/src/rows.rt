@@ -83,3 +83,47 @@ pub(crate) const ROWS: [Row; 16] = [
         ends: "\r\n\r\nThe lifecycle API is not enabled.\n",
     },
 ];
+
+/// Requests to an allocator whose one target is held by its collector 1, `h`.
+pub(crate) const HELD_ROWS: [Row; 8] = [
+    Row {
+        request: "GET /jobs/j/targets?collector_id=h HTTP/1.1\r\nhost: h\r\n\r\n",
+        begins: "HTTP/1.1 200 OK\r\ncontent-type: application/json\r\nx-allocation-number: 1\r\nx-scrape-round: 1\r\n",
+        ends: "\r\n\r\n[{\"labels\":{\"__meta_allocator_target\":\"0\",\"instance\":\"e1:9100\",\"zone\":\"east\"},\"targets\":[\"e1:9100\"]}]",
+    },
+    Row {
+        request: "GET /jobs/j/targets HTTP/1.1\r\nhost: h\r\n\r\n",
+        begins: "HTTP/1.1 200 OK\r\ncontent-type: application/json\r\n",
+        ends: "\r\n\r\n{\"h\":{\"_link\":\"/jobs/j/targets?collector_id=h\",\"targets\":[{\"labels\":{\"__meta_allocator_target\":\"0\",\"instance\":\"e1:9100\",\"zone\":\"east\"},\"targets\":[\"e1:9100\"]}]}}",
+    },
+    Row {
+        request: "GET /certificate HTTP/1.1\r\nhost: h\r\n\r\n",
+        begins: "HTTP/1.1 200 OK\r\ncontent-type: application/json\r\n",
+        ends: "\r\n\r\n{\"before\":[],\"bin_prices\":[0],\"bins\":[1],\"draining\":[],\"item_prices\":[6],\"pairs\":[[0,0]],\"reach\":[[0]],\"version\":2}",
+    },
+    Row {
+        request: "POST /reports HTTP/1.1\r\nhost: h\r\ncontent-length: 69\r\n\r\n{\"collector\":1,\"number\":1,\"target\":0,\"round\":1,\"up\":true,\"samples\":9}",
+        begins: "HTTP/1.1 200 OK\r\n",
+        ends: "\r\n\r\n{\"answer\":\"Booked\"}",
+    },
+    Row {
+        request: "POST /reports HTTP/1.1\r\nhost: h\r\ncontent-length: 69\r\n\r\n{\"collector\":1,\"number\":1,\"target\":0,\"round\":1,\"up\":true,\"samples\":9}",
+        begins: "HTTP/1.1 409 Conflict\r\n",
+        ends: "\r\n\r\n{\"refused\":\"AlreadyBooked\"}",
+    },
+    Row {
+        request: "PUT /collectors/1/limits HTTP/1.1\r\nhost: h\r\ncontent-length: 18\r\n\r\n{\"limits\":{\"j\":1}}",
+        begins: "HTTP/1.1 200 OK\r\n",
+        ends: "\r\n\r\n{\"answer\":\"LimitsSet\"}",
+    },
+    Row {
+        request: "DELETE /collectors/1 HTTP/1.1\r\nhost: h\r\n\r\n",
+        begins: "HTTP/1.1 200 OK\r\n",
+        ends: "\r\n\r\n{\"answer\":\"Left\"}",
+    },
+    Row {
+        request: "GET /jobs/j/targets?collector_id=h HTTP/1.1\r\nhost: h\r\n\r\n",
+        begins: "HTTP/1.1 404 Not Found\r\n",
+        ends: "\r\n\r\n{\"refused\":\"UnknownCollector\"}",
+    },
+];
