@@ -11,7 +11,6 @@ use fleet_events::read_event;
 use lists::Text;
 use std::alloc::{AllocError, Global};
 use std::marker::Brand;
-use std::process::Abort;
 use std::sync::Wait;
 use std::sync::ledger::{Blank, Ledger};
 use std::test::Fail;
@@ -75,30 +74,22 @@ fn a_desk_is_renewed_and_reopened_five_times(rt: HostRuntime) -> Result<(), Fail
     let mut core = Core::open(rt.alloc(), Vec::new(rt.alloc()))?;
     for jobs in JOBS {
         let lines = picked(rt.alloc(), &mut random)?;
-        core = stretch(&rt, rt.alloc(), core, jobs, lines.as_str()).ok_or("goes on")?;
+        let begun = renewed(rt.alloc(), core, jobs).ok_or("renews")?;
+        let history = history_of(rt.alloc(), &begun);
+        let (end, said) = one_desk::<Brand, Brand, Brand, HostRuntime>(
+            &rt,
+            rt.alloc(),
+            begun,
+            lines.as_str(),
+            Blank::new(1),
+            Blank::new(1),
+        )
+        .ok_or("closes")?;
+        core = is_as_without(rt.alloc(), end, history, lines.as_str(), said).ok_or(
+            "is as without a desk",
+        )?;
     }
     Ok(())
-}
-
-/// The allocator renewed under the jobs, and what a desk over it comes to.
-fn stretch<R: Wait + Abort>(
-    rt: &R,
-    alloc: Global,
-    core: Core,
-    jobs: &[Job],
-    lines: &str,
-) -> Option<Core> {
-    let core = renewed(alloc, core, jobs)?;
-    let history = history_of(alloc, &core);
-    let (core, said) = one_desk::<Brand, Brand, Brand, R>(
-        rt,
-        alloc,
-        core,
-        lines,
-        Blank::new(1),
-        Blank::new(1),
-    )?;
-    is_as_without(alloc, core, history, lines, said)
 }
 
 fn history_of(alloc: Global, core: &Core) -> Option<Text> {

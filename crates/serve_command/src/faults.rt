@@ -63,14 +63,14 @@ fn jobs_faults(alloc: Global, path: &str, document: &[u8]) -> Result<String, All
     let Some(jobs) = document.get("scrape_configs").and_then(Value::as_array) else {
         return Ok(lines);
     };
-    let mut told = 0;
+    let mut told: usize = 0;
     for (place, job) in jobs.iter().enumerate() {
         if told == MOST_FAULTS {
             break;
         }
         if let Some(line) = line_of(alloc, path, place, job)? {
             push_line(&mut lines, line.as_str())?;
-            told += 1;
+            told = told.saturating_add(1);
         }
     }
     Ok(lines)
