@@ -1,4 +1,4 @@
-//! Tests of renewals, of their histories, and of desks that are renewed and reopened. They stand apart from the crates that they
+//! Tests of renewals and of their histories. They stand apart from the crates that they
 //! test, since a crate with tests is proved once more with them.
 #![tactic(auto)]
 
@@ -11,10 +11,6 @@ mod opening;
 #[cfg(test)]
 mod outline;
 #[cfg(test)]
-mod random;
-#[cfg(test)]
 mod refusals;
 #[cfg(test)]
 mod renewals;
-#[cfg(test)]
-mod reopening;
