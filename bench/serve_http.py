@@ -16,6 +16,7 @@ import time
 ROOT = os.path.dirname(os.path.dirname(os.path.abspath(__file__)))
 PROGRAM = os.environ.get("ALLOCD_PROGRAM", f"{ROOT}/dist/allocd")
 SECONDS = int(sys.argv[1]) if len(sys.argv) > 1 else 5
+CONNECTIONS = 64
 LIST = "/jobs/node/targets?collector_id=a"
 
 
@@ -119,8 +120,8 @@ for targets, journal in ((64, False), (64, True), (16384, False)):
         time.sleep(6)
         if not journal:
             row(folder, port, "the jobs", "/jobs", 1)
-            row(folder, port, "the jobs", "/jobs", 60)
-        for connections in (1, 60):
+            row(folder, port, "the jobs", "/jobs", CONNECTIONS)
+        for connections in (1, CONNECTIONS):
             name = f"a list of {targets} that is taken" + (", each kept in a journal's file" if journal else "")
             row(folder, port, name, LIST, connections)
         if not journal:

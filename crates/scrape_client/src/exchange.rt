@@ -3,6 +3,7 @@ ghost use Rattle.std.specs.Prelude.{◌≡◌, ◌≤◌, IfOk, IfSome, length};
 ghost use Rattle.scrape_client.specs.declared.exchange.TheConstants.{LONGEST_BODY};
 
 use crate::faults::{http_fault, hyper_fault, io_fault};
+use crate::while_memory::WhileMemory;
 use bytes::Bytes;
 use futures::Future;
 use futures::future::{Either, select};
@@ -41,7 +42,7 @@ where
     ask(rt, &mut runtime, deadline, socket, get)
 }
 
-/// What a future gives, where it does so before the deadline.
+/// What a future gives, where it does so before the deadline, and memory lasts.
 fn within<R, F: Future>(
     rt: &R,
     runtime: &mut LocalRuntime,
@@ -57,9 +58,10 @@ where
     let Ok(timed) = runtime.handle().time().timeout_at(deadline, future) else {
         return Err(FetchFault::Memory);
     };
-    match runtime.block_on(rt, timed) {
-        Ok(Ok(output)) => Ok(output),
-        Ok(Err(_elapsed)) => Err(FetchFault::Device),
+    match runtime.block_on(rt, WhileMemory::new(rt.alloc(), timed)) {
+        Ok(Ok(Ok(output))) => Ok(output),
+        Ok(Ok(Err(_elapsed))) => Err(FetchFault::Device),
+        Ok(Err(AllocError)) => Err(FetchFault::Memory),
         Err(e) => Err(io_fault(&e)),
     }
 }

@@ -4,6 +4,7 @@
 mod exchange;
 mod faults;
 mod hyper_scrape;
+mod while_memory;
 
 pub use exchange::LONGEST_BODY;
 pub use hyper_scrape::HyperScrape;
