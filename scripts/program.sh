@@ -2,7 +2,7 @@
 # Read by ./allocd, scripts/release.sh and the scripts of bench/: which program to run, what it was made from, and how it is built.
 
 # The toolchain that all of this was proved with, as `rt version` says it.
-toolchain='rattle-kit-13f logic dac8208d650f15bf'
+toolchain='rattle-kit-13b logic dac8208d650f15bf'
 
 # One hash over all that a build reads, whatever the dates of the files and their order in their folders.
 # usage: sources_hash ROOT
