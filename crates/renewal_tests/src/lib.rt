@@ -11,6 +11,10 @@ mod opening;
 #[cfg(test)]
 mod outline;
 #[cfg(test)]
+mod random;
+#[cfg(test)]
 mod refusals;
 #[cfg(test)]
 mod renewals;
+#[cfg(test)]
+mod reopening;
