@@ -40,7 +40,7 @@ def wrk(port, path, connections):
     words = ["wrk", "--latency", f"-t{min(2, connections)}", f"-c{connections}", f"-d{SECONDS}s", f"http://127.0.0.1:{port}{path}"]
     said = subprocess.run(words, capture_output=True, text=True).stdout
     rate = float(re.search(r"Requests/sec:\s*([\d.]+)", said)[1])
-    middle, most = (re.search(rf"{part}%\s+(\S+)", said)[1] for part in (50, 99))
+    middle, most = (re.search(rf"^ +{part}%\s+(\S+)", said, re.M)[1] for part in (50, 99))
     wrong = re.search(r"Socket errors.*|Non-2xx.*", said)
     return rate, middle, most, wrong[0] if wrong else ""
 
