@@ -21,6 +21,7 @@ PROGRAM = os.environ.get("ALLOCD_PROGRAM", f"{ROOT}/dist/allocd")
 HOURS = float(sys.argv[1]) if len(sys.argv) > 1 else 24
 INTERVAL = sys.argv[2] if len(sys.argv) > 2 else "2s"
 TARGETS, COLLECTORS, CONNECTIONS = 16_384, 256, 16
+VERSION = b"HTTP/1.1 "
 
 
 def free_port():
@@ -52,43 +53,30 @@ class Client:
     """A connection on which requests are sent many at once."""
 
     def __init__(self, port):
-        self.port, self.it, self.rest = port, None, b""
+        self.port, self.it = port, None
 
     def send(self, requests):
-        """The answers, each a head and a body; fewer where the connection ended."""
-        answers = []
+        """The answers, each from behind its version on; fewer where the connection ended."""
+        data = b""
         try:
             if self.it is None:
-                self.it, self.rest = socket.create_connection(("127.0.0.1", self.port), timeout=60), b""
+                self.it = socket.create_connection(("127.0.0.1", self.port), timeout=60)
             self.it.sendall(b"".join(requests))
-            while len(answers) < len(requests):
-                answer = self.answer()
-                if answer is None:
+            while data.count(VERSION) < len(requests) or not is_whole(data):
+                more = self.it.recv(1 << 20)
+                if not more:
                     self.it = None
                     break
-                answers.append(answer)
-                if b"connection: close" in answer[0]:
-                    self.it = None
-                    break
+                data += more
         except OSError:
             self.it = None
-        return answers
+        return data.split(VERSION)[1:]
 
-    def answer(self):
-        while b"\r\n\r\n" not in self.rest:
-            more = self.it.recv(1 << 20)
-            if not more:
-                return None
-            self.rest += more
-        head, _, self.rest = self.rest.partition(b"\r\n\r\n")
-        size = int(re.search(rb"content-length: (\d+)", head)[1])
-        while len(self.rest) < size:
-            more = self.it.recv(1 << 20)
-            if not more:
-                return None
-            self.rest += more
-        body, self.rest = self.rest[:size], self.rest[size:]
-        return head, body
+
+def is_whole(data):
+    """Whether the last answer has its head and its body."""
+    head, blank, body = data[data.rindex(VERSION) :].partition(b"\r\n\r\n")
+    return blank and len(body) >= int(re.search(rb"content-length: (\d+)", head)[1])
 
 
 def take(name):
@@ -105,14 +93,14 @@ def round_of(port, ids, done, lock):
     client = Client(port)
     for name, collector in ids:
         answers = client.send([take(name)])
-        if not answers or b" 200 " not in answers[0][0]:
+        if not answers or not answers[0].startswith(b"200 "):
             continue
-        head, body = answers[0]
+        head, _, body = answers[0].partition(b"\r\n\r\n")
         number = int(re.search(rb"x-allocation-number: (\d+)", head)[1])
         open_round = int(re.search(rb"x-scrape-round: (\d+)", head)[1])
         held = [int(it) for it in re.findall(rb'"__meta_allocator_target":"(\d+)"', body)]
         answers = client.send([report(collector, number, it, open_round) for it in held])
-        booked = sum(b"Booked" in it[1] for it in answers)
+        booked = sum(b"Booked" in it for it in answers)
         with lock:
             done["lists"] += 1
             done["reports"] += len(held)
