@@ -1,5 +1,5 @@
 -- What stops a part of a session stops the whole.
-use Rattle.std.proofs.Common.{◌≡◌, ℕ, zero, suc, ◌<◌, List, [], ◌∷◌, refl, sym, subst, arith, inl, inr, length, get_or, map}
+use Rattle.std.proofs.Common.{◌≡◌, ℕ, zero, suc, ◌<◌, ◌≤◌, List, [], ◌∷◌, refl, sym, subst, arith, inl, inr, length, get_or, map}
 use Rattle.std.specs.Prelude.{Bool, true, false, Option, Some, None, Result, Ok, Err, Any, IfErr, IsErrAnd, IsSomeAnd, ◌⊎◌, ◌≢◌, ◌==◌, if◌then◌else◌}
 use Rattle.serde_json.specs.View.{items_view}
 use Rattle.sd_documents.specs.declared.config.Job.{Job}
@@ -29,7 +29,7 @@ use Rattle.collector_pool.specs.declared.turn.TurnEnd.TheVariants as turned
 use Rattle.collector_pool.specs.declared.worker.Worker.{Worker}
 use Rattle.session_rounds.specs.Rounds.{HadTurns}
 use Rattle.session_rounds.specs.Turns.{turns_in}
-use Rattle.session_rounds.specs.Stops.{AreRefused, IsListed, IsRulesStop, IsStop, IsTurnStop, WasTold}
+use Rattle.session_rounds.specs.Stops.{AreRefused, IsListed, IsQuietStop, IsRulesStop, IsStop, IsTurnStop, WasTold}
 use Rattle.session_rounds.specs.declared.stop.SessionStop.{SessionStop}
 use Rattle.session_rounds.specs.declared.stop.SessionStop.TheVariants.{Refused, Rules, JournalFull, Memory}
 
@@ -44,8 +44,8 @@ returns_stop Says More (Ok x) more said = said
 returns_stop Says More (Err stop) more said = more stop said
 
 -- what some history of a pass is told, another clause says less of
-pub told_less : (opening : State) (counts : Counts) (Holds More : History → Type 0) → ((h : History) → Holds h → More h) → Reached opening counts Holds → WasTold opening More
-told_less opening counts Holds More more told = (counts, record { history = told.history; legal = told.legal; calls = told.calls; booked = told.booked; holds = more told.history told.holds })
+pub told_less : (opening : State) (counts : Counts) (Holds More : History → Type 0) → ((h : History) → Holds h → More h) → Reached opening counts Holds → Reached opening counts More
+told_less opening counts Holds More more told = record { history = told.history; legal = told.legal; calls = told.calls; booked = told.booked; holds = more told.history told.holds }
 
 -- rules that do not read
 memory_or_not : (error : RuleError) → (error ≡ fault.Memory) ⊎ (error ≢ fault.Memory)
@@ -57,29 +57,46 @@ memory_or_not fault.BadPattern = inr (λ is. cc)
 memory_or_not fault.Memory = inl refl
 
 pub rules_stop_on :
-    {A : Type 0} (opening : State) (P : Event → Type 0) (jobs : List Job) (r : Result A SessionStop) (error : RulesError) (index : ℕ) (job : Job) → index < length jobs → get_or jobs index job ≡ job
-    → IsErrAnd r (IsRulesStop error) → IsRefusedFrom any_text 1 (items_view job.rules) error → IfErr r (IsStop opening P jobs)
-rules_stop_on opening P jobs (Ok x) error index job below at is refused = absurd is
-rules_stop_on opening P jobs (Err stop) error index job below at is refused =
+    {A : Type 0} (opening : State) (old new : Counts) (P : Event → Type 0) (jobs : List Job) (r : Result A SessionStop) (error : RulesError) (index : ℕ) (job : Job) → index < length jobs → get_or jobs index job ≡ job
+    → IsErrAnd r (IsRulesStop error) → IsRefusedFrom any_text 1 (items_view job.rules) error → IfErr r (IsStop opening old new P jobs)
+rules_stop_on opening old new P jobs (Ok x) error index job below at is refused = absurd is
+rules_stop_on opening old new P jobs (Err stop) error index job below at is refused =
     elim (memory_or_not error.error) [
-      inl memory ↦ subst (IsStop opening P jobs) (sym (is.0 memory)) tt
-    | inr other ↦ subst (IsStop opening P jobs) (sym (is.1 other)) (index, job, below, at, (other, refused))
+      | inl memory ↦ subst (IsStop opening old new P jobs) (sym (is.0 memory)) tt
+      | inr other ↦ subst (IsStop opening old new P jobs) (sym (is.1 other)) (index, job, below, at, (other, refused))
     ]
 
--- more events, and more jobs
-pub stop_among :
-    (opening : State) (P Q : Event → Type 0) (jobs more : List Job) (stop : SessionStop) → ((event : Event) → P event → Q event)
-    → ((error : RulesError) → Any (AreRefused error) jobs → Any (AreRefused error) more) → IsStop opening P jobs stop → IsStop opening Q more stop
-stop_among opening P Q jobs more (Refused answer) events rules was =
-    record { event = was.event; entered = events was.event was.entered; reason = was.reason; refused = was.refused; told = was.told }
-stop_among opening P Q jobs more (Rules error) events rules was = rules error was
-stop_among opening P Q jobs more JournalFull events rules was = was
-stop_among opening P Q jobs more Memory events rules was = was
+-- no refusal, and more jobs
+pub quiet_stop :
+    (opening : State) (old new : Counts) (P : Event → Type 0) (jobs more : List Job) (stop : SessionStop) → ((error : RulesError) → Any (AreRefused error) jobs → Any (AreRefused error) more)
+    → IsQuietStop opening jobs stop → IsStop opening old new P more stop
+quiet_stop opening old new P jobs more (Refused answer) rules was = absurd was
+quiet_stop opening old new P jobs more (Rules error) rules was = rules error was
+quiet_stop opening old new P jobs more JournalFull rules was = was
+quiet_stop opening old new P jobs more Memory rules was = was
 
 -- no rules were read
-pub stop_without_rules :
-    (opening : State) (P Q : Event → Type 0) (jobs : List Job) (stop : SessionStop) → ((event : Event) → P event → Q event) → IsStop opening P [] stop → IsStop opening Q jobs stop
-stop_without_rules opening P Q jobs stop events was = stop_among opening P Q [] jobs stop events (λ error any. absurd (omega (arith, any.2))) was
+pub none_read : (jobs : List Job) (error : RulesError) → Any (AreRefused error) [] → Any (AreRefused error) jobs
+none_read jobs error any = absurd (omega (arith, any.2))
+
+-- a part that no rules were read in, from a later count on, with fewer events
+pub stop_within :
+    (opening : State) (old mid new : Counts) (P Q : Event → Type 0) (jobs : List Job) (stop : SessionStop) → old.calls ≤ mid.calls → ((event : Event) → P event → Q event)
+    → IsStop opening mid new P [] stop → IsStop opening old new Q jobs stop
+stop_within opening old mid new P Q jobs (Refused answer) since events was =
+    record {
+      event = was.event;
+      entered = events was.event was.entered;
+      reason = was.reason;
+      refused = was.refused;
+      before = was.before;
+      since = omega (arith, since, was.since);
+      last = was.last;
+      told = was.told;
+    }
+stop_within opening old mid new P Q jobs (Rules error) since events was = none_read jobs error was
+stop_within opening old mid new P Q jobs JournalFull since events was = was
+stop_within opening old mid new P Q jobs Memory since events was = was
 
 -- ---- what a refresh lists
 
@@ -143,7 +160,7 @@ module _ {L B N S : Type 0} (may : S → Get → Result Reply FetchFault → S �
 
   stop_of_turns :
       (olds news : List (Worker L B N S)) (turns : List Turn) (stop : SessionStop) → HadTurns may opening jobs olds turns news → Any (λ w. IsTurnStop w.turn stop) news
-      → IsStop opening (λ _. ⊥) jobs stop
+      → IsQuietStop opening jobs stop
   stop_of_turns olds news turns (Refused answer) had any = absurd any.4
   stop_of_turns olds news turns (Rules error) had any = absurd any.4
   stop_of_turns olds news turns JournalFull had any = turn_told_at any.0 any.1 olds news turns had any.2 any.3 any.4
@@ -152,6 +169,6 @@ module _ {L B N S : Type 0} (may : S → Get → Result Reply FetchFault → S �
   -- what stopped one of these turns
   pub turns_stop :
       (olds news : List (Worker L B N S)) (r : Result (Unit {0}) SessionStop) → IfErr r (λ stop. Any (λ w. IsTurnStop w.turn stop) news)
-      → HadTurns may opening jobs olds (turns_in (map (λ w. w.turn) news)) news → IfErr r (IsStop opening (λ _. ⊥) jobs)
+      → HadTurns may opening jobs olds (turns_in (map (λ w. w.turn) news)) news → IfErr r (IsQuietStop opening jobs)
   turns_stop olds news (Ok x) stopped had = stopped
   turns_stop olds news (Err stop) stopped had = stop_of_turns olds news (turns_in (map (λ w. w.turn) news)) stop had stopped

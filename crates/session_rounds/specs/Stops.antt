@@ -1,5 +1,5 @@
 -- Why a session ends before its last round.
-use Rattle.std.specs.Prelude.{◌≡◌, ◌≢◌, ◌⊎◌, ℕ, List, Option, Some, None, Ok, Any, Contains, IsSomeAnd, ⊤}
+use Rattle.std.specs.Prelude.{◌≡◌, ◌≢◌, ◌≤◌, ◌+◌, ◌⊎◌, ℕ, List, Option, Some, None, Ok, Any, Contains, IsSomeAnd, ⊤}
 use Rattle.serde_json.specs.View.{items_view}
 use Rattle.sd_documents.specs.declared.config.Job.{Job}
 use Rattle.sd_documents.specs.declared.group.Group.{Group}
@@ -32,24 +32,32 @@ use Rattle.session_rounds.specs.declared.stop.SessionStop.TheVariants.{Refused, 
 abbrev pub WasTold : State → (History → Type 0) → Type 0
 WasTold opening Holds = (counts : Counts) × Reached opening counts Holds
 
--- one of these events was entered, and the machine's answer to it was this refusal
-pub record WasRefused (opening : State) (IsEntered : Event → Type 0) (answer : Answer) : Type 0 where
+-- the last event that the pass entered is one of these, and the machine's answer to it was this refusal
+pub record WasRefused (opening : State) (old new : Counts) (IsEntered : Event → Type 0) (answer : Answer) : Type 0 where
   pub event : Event
   pub entered : IsEntered event
   pub reason : Refusal
   pub refused : answer ≡ Not reason
-  pub told : WasTold opening (λ h. answer ≡ answer_of h.state event)
+  pub before : Counts
+  pub since : old.calls ≤ before.calls
+  pub last : new.calls ≡ before.calls + 1
+  pub told : Reached opening before (λ h. answer ≡ answer_of h.state event)
 
 -- the job's rules do not read, and it is not memory that was wanted
 abbrev pub AreRefused : RulesError → Job → Type 0
 AreRefused error job = (error.error ≢ fault.Memory) × IsRefusedFrom any_text 1 (items_view job.rules) error
 
--- what a stop says where these events are entered and the rules of these jobs are read
-abbrev pub IsStop : State → (Event → Type 0) → List Job → SessionStop → Type 0
-IsStop opening IsEntered jobs (Refused answer) = WasRefused opening IsEntered answer
-IsStop opening IsEntered jobs (Rules error) = Any (AreRefused error) jobs
-IsStop opening IsEntered jobs JournalFull = WasTold opening IsFull
-IsStop opening IsEntered jobs Memory = ⊤
+-- what a stop says where no refusal is one, and the rules of these jobs are read
+abbrev pub IsQuietStop : State → List Job → SessionStop → Type 0
+IsQuietStop opening jobs (Refused answer) = ⊥
+IsQuietStop opening jobs (Rules error) = Any (AreRefused error) jobs
+IsQuietStop opening jobs JournalFull = WasTold opening IsFull
+IsQuietStop opening jobs Memory = ⊤
+
+-- the same where a pass, with these counts before and after it, enters such events that are not to be refused
+abbrev pub IsStop : State → Counts → Counts → (Event → Type 0) → List Job → SessionStop → Type 0
+IsStop opening old new IsEntered jobs (Refused answer) = WasRefused opening old new IsEntered answer
+IsStop opening old new IsEntered jobs stop = IsQuietStop opening jobs stop
 
 -- what a source of the job lists, by these rules
 abbrev pub IsListed : Job → List RuleSettings → Event → Type 0

@@ -1,7 +1,7 @@
 //! Events that a session enters.
-ghost use Rattle.std.specs.Prelude.{◌≡◌, [], All, Contains, IfErr, IfOk};
+ghost use Rattle.std.specs.Prelude.{◌≡◌, ◌≤◌, [], All, Contains, IfErr, IfOk};
 ghost use Rattle.session_rounds.specs.Beginnings.{BooksNothing};
-ghost use Rattle.session_rounds.specs.Stops.{IsListed, IsStop};
+ghost use Rattle.session_rounds.specs.Stops.{IsListed, IsQuietStop, IsStop};
 
 use crate::stop::{SessionStop, stop_of};
 use alloc_desk::{Desk, DeskName, Pass};
@@ -23,7 +23,8 @@ pub(crate) fn enter<L: Ledger, B: Ledger, N: DeskName, R: Wait>(
     pass: &mut Pass<L, B, N>,
     event: Event,
 ) -> Result<(), SessionStop>
-    ensures stopped { IfErr result (IsStop N.opening (λ e. e ≡ event) []) }
+    ensures stopped { IfErr result (IsStop N.opening pass.old pass.new (λ e. e ≡ event) []) }
+    ensures grown { pass.old.calls ≤ pass.new.calls }
     ensures booked { BooksNothing event → pass.new.booked ≡ pass.old.booked }
     ensures seat { pass.new.seat ≡ pass.old.seat }
 {
@@ -41,7 +42,8 @@ pub(crate) fn enter_joins<L: Ledger, B: Ledger, N: DeskName, R: Wait>(
     pass: &mut Pass<L, B, N>,
     joins: &[Event],
 ) -> Result<(), SessionStop>
-    ensures stopped { IfErr result (IsStop N.opening (Contains joins.now) []) }
+    ensures stopped { IfErr result (IsStop N.opening pass.old pass.new (Contains joins.now) []) }
+    ensures grown { pass.old.calls ≤ pass.new.calls }
     ensures booked { All BooksNothing joins.now → pass.new.booked ≡ pass.old.booked }
     ensures seat { pass.new.seat ≡ pass.old.seat }
 {
@@ -73,7 +75,8 @@ pub(crate) fn reallocate<L: Ledger, B: Ledger, N: DeskName, R: Wait>(
     alloc: Global,
     pass: &mut Pass<L, B, N>,
 ) -> Result<(), SessionStop>
-    ensures stopped { IfErr result (IsStop N.opening (λ _. ⊥) []) }
+    ensures stopped { IfErr result (IsQuietStop N.opening []) }
+    ensures grown { pass.old.calls ≤ pass.new.calls }
     ensures booked { pass.new.booked ≡ pass.old.booked }
     ensures seat { pass.new.seat ≡ pass.old.seat }
 {
