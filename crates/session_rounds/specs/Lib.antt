@@ -1,3 +1,4 @@
 pub mod Beginnings
 pub mod Rounds
+pub mod Stops
 pub mod Turns

@@ -1,6 +1,7 @@
 //! What a session enters before its rounds.
-ghost use Rattle.std.specs.Prelude.{◌≡◌, All, OnOk};
+ghost use Rattle.std.specs.Prelude.{◌≡◌, ◌≤◌, [], All, IfErr, OnOk};
 ghost use Rattle.session_rounds.specs.Beginnings.{AskedJobs, AskedSource, AskedSources, BooksNothing, asked_count};
+ghost use Rattle.session_rounds.specs.Stops.{IsBeginning, IsListed, IsStop};
 
 use crate::entering::{enter, enter_joins, reallocate, static_targets};
 use crate::refreshing::{Refresher, last_source};
@@ -25,6 +26,8 @@ pub fn begin<L: Ledger, B: Ledger, N: DeskName, S: Scrape, R: Wait>(
     text: &mut Vec<u8>,
 ) -> Result<(), SessionStop>
     ensures asked { OnOk result (AskedJobs S.may_fetch session.now.config.jobs refresher.old.scrape refresher.new.scrape text.old.items text.new.items) }
+    ensures stopped { IfErr result (IsStop N.opening refresher.old.pass refresher.new.pass (IsBeginning session.now) session.now.config.jobs) }
+    ensures grown { refresher.old.pass.calls ≤ refresher.new.pass.calls }
     ensures booked { All BooksNothing session.now.joins → refresher.new.pass.booked ≡ refresher.old.pass.booked }
     ensures seat { refresher.new.pass.seat ≡ refresher.old.pass.seat }
 {
@@ -47,6 +50,8 @@ fn list_job<L: Ledger, B: Ledger, N: DeskName, S: Scrape, R: Wait>(
     text: &mut Vec<u8>,
 ) -> Result<(), SessionStop>
     ensures asked { OnOk result (AskedSources S.may_fetch job.now rules.now 1 (asked_count job.now) refresher.old.scrape refresher.new.scrape text.old.items text.new.items) }
+    ensures stopped { IfErr result (IsStop N.opening refresher.old.pass refresher.new.pass (IsListed job.now rules.now) []) }
+    ensures grown { refresher.old.pass.calls ≤ refresher.new.pass.calls }
     ensures booked { refresher.new.pass.booked ≡ refresher.old.pass.booked }
     ensures seat { refresher.new.pass.seat ≡ refresher.old.pass.seat }
 {
@@ -69,6 +74,8 @@ fn list_source<L: Ledger, B: Ledger, N: DeskName, S: Scrape, R: Wait>(
     text: &mut Vec<u8>,
 ) -> Result<(), SessionStop>
     ensures asked { OnOk result (AskedSource S.may_fetch job.now rules.now source refresher.old.scrape refresher.new.scrape text.old.items text.new.items) }
+    ensures stopped { IfErr result (IsStop N.opening refresher.old.pass refresher.new.pass (IsListed job.now rules.now) []) }
+    ensures grown { refresher.old.pass.calls ≤ refresher.new.pass.calls }
     ensures booked { refresher.new.pass.booked ≡ refresher.old.pass.booked }
     ensures seat { refresher.new.pass.seat ≡ refresher.old.pass.seat }
 {

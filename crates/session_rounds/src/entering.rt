@@ -1,6 +1,7 @@
 //! Events that a session enters.
-ghost use Rattle.std.specs.Prelude.{◌≡◌, All, IfOk};
+ghost use Rattle.std.specs.Prelude.{◌≡◌, ◌≤◌, [], All, Contains, IfErr, IfOk};
 ghost use Rattle.session_rounds.specs.Beginnings.{BooksNothing};
+ghost use Rattle.session_rounds.specs.Stops.{IsListed, IsQuietStop, IsStop};
 
 use crate::stop::{SessionStop, stop_of};
 use alloc_desk::{Desk, DeskName, Pass};
@@ -22,6 +23,8 @@ pub(crate) fn enter<L: Ledger, B: Ledger, N: DeskName, R: Wait>(
     pass: &mut Pass<L, B, N>,
     event: Event,
 ) -> Result<(), SessionStop>
+    ensures stopped { IfErr result (IsStop N.opening pass.old pass.new (λ e. e ≡ event) []) }
+    ensures grown { pass.old.calls ≤ pass.new.calls }
     ensures booked { BooksNothing event → pass.new.booked ≡ pass.old.booked }
     ensures seat { pass.new.seat ≡ pass.old.seat }
 {
@@ -39,6 +42,8 @@ pub(crate) fn enter_joins<L: Ledger, B: Ledger, N: DeskName, R: Wait>(
     pass: &mut Pass<L, B, N>,
     joins: &[Event],
 ) -> Result<(), SessionStop>
+    ensures stopped { IfErr result (IsStop N.opening pass.old pass.new (Contains joins.now) []) }
+    ensures grown { pass.old.calls ≤ pass.new.calls }
     ensures booked { All BooksNothing joins.now → pass.new.booked ≡ pass.old.booked }
     ensures seat { pass.new.seat ≡ pass.old.seat }
 {
@@ -51,7 +56,8 @@ pub(crate) fn enter_joins<L: Ledger, B: Ledger, N: DeskName, R: Wait>(
 
 /// What the static groups of a job list.
 pub(crate) fn static_targets(alloc: Global, job: &Job, rules: &Rules) -> Result<Event, AllocError>
-    ensures { IfOk result BooksNothing }
+    ensures listed { IfOk result (IsListed job.now rules.now) }
+    ensures books_nothing { IfOk result BooksNothing }
 {
     let Found { targets, .. } = rules.discover(alloc, job, 0, job.static_groups.as_slice())?;
     let job = job.name.copy()?;
@@ -69,6 +75,8 @@ pub(crate) fn reallocate<L: Ledger, B: Ledger, N: DeskName, R: Wait>(
     alloc: Global,
     pass: &mut Pass<L, B, N>,
 ) -> Result<(), SessionStop>
+    ensures stopped { IfErr result (IsQuietStop N.opening []) }
+    ensures grown { pass.old.calls ≤ pass.new.calls }
     ensures booked { pass.new.booked ≡ pass.old.booked }
     ensures seat { pass.new.seat ≡ pass.old.seat }
 {

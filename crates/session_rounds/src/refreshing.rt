@@ -1,6 +1,7 @@
 //! Refreshing the sources while a round runs.
-ghost use Rattle.std.specs.Prelude.{◌≡◌};
+ghost use Rattle.std.specs.Prelude.{◌≡◌, ◌≤◌, [], IfErr};
 ghost use Rattle.session_rounds.specs.Beginnings.{asked_count};
+ghost use Rattle.session_rounds.specs.Stops.{IsQuietStop};
 
 use crate::entering::reallocate;
 use crate::stop::SessionStop;
@@ -27,6 +28,8 @@ pub(crate) fn renew<L: Ledger, B: Ledger, N: DeskName, S: Scrape, R: Wait>(
     jobs: &[Job],
     refresher: &mut Refresher<L, B, N, S>,
 ) -> Result<(), SessionStop>
+    ensures stopped { IfErr result (IsQuietStop N.opening jobs.now) }
+    ensures grown { refresher.old.pass.calls ≤ refresher.new.pass.calls }
     ensures booked { refresher.new.pass.booked ≡ refresher.old.pass.booked }
     ensures seat { refresher.new.pass.seat ≡ refresher.old.pass.seat }
 {
@@ -45,6 +48,8 @@ fn renew_job<L: Ledger, B: Ledger, N: DeskName, S: Scrape, R: Wait>(
     rules: &Rules,
     refresher: &mut Refresher<L, B, N, S>,
 ) -> Result<(), SessionStop>
+    ensures stopped { IfErr result (IsQuietStop N.opening []) }
+    ensures grown { refresher.old.pass.calls ≤ refresher.new.pass.calls }
     ensures booked { refresher.new.pass.booked ≡ refresher.old.pass.booked }
     ensures seat { refresher.new.pass.seat ≡ refresher.old.pass.seat }
 {
@@ -70,6 +75,8 @@ fn renew_source<L: Ledger, B: Ledger, N: DeskName, S: Scrape, R: Wait>(
     source: u32,
     refresher: &mut Refresher<L, B, N, S>,
 ) -> Result<(), SessionStop>
+    ensures stopped { IfErr result (IsQuietStop N.opening []) }
+    ensures grown { refresher.old.pass.calls ≤ refresher.new.pass.calls }
     ensures booked { refresher.new.pass.booked ≡ refresher.old.pass.booked }
     ensures seat { refresher.new.pass.seat ≡ refresher.old.pass.seat }
 {

@@ -1,7 +1,8 @@
 //! The rounds.
-ghost use Rattle.std.specs.Prelude.{◌≡◌, ◌++◌, map, All, IfOk, IfSome, OnOk};
+ghost use Rattle.std.specs.Prelude.{◌≡◌, ◌≤◌, ◌++◌, [], map, All, Any, IfErr, IfOk, IfSome, OnOk};
 ghost use Rattle.session.specs.Lines.{no_sums, round_line as round_line_text, sums_from};
 ghost use Rattle.session_rounds.specs.Rounds.{HadTurns, IsDone, RanRounds};
+ghost use Rattle.session_rounds.specs.Stops.{IsQuietStop, IsStop, IsTurnStop};
 ghost use Rattle.session_rounds.specs.Turns.{turns_in};
 
 use crate::entering::enter;
@@ -40,6 +41,8 @@ pub fn run_rounds<
     text: &mut Vec<u8>,
 ) -> Result<(), SessionStop>
     ensures rounds { OnOk result (RanRounds S.may_fetch N.opening jobs.now rounds workers.old workers.new text.old.items text.new.items) }
+    ensures stopped { IfErr result (IsStop N.opening refresher.old.pass refresher.new.pass (λ e. e ≡ Event.NextRound) jobs.now) }
+    ensures grown { refresher.old.pass.calls ≤ refresher.new.pass.calls }
     ensures booked { refresher.new.pass.booked ≡ refresher.old.pass.booked }
     ensures seat { refresher.new.pass.seat ≡ refresher.old.pass.seat }
 {
@@ -58,6 +61,8 @@ fn open_round<L: Ledger, B: Ledger, N: DeskName, R: Wait>(
     round: u32,
     pass: &mut Pass<L, B, N>,
 ) -> Result<(), SessionStop>
+    ensures stopped { IfErr result (IsStop N.opening pass.old pass.new (λ e. e ≡ Event.NextRound) []) }
+    ensures grown { pass.old.calls ≤ pass.new.calls }
     ensures booked { pass.new.booked ≡ pass.old.booked }
     ensures seat { pass.new.seat ≡ pass.old.seat }
 {
@@ -87,6 +92,8 @@ fn run_one<
 ) -> Result<(), SessionStop>
     ensures turns { HadTurns S.may_fetch N.opening jobs.now workers.old (turns_in (map (λ w. w.turn) workers.new)) workers.new }
     ensures done { OnOk result (All IsDone (turns_in (map (λ w. w.turn) workers.new))) }
+    ensures stopped { IfErr result (IsQuietStop N.opening jobs.now) }
+    ensures grown { refresher.old.pass.calls ≤ refresher.new.pass.calls }
     ensures booked { refresher.new.pass.booked ≡ refresher.old.pass.booked }
     ensures seat { refresher.new.pass.seat ≡ refresher.old.pass.seat }
 {
@@ -126,7 +133,8 @@ fn run_turns<
 fn all_done<L: Ledger, B: Ledger, N: DeskName, S>(
     workers: &[Worker<L, B, N, S>],
 ) -> Result<(), SessionStop>
-    ensures { OnOk result (All IsDone (turns_in (map (λ w. w.turn) workers.now))) }
+    ensures done { OnOk result (All IsDone (turns_in (map (λ w. w.turn) workers.now))) }
+    ensures stopped { IfErr result (λ stop. Any (λ w. IsTurnStop w.turn stop) workers.now) }
 {
     for worker in workers {
         done(worker.turn)?;
@@ -136,7 +144,8 @@ fn all_done<L: Ledger, B: Ledger, N: DeskName, S>(
 
 /// Whether a turn, where there was one, met neither.
 fn done(turn: Option<Turn>) -> Result<(), SessionStop>
-    ensures { OnOk result (IfSome turn IsDone) }
+    ensures done { OnOk result (IfSome turn IsDone) }
+    ensures stopped { IfErr result (IsTurnStop turn) }
 {
     let Some(turn) = turn else {
         return Ok(());

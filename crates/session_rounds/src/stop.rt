@@ -1,4 +1,8 @@
 //! Why a session ends before its last round.
+ghost use Rattle.std.specs.Prelude.{◌≡◌};
+ghost use Rattle.std.specs.Result.{result_err};
+ghost use Rattle.session_rounds.specs.Stops.{search_stop};
+
 use alloc_desk::{EnterError, ReallocateError};
 use allocation_core::Answer;
 use relabel::{RuleError, RulesError};
@@ -28,6 +32,11 @@ impl From<AllocError> for SessionStop {
 }
 
 impl From<EnterError> for SessionStop {
+    ghost use Rattle.std.specs.Prelude.{◌≡◌};
+    ghost use Rattle.session_rounds.specs.Stops.{entering_stop};
+
+    ghost from_gives = { λ e s. s ≡ entering_stop e };
+
     fn from(fault: EnterError) -> SessionStop {
         match fault {
             EnterError::JournalFull => SessionStop::JournalFull,
@@ -37,6 +46,10 @@ impl From<EnterError> for SessionStop {
 }
 
 impl From<RulesError> for SessionStop {
+    ghost use Rattle.session_rounds.specs.Stops.{IsRulesStop};
+
+    ghost from_gives = { λ e s. IsRulesStop e s };
+
     fn from(refused: RulesError) -> SessionStop {
         if refused.error == RuleError::Memory {
             return SessionStop::Memory;
@@ -46,7 +59,9 @@ impl From<RulesError> for SessionStop {
 }
 
 /// What ends the session of a reallocation that failed. One that was overtaken, and one without a number left, do not.
-pub(crate) fn stop_of(fault: &ReallocateError) -> Result<(), SessionStop> {
+pub(crate) fn stop_of(fault: &ReallocateError) -> Result<(), SessionStop>
+    ensures { result_err result ≡ search_stop fault.now }
+{
     match fault {
         ReallocateError::JournalFull => Err(SessionStop::JournalFull),
         ReallocateError::Memory => Err(SessionStop::Memory),
