@@ -8,9 +8,6 @@ use std::alloc::{AllocError, Global};
 /// A job: its name, how many of its targets a collector may have, and how many sources list them.
 pub(crate) type Job<'a> = (&'a str, u32, u32);
 
-/// The line for a reallocation, which is no event.
-pub(crate) const REALLOCATE: &str = "reallocate";
-
 /// The jobs of the allocator before it is renewed.
 const OLD_JOBS: [Job; 3] = [("a", 2, 2), ("b", 3, 1), ("c", 1, 1)];
 
@@ -59,28 +56,21 @@ pub(crate) fn jobs_of(alloc: Global, jobs: &[Job]) -> Result<Vec<JobSpec>, Alloc
     Ok(specifications)
 }
 
-/// The answer to the event of a line, or to a reallocation.
+/// The answer to the event of a line.
 fn answered(alloc: Global, core: &mut Core, line: &str) -> Option<Answer> {
-    if line == REALLOCATE {
-        return reallocate(alloc, core).ok();
-    }
     let event = read_event(alloc, line.as_bytes()).ok()??;
     core.apply(event).ok()
 }
 
-/// The answers to the lines, each with a semicolon behind it.
+/// The answers to the events of the lines, each with a semicolon behind it.
 pub(crate) fn answers(alloc: Global, core: &mut Core, lines: &str) -> Option<String> {
     let mut text = String::new(alloc);
     for line in lines.lines() {
         let answer = answered(alloc, core, line)?;
-        push_answer(alloc, &mut text, &answer)?;
+        text.push_str(answer.line(alloc).ok()?.as_str()).ok()?;
+        text.push_str(";").ok()?;
     }
     Some(text)
-}
-
-pub(crate) fn push_answer(alloc: Global, text: &mut String, answer: &Answer) -> Option<()> {
-    text.push_str(answer.line(alloc).ok()?.as_str()).ok()?;
-    text.push_str(";").ok()
 }
 
 /// Whether the events of the lines have these answers. Not where memory is wanted.

@@ -1,10 +1,10 @@
 //! A desk that is closed, renewed under other jobs and opened again, five times, beside an allocator without a desk.
 ghost use Rattle.std.specs.Prelude.{◌≡◌};
 
-use crate::opening::{Job, REALLOCATE, answers, push_answer, renewed};
+use crate::opening::{Job, renewed};
 use crate::outline::outline;
 use crate::random::Random;
-use alloc_desk::{Desk, DeskName, Pass, Reallocated};
+use alloc_desk::{Desk, DeskName, Pass, Reallocated, reallocate};
 use allocation_core::{Answer, Core, Refusal};
 use core_history::{read_history, write_history};
 use fleet_events::read_event;
@@ -27,6 +27,9 @@ const JOBS: [&[Job]; 6] = [
     &[("d", 0, 2), ("b", 2, 1), ("c", 1, 2), ("a", 1, 1)],
     &[("a", 2, 2)],
 ];
+
+/// The line for a reallocation, which is no event.
+const REALLOCATE: &str = "reallocate";
 
 /// What may happen, in any order.
 const LINES: &str = r#"{"event":"join","name":"x","reach":[{"allow":true,"test":"any"}]}
@@ -129,9 +132,32 @@ fn without(alloc: Global, history: Option<Text>, lines: &Text) -> Option<(String
 }
 
 fn ended(alloc: Global, core: &mut Core, lines: &Text) -> Option<(String, String)> {
-    let said = answers(alloc, core, lines.as_str())?;
+    let said = answers(alloc, core, lines)?;
     let end = outline(alloc, core).ok()?;
     Some((said, end))
+}
+
+/// The answers to the lines, each with a semicolon behind it.
+fn answers(alloc: Global, core: &mut Core, lines: &Text) -> Option<String> {
+    let mut text = String::new(alloc);
+    for line in lines.as_str().lines() {
+        let answer = answered(alloc, core, line)?;
+        push_answer(alloc, &mut text, &answer)?;
+    }
+    Some(text)
+}
+
+fn answered(alloc: Global, core: &mut Core, line: &str) -> Option<Answer> {
+    if line == REALLOCATE {
+        return reallocate(alloc, core).ok();
+    }
+    let event = read_event(alloc, line.as_bytes()).ok()??;
+    core.apply(event).ok()
+}
+
+fn push_answer(alloc: Global, text: &mut String, answer: &Answer) -> Option<()> {
+    text.push_str(answer.line(alloc).ok()?.as_str()).ok()?;
+    text.push_str(";").ok()
 }
 
 /// The allocator after a desk over it took the lines and was closed, with the answers, each with a semicolon behind it.
