@@ -2,13 +2,14 @@
 """Runs `allocd serve` as an operator would, and tells of each thing whether it holds: try_serve.py [KILLS [PART ..]]
 
 Routes, faults of the configuration and of the machine, reloads, signals, a second start, torn, damaged and long journals, starts under other
-jobs, kills under load and in the midst of starts, many and silent clients, sources that trickle or fall silent, a full disk, also as a
-journal is to begin (where a small file system can be mounted). It needs Linux and the program (ALLOCD_PROGRAM, or dist/allocd)."""
+jobs, kills under load and in the midst of starts, many, silent and idle clients, clients that come as it ends, sources that trickle or fall silent, a
+full disk, also as a journal is to begin (where a small file system can be mounted). It needs Linux and the program (ALLOCD_PROGRAM, or dist/allocd)."""
 
 import collections
 import contextlib
 import http.client
 import http.server
+import itertools
 import json
 import os
 import random
@@ -767,6 +768,112 @@ def strangers(folder):
     tell("the journal has each list that was taken, and nothing of the others", status == 0 and takes == MANY, f"{takes} takes, {len(events)} events")
 
 
+WORKERS = 64
+
+
+def idle_connections(port, count):
+    """So many connections that had an answer and are idle behind it."""
+    held = []
+    for _ in range(count):
+        it = http.client.HTTPConnection("127.0.0.1", port, timeout=30)
+        it.request("GET", "/-/healthy")
+        it.getresponse().read()
+        held.append(it)
+    return held
+
+
+def are_closed(held):
+    """Whether the other side has closed each of these connections, and said nothing more."""
+    return all(it.sock.recv(1) == b"" for it in held)
+
+
+def idle_clients(folder):
+    service = Service(folder)
+    service.is_up()
+    held = idle_connections(service.port, WORKERS - 1)
+    began = time.monotonic()
+    status = ask(service.port, "GET", "/-/healthy")[0]
+    tell(f"beside {len(held)} idle connections a request is answered at once", status == 200 and time.monotonic() - began < 1)
+    tell("each of them is closed, and told nothing more", are_closed(held))
+    held = idle_connections(service.port, WORKERS)
+    began = time.monotonic()
+    status = ask(service.port, "GET", "/-/healthy")[0]
+    waited = time.monotonic() - began
+    tell(f"behind {len(held)} of them one is answered once they are closed", status == 200 and 1 < waited < 7, f"after {waited:.1f} seconds")
+    held = idle_connections(service.port, WORKERS - 1)
+    began = time.monotonic()
+    ends = service.quit()
+    waited = time.monotonic() - began
+    tell("it ends beside idle connections at once", ends == (200, 0) and waited < 2 and are_closed(held), f"after {waited:.1f} seconds")
+    service = Service(folder)
+    service.is_up()
+    held = idle_connections(service.port, WORKERS)
+    began = time.monotonic()
+    ends = service.quit()
+    waited = time.monotonic() - began
+    tell("it ends where each worker has an idle one", ends == (200, 0) and waited < 8 and are_closed(held), f"after {waited:.1f} seconds")
+
+
+class Newcomers:
+    """Clients that join collectors, each join on a connection of its own, until the service is gone."""
+
+    def __init__(self, port, seed):
+        self.port, self.seed = port, seed
+        self.seen, self.cut, self.wrong, self.longest = [], 0, [], 0
+        self.threads = [threading.Thread(target=self.come, args=(i,)) for i in range(16)]
+        for it in self.threads:
+            it.start()
+
+    def come(self, thread):
+        for count in itertools.count():
+            name = f"n{self.seed}-{thread}-{count}"
+            began = time.monotonic()
+            try:
+                status, _, text = ask(self.port, "POST", "/collectors", {"name": name, "reach": []})
+                if status in (200, 409):
+                    self.seen.append((("join", name), text))
+                else:
+                    self.wrong.append((status, text))
+            except ConnectionRefusedError:
+                return
+            except TimeoutError:
+                self.wrong.append("neither an answer nor an end")
+            except (OSError, http.client.HTTPException):
+                self.cut += 1
+            self.longest = max(self.longest, time.monotonic() - began)
+
+    def end(self):
+        for it in self.threads:
+            it.join()
+
+
+def newcomers_at_the_end(folder):
+    """Ends, and desks that are opened anew, while connections come all the time."""
+    journal = f"{folder}/journal"
+    configs = [with_jobs(), with_jobs(MORE)]
+    seen, cut, wrong, longest, statuses = [], 0, [], 0, set()
+    for turn in range(2 * KILLS):
+        service = Service(folder, journal, configs[0])
+        service.is_up()
+        clients = Newcomers(service.port, turn)
+        time.sleep(random.uniform(0.05, 0.5))
+        if turn % 2:
+            for config in (configs[1], configs[0], configs[1], configs[0]):
+                with contextlib.suppress(OSError, http.client.HTTPException):
+                    rewrite(service, config)
+                time.sleep(random.uniform(0, 0.1))
+        while service.it.poll() is None:
+            try:
+                statuses.add(service.quit())
+            except (OSError, http.client.HTTPException):
+                time.sleep(0.01)
+        clients.end()
+        seen, cut, wrong, longest = seen + clients.seen, cut + clients.cut, wrong + clients.wrong, max(longest, clients.longest)
+    tell(f"it ends {2 * KILLS} times while connections come", statuses == {(200, 0)}, statuses)
+    tell("each of them is answered, or ends without an answer", not wrong, wrong[:3] or f"{len(seen)} answers, {cut} cut, {longest:.2f} seconds at most")
+    tell("no answer is lost", lost_of(seen, [*old_journals(journal), journal]) == 0)
+
+
 class Trickling(http.server.BaseHTTPRequestHandler):
     """A discovery source that sends a byte at a time, and never all."""
 
@@ -956,7 +1063,8 @@ def long_journals(folder):
 
 PARTS = (
     words_and_configurations, faults, failures, routes, reloads, signals, absences, journals, kills, kills_while_reloading, restarts,
-    kills_of_restarts, starts_at_once, renewals, long_journals, strangers, slow_source, silent_source, full_disk, full_renewal,
+    kills_of_restarts, starts_at_once, renewals, long_journals, strangers, idle_clients, newcomers_at_the_end, slow_source, silent_source,
+    full_disk, full_renewal,
 )
 wanted = sys.argv[2:]
 with tempfile.TemporaryDirectory() as top:
