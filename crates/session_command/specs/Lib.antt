@@ -1,4 +1,5 @@
 pub mod Answers
+pub mod Ended
 pub mod Here
 pub mod Lines
 pub mod Pages

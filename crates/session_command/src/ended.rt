@@ -1,4 +1,8 @@
 //! How a session ends.
+ghost use Rattle.std.specs.Prelude.{◌≡◌};
+ghost use Rattle.std.specs.IoError.{error_kind};
+ghost use Rattle.session_command.specs.Ended.{fault_of, halt_of, unread_end};
+
 use session::SessionError;
 use session_rounds::SessionStop;
 use std::alloc::AllocError;
@@ -33,18 +37,29 @@ pub(crate) enum Halt {
 }
 
 impl From<AllocError> for Halt {
+    ghost use Rattle.session_rounds.specs.declared.stop.SessionStop.TheVariants.{Memory};
+    ghost use Rattle.session_command.specs.declared.ended.Halt.TheVariants.{Stopped};
+
+    ghost from_gives = { λ _ halt. halt ≡ Stopped Memory };
+
     fn from(_refused: AllocError) -> Halt {
         Halt::Stopped(SessionStop::Memory)
     }
 }
 
 impl From<SessionStop> for Halt {
+    ghost use Rattle.session_command.specs.declared.ended.Halt.TheVariants.{Stopped};
+
+    ghost from_gives = { λ stop halt. halt ≡ Stopped stop };
+
     fn from(stop: SessionStop) -> Halt {
         Halt::Stopped(stop)
     }
 }
 
 impl From<io::Error> for Halt {
+    ghost from_gives = { λ error halt. halt ≡ halt_of (error_kind error) };
+
     fn from(error: io::Error) -> Halt {
         match error.kind() {
             io::ErrorKind::OutOfMemory => Halt::Stopped(SessionStop::Memory),
@@ -54,12 +69,18 @@ impl From<io::Error> for Halt {
 }
 
 impl From<AllocError> for Fault {
+    ghost use Rattle.session_command.specs.declared.ended.Fault.TheVariants.{Memory};
+
+    ghost from_gives = { λ _ fault. fault ≡ Memory };
+
     fn from(_refused: AllocError) -> Fault {
         Fault::Memory
     }
 }
 
 impl From<io::Error> for Fault {
+    ghost from_gives = { λ error fault. fault ≡ fault_of (error_kind error) };
+
     fn from(error: io::Error) -> Fault {
         match error.kind() {
             io::ErrorKind::OutOfMemory => Fault::Memory,
@@ -69,7 +90,9 @@ impl From<io::Error> for Fault {
 }
 
 /// How a session ends whose document is not read.
-pub(crate) fn unread(error: SessionError) -> Result<Ended, Fault> {
+pub(crate) fn unread(error: SessionError) -> Result<Ended, Fault>
+    ensures { result ≡ unread_end error }
+{
     match error {
         SessionError::NotJson => Ok(Ended::NotJson),
         SessionError::Shape => Ok(Ended::Shape),
