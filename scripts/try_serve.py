@@ -768,7 +768,16 @@ def strangers(folder):
     tell("the journal has each list that was taken, and nothing of the others", status == 0 and takes == MANY, f"{takes} takes, {len(events)} events")
 
 
-WORKERS = 64
+def most_connections(port):
+    """How many connections a service serves at once."""
+    lines = ask(port, "GET", "/metrics")[2].split("\n")
+    return next(int(line.split()[1]) for line in lines if line.startswith("allocd_http_connections_max "))
+
+
+def timed(call, *args):
+    """What a call gives, and how many seconds it took."""
+    began = time.monotonic()
+    return call(*args), time.monotonic() - began
 
 
 def idle_connections(port, count):
@@ -790,27 +799,22 @@ def are_closed(held):
 def idle_clients(folder):
     service = Service(folder)
     service.is_up()
-    held = idle_connections(service.port, WORKERS - 1)
-    began = time.monotonic()
-    status = ask(service.port, "GET", "/-/healthy")[0]
-    tell(f"beside {len(held)} idle connections a request is answered at once", status == 200 and time.monotonic() - began < 1)
+    port = service.port
+    most = most_connections(port)
+    held = idle_connections(port, most - 1)
+    (status, _, _), waited = timed(ask, port, "GET", "/-/healthy")
+    tell(f"beside {len(held)} idle connections a request is answered at once", status == 200 and waited < 1)
     tell("each of them is closed, and told nothing more", are_closed(held))
-    held = idle_connections(service.port, WORKERS)
-    began = time.monotonic()
-    status = ask(service.port, "GET", "/-/healthy")[0]
-    waited = time.monotonic() - began
+    held = idle_connections(port, most)
+    (status, _, _), waited = timed(ask, port, "GET", "/-/healthy")
     tell(f"behind {len(held)} of them one is answered once they are closed", status == 200 and 1 < waited < 7, f"after {waited:.1f} seconds")
-    held = idle_connections(service.port, WORKERS - 1)
-    began = time.monotonic()
-    ends = service.quit()
-    waited = time.monotonic() - began
+    held = idle_connections(port, most - 1)
+    ends, waited = timed(service.quit)
     tell("it ends beside idle connections at once", ends == (200, 0) and waited < 2 and are_closed(held), f"after {waited:.1f} seconds")
     service = Service(folder)
     service.is_up()
-    held = idle_connections(service.port, WORKERS)
-    began = time.monotonic()
-    ends = service.quit()
-    waited = time.monotonic() - began
+    held = idle_connections(service.port, most)
+    ends, waited = timed(service.quit)
     tell("it ends where each worker has an idle one", ends == (200, 0) and waited < 8 and are_closed(held), f"after {waited:.1f} seconds")
 
 
