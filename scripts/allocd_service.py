@@ -3,6 +3,7 @@
 import http.client
 import json
 import os
+import random
 import socket
 import subprocess
 import time
@@ -19,10 +20,25 @@ def run(words, text=b"", **more):
     return done.returncode, done.stdout
 
 
+def first_of_the_kernel():
+    """The first of the ports that the kernel gives to who connects."""
+    try:
+        with open("/proc/sys/net/ipv4/ip_local_port_range") as it:
+            return int(it.read().split()[0])
+    except OSError:
+        return 32768
+
+
 def free_port():
-    with socket.socket() as it:
-        it.bind(("127.0.0.1", 0))
-        return it.getsockname()[1]
+    """A port that is free, and that no connection of another is given before a service has it."""
+    while True:
+        port = random.randrange(10000, max(20000, first_of_the_kernel()))
+        with socket.socket() as it:
+            try:
+                it.bind(("127.0.0.1", port))
+                return port
+            except OSError:
+                pass
 
 
 def ask(port, method, path, body=None, seconds=60):

@@ -14,17 +14,9 @@ import subprocess
 import sys
 import tempfile
 import threading
-import time
 
 from allocd_service import PROGRAM, ROOT, Service, comes, replayed, run
-
-failed = 0
-
-
-def tell(name, holds, more=""):
-    global failed
-    failed += not holds
-    print(f"{'ok' if holds else 'NOT'}: {name}{': ' + str(more) if more != '' else ''}", flush=True)
+from parts import run_parts, tell
 
 
 def example(name):
@@ -146,8 +138,12 @@ def joined(config, lines):
     return b"\n".join([compact(config), *map(compact, lines)]) + b"\n"
 
 
-def listing(names, job="j"):
-    return {"event": "discover", "job": job, "source": 0, "targets": [{"targets": [name]} for name in names]}
+def listing(names, job="j", source=0):
+    return {"event": "discover", "job": job, "source": source, "targets": [{"targets": [name]} for name in names]}
+
+
+def listed(numbers, source=0):
+    return listing([f"h:{i}" for i in numbers], source=source)
 
 
 def joins(count):
@@ -160,9 +156,25 @@ def joined_but_last(count):
 
 def limits(_):
     one = {"scrape_configs": [{"job_name": "j"}]}
+    # a job with a second source, which a URL is
+    two = {"scrape_configs": [{"job_name": "j", "http_sd_configs": [{"url": "http://127.0.0.1:9/sd"}]}]}
     lists = [[f"{which}{i}:1" for i in range(16_384)] for which in "abc"]
+    many = {"scrape_configs": [{"job_name": f"j{i}"} for i in range(1_024)]}
+    leave = {"event": "leave", "collector": 1}
     rows = [
         ("16,385 targets at once", one, [listing([f"h{i}:1" for i in range(16_385)])], "TooManyLive"),
+        (
+            "16,384 live targets, one more, and those again that are live",
+            two,
+            [listed(range(16_384)), listed([16_384], 1), listed([0], 1), listed(range(1, 16_384))],
+            "Discovered 16384 0,TooManyLive,Discovered 0 0,Discovered 0 0",
+        ),
+        (
+            "65,535 known targets, one more, and one that is known",
+            two,
+            [*(listed(range(at, min(at + 16_384, 65_535))) for at in range(0, 65_535, 16_384)), listed([65_535], 1), listed([0], 1)],
+            "Discovered 16384 0,Discovered 16384 16384,Discovered 16384 16384,Discovered 16383 16384,TooManyKnown,Discovered 1 0",
+        ),
         (
             "three lists of 16,384 and what follows",
             one,
@@ -170,7 +182,9 @@ def limits(_):
             "Discovered 16384 0,Discovered 16384 16384,Discovered 16384 16384,Discovered 16383 16384,TooManyKnown,Discovered 1 16383",
         ),
         ("257 collectors", one, joins(257), joined_but_last(257)),
-        ("17 collectors of 1,024 jobs", {"scrape_configs": [{"job_name": f"j{i}"} for i in range(1_024)]}, joins(17), joined_but_last(17)),
+        ("256 collectors and one more once one has left", one, [*joins(257), leave, joins(257)[-1]], f"{joined_but_last(257)},Left,Joined 257"),
+        ("17 collectors of 1,024 jobs", many, joins(17), joined_but_last(17)),
+        ("6,000 answers", one, [{"event": "leave", "collector": 7}] * 6_000, ",".join(["UnknownCollector"] * 6_000)),
     ]
     for name, config, lines, wanted in rows:
         status, out = run(["replay"], joined(config, lines))
@@ -178,9 +192,9 @@ def limits(_):
     rule = {"allow": True, "test": "any"}
     for count, wanted in ((32, (0, b"Joined 1\ntotal 0\n")), (33, (2, b"unreadable 2\n"))):
         tell(f"a reach of {count} rules", run(["replay"], joined(one, [{"event": "join", "name": "a", "reach": [rule] * count}])) == wanted)
-    for count, wanted in ((1_024, 0), (1_025, 2)):
+    for count, wanted in ((1_024, (0, b"total 0\n")), (1_025, (2, b"unreadable 1\n"))):
         jobs = {"scrape_configs": [{"job_name": f"j{i}"} for i in range(count)]}
-        tell(f"{count:,} jobs", run(["replay"], joined(jobs, []))[0] == wanted)
+        tell(f"{count:,} jobs", run(["replay"], joined(jobs, [])) == wanted)
     for count, wanted in ((16_384, 0), (16_385, 2)):
         tell(f"plan of {count:,} items", run(["plan"], compact({"version": 1, "bins": [], "reach": [[]] * count, "before": []}))[0] == wanted)
     space = b" " * 67_108_864
@@ -398,17 +412,4 @@ def clients(folder):
 PARTS = (cuts, nesting, sums, limits, devices, streams, bodies, sources, clients)
 
 
-def main():
-    with tempfile.TemporaryDirectory() as top:
-        for part in PARTS:
-            if sys.argv[1:] and part.__name__ not in sys.argv[1:]:
-                continue
-            folder = f"{top}/{part.__name__}"
-            os.mkdir(folder)
-            began = time.monotonic()
-            part(folder)
-            print(f"{part.__name__}: {time.monotonic() - began:.0f} seconds", flush=True)
-    sys.exit(1 if failed else 0)
-
-
-main()
+run_parts(PARTS, sys.argv[1:])

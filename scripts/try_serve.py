@@ -21,30 +21,11 @@ import tempfile
 import threading
 import time
 
-ROOT = os.path.dirname(os.path.dirname(os.path.abspath(__file__)))
-PROGRAM = os.environ.get("ALLOCD_PROGRAM", f"{ROOT}/dist/allocd")
-KILLS = int(sys.argv[1]) if len(sys.argv) > 1 else 5
-failed = 0
+from allocd_service import PROGRAM, ROOT, free_port
+from parts import run_parts, tell
 
-
-def tell(name, holds, more=""):
-    global failed
-    failed += not holds
-    print(f"{'ok' if holds else 'NOT'}: {name}{': ' + str(more) if more != '' else ''}", flush=True)
-
-
-PORTS = set()
-
-
-def free_port():
-    """A port that is free and was not given before."""
-    while True:
-        with socket.socket() as it:
-            it.bind(("127.0.0.1", 0))
-            port = it.getsockname()[1]
-        if port not in PORTS:
-            PORTS.add(port)
-            return port
+WORDS = sys.argv[1:]
+KILLS = int(WORDS.pop(0)) if WORDS and WORDS[0].isdigit() else 5
 
 
 def ask(port, method, path, body=None):
@@ -1070,12 +1051,4 @@ PARTS = (
     kills_of_restarts, starts_at_once, renewals, long_journals, strangers, idle_clients, newcomers_at_the_end, slow_source, silent_source,
     full_disk, full_renewal,
 )
-wanted = sys.argv[2:]
-with tempfile.TemporaryDirectory() as top:
-    for part in PARTS:
-        if wanted and part.__name__ not in wanted:
-            continue
-        folder = f"{top}/{part.__name__}"
-        os.mkdir(folder)
-        part(folder)
-sys.exit(1 if failed else 0)
+run_parts(PARTS, WORDS)

@@ -1,10 +1,10 @@
 #!/usr/bin/env bash
 # Runs the built program once for each way to end, and compares what it writes and its exit status: no proof sees what
 # `main` makes of an ending, nor what a device does. Prints a line for each run, and ends with 0 where all are right.
-# usage: scripts/try_statuses.sh [PROGRAM]      (the launcher `allocd` where left out)
+# usage: scripts/try_statuses.sh [PROGRAM]      (ALLOCD_PROGRAM, or the launcher `allocd` where left out)
 set -u
 root=$(cd "$(dirname "$0")/.." && pwd)
-program=${1:-$root/allocd}
+program=${1:-${ALLOCD_PROGRAM:-$root/allocd}}
 one_of_two=$root/examples/one-of-two.json
 usage='usage: allocd check|plan|relabel|replay|audit|session|serve'
 bad=0

@@ -1,0 +1,65 @@
+#!/usr/bin/env python3
+"""Asks a service what docs/HTTP.md shows in its part *Each with an answer*, and compares what it says with what stands there: try_http.py
+
+A line for each request, and what was said in place of what stands there. It needs the program (ALLOCD_PROGRAM, or dist/allocd), and no curl."""
+
+import http.client
+import re
+import shlex
+import sys
+import tempfile
+import time
+
+from allocd_service import ROOT, Service, comes
+from parts import run_parts, tell
+
+CONFIG = {
+    "scrape_configs": [{"job_name": "node", "static_configs": [{"targets": ["h:1"]}]}, {"job_name": "serviceMonitor/default/app/0"}],
+    "allocator": {"settle": "100ms", "lifecycle": True},
+}
+PROMPT = "    $ curl "
+
+
+def exchanges():
+    """The words of each `curl` of the document, and the lines below it."""
+    with open(f"{ROOT}/docs/HTTP.md") as it:
+        part = it.read().split("### Each with an answer")[1].split("\n## ")[0]
+    for block in part.split(PROMPT)[1:]:
+        line, *answer = block.rstrip().split("\n")
+        yield line, [it[4:] for it in answer]
+
+
+def said(port, words):
+    """What curl would print of a request, in lines."""
+    method, body, url = "GET", None, words[-1]
+    for option, value in zip(words, words[1:]):
+        if option == "-X":
+            method = value
+        elif option == "-d":
+            method, body = "POST" if method == "GET" else method, value
+    it = http.client.HTTPConnection("127.0.0.1", port, timeout=30)
+    it.request(method, url[url.index("/") :], body=body)
+    answer = it.getresponse()
+    head = [f"HTTP/1.1 {answer.status} {answer.reason}", *(f"{name}: {value}" for name, value in answer.getheaders()), ""] if "-si" in words else []
+    text = answer.read().decode()
+    it.close()
+    return head + text.rstrip("\n").split("\n")
+
+
+def without_date(lines):
+    return [re.sub(r"^date: \w{3}, \d\d \w{3} \d{4} \d\d:\d\d:\d\d GMT$", "date", line) for line in lines]
+
+
+def transcript(folder):
+    service = Service(folder, CONFIG)
+    comes(lambda: service.ask("GET", "/-/ready")[0] == 200)
+    for line, wanted in exchanges():
+        # what was posted before may lead to another allocation
+        time.sleep(0.5)
+        found = said(service.port, shlex.split(line))
+        right = without_date(found) == without_date(wanted)
+        tell(f"curl {line}", right, "" if right else f"{found}, and not {wanted}")
+    tell("it ends with status 0", service.ended() == 0)
+
+
+run_parts([transcript], sys.argv[1:])
