@@ -1,8 +1,9 @@
 # shellcheck shell=bash
 # Read by ./allocd, scripts/release.sh and the scripts of bench/: which program to run, what it was made from, and how it is built.
 
-# The toolchain that all of this was proved with, as `rt version` says it.
-toolchain='rattle-kit-13b logic dac8208d650f15bf'
+# What all of this was proved by: the logic of the toolchain, which `rt version` says behind the name of its kit. Kits of other names with
+# the same logic prove the same.
+logic=dac8208d650f15bf
 
 # One hash over all that a build reads, whatever the dates of the files and their order in their folders.
 # usage: sources_hash ROOT
@@ -63,12 +64,16 @@ lanes() {
 # Whether the toolchain is there; says how to get it where it is not, and that it is another one where it is.
 has_toolchain() {
     if ! command -v rt > /dev/null; then
-        echo "allocd: to prove and build it takes \`rt\`, which is not on PATH. It is the command of the Rattle kit ${toolchain%% *}:" >&2
-        echo "allocd: unpack the kit and put its folder bin/ on PATH, so that \`rt version\` says '$toolchain'. It needs Python 3.8." >&2
+        echo "allocd: to prove and build it takes \`rt\`, which is not on PATH. It is the command of a Rattle kit of the logic $logic:" >&2
+        echo "allocd: unpack the kit and put its folder bin/ on PATH, so that \`rt version\` ends with 'logic $logic'. It needs Python 3.8." >&2
         return 1
     fi
-    [ "$(rt version)" = "$toolchain" ] ||
-        echo "allocd: \`rt version\` says '$(rt version)', and all of this was proved with '$toolchain'" >&2
+    local version
+    version=$(rt version)
+    case $version in
+        *" logic $logic") echo "allocd: proving with $version" >&2 ;;
+        *) echo "allocd: \`rt version\` says '$version', and all of this was proved with the logic $logic" >&2 ;;
+    esac
 }
 
 # Proves and builds a program over what earlier runs kept, and writes its record. Libraries that do not stand on one another are

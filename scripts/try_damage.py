@@ -8,6 +8,7 @@ import http.server
 import json
 import os
 import re
+import shutil
 import socket
 import struct
 import subprocess
@@ -255,10 +256,19 @@ def is_cut_off(words, text, whole):
     return whole.startswith(front) and status in ((3,) if len(whole) > 65_536 else (0, 1, 2, 3))
 
 
+def compiler():
+    """A C compiler: that of CC, the system's or the kit's, or None."""
+    kit = shutil.which("rt") and os.path.dirname(subprocess.run(["rt", "doc"], capture_output=True, text=True).stdout.strip())
+    return next(filter(None, map(shutil.which, (os.environ.get("CC", "cc"), "gcc", "clang", f"{kit}/toolchain/bin/clang"))), None)
+
+
 def streams(folder):
     """The N-th read or write of one byte each fails, for each N. What was taken before is a front of the answer, and nothing is written behind it."""
-    library = f"{folder}/fail_streams.so"
-    subprocess.run([os.environ.get("CC", "cc"), "-O2", "-shared", "-fPIC", "-o", library, f"{ROOT}/scripts/fail_streams.c"], check=True)
+    library, by = f"{folder}/fail_streams.so", compiler()
+    if by is None:
+        print("skipped: reads and writes that fail (there is no C compiler)")
+        return
+    subprocess.run([by, "-O2", "-shared", "-fPIC", "-nostdlib", "-o", library, f"{ROOT}/scripts/fail_streams.c"], check=True)
     for command, name in (*DOCUMENTS, ("replay", "two-rounds.replay"), ("replay", "renewed.replay")):
         text = example(name)
         whole = run([command], text)
@@ -268,6 +278,9 @@ def streams(folder):
         wrong = [at for at in range(1, count + 1) if failing(library, command, text, FAIL_WRITE=at) != (3, whole[1][: at - 1])]
         tell(f"{command}, {name}: each of {count} writes fails", not wrong, wrong[:3] or "")
         tell(f"{command}, {name}: byte by byte, and none fails", failing(library, command, text) == whole)
+        tell(f"{command}, {name}: each other read and write is interrupted", failing(library, command, text, INTERRUPT=1) == whole)
+    text = example("one-of-two.json") + b" " * 10_000
+    tell("check, ten thousand bytes more, each other read interrupted", failing(library, "check", text, INTERRUPT=1) == (0, b"best covered=1 moved=0\n"))
 
 
 def failing(library, command, text, **numbers):
