@@ -14,8 +14,6 @@ mod plan;
 mod relabelling;
 mod replay;
 mod runner;
-#[cfg(test)]
-mod tests;
 mod unreadable;
 
 use auditing::audit_files;
