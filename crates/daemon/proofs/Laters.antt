@@ -1,15 +1,14 @@
 -- States that events and renewals of the machine lead to.
-use Rattle.std.proofs.Common.{◌≡◌, List, [], ◌∷◌, ◌++◌, None, refl, sym, ap, subst, ◌∙◌}
+use Rattle.std.proofs.Common.{◌≡◌, List, [], ◌∷◌, ◌++◌, refl, sym, ap, subst, ◌∙◌}
 use Rattle.allocation_core.specs.State.{State}
 use Rattle.allocation_core.specs.Steps.{state_after}
 use Rattle.allocation_core.specs.Runs.{state_of}
-use Rattle.allocation_core.specs.Renewed.{renewal_refusal, renewed}
+use Rattle.allocation_core.specs.Renewed.{renewed}
 use Rattle.alloc_desk.specs.History.{IsLegal, events_in}
 use Rattle.alloc_desk.specs.declared.entry.Entry.{Entry}
-use Rattle.fleet.specs.declared.job.JobSpec.{JobSpec}
 use Rattle.fleet_events.specs.declared.event.Event.{Event}
 use Rattle.renewal.specs.Histories.{Stretch, AreGranted, stretch_end}
-use Rattle.daemon.specs.Later.{IsLater, end_of}
+use Rattle.service_tasks.specs.Later.{IsLater, end_of}
 
 run-append : (m : State) (es fs : List Event) → state_of m (es ++ fs) ≡ state_of (state_of m es) fs
 run-append m [] fs = refl
@@ -53,7 +52,3 @@ later_trans a b c x y =
 
 pub legal_is_later : (a b : State) (journal : List Entry) → IsLegal a journal b → IsLater a b
 legal_is_later a b journal legal = record { events = events_in journal; stretches = []; granted = tt; state = legal.state }
-
-pub renewed_is_later : (a b : State) (jobs : List JobSpec) → renewal_refusal a jobs ≡ None → b ≡ renewed a jobs → IsLater a b
-renewed_is_later a b jobs granted is =
-    record { events = []; stretches = record { jobs = jobs; events = [] } ∷ []; granted = (granted, tt); state = is }

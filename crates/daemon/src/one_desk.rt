@@ -1,33 +1,24 @@
 //! The service over one desk.
 ghost use Rattle.std.specs.Prelude.{◌≡◌, IfOk};
-ghost use Rattle.std.specs.Thread.{IsSend};
-ghost use Rattle.daemon.specs.Later.{IsLater};
+ghost use Rattle.service_tasks.specs.Later.{IsLater};
 
-use crate::configuration::Configuration;
-use crate::control::{Control, Ending};
-use crate::crew::Crew;
-use crate::journal_file::JournalFile;
-use crate::keeping::Keeper;
-use crate::office::Office;
-use crate::refreshing::Watch;
-use crate::scheduling::Schedule;
-use crate::service::Service;
-use crate::shared::Shared;
+use crate::running::Served;
 use alloc_desk::{Desk, DeskName, Pass};
 use allocation_core::Core;
 use http_get::Scrape;
-use sd_server::{DEFAULT_WORKERS, Handler, Kept, ListTexts, Times, Workers, serve_by_workers};
+use sd_server::{DEFAULT_WORKERS, Handler, ListTexts, Times, Workers};
+use service_state::Kept;
+use service_tasks::{Configuration, Crew, Ending, Office, Service, Shared};
 use std::alloc::{AllocError, AllocGlobal, Global};
 use std::fs::OpenFile;
+use std::io;
 use std::io::Write;
-use std::net::{Net, SocketAddr, TcpListener, TcpStream};
+use std::net::{Net, TcpListener, TcpStream};
 use std::random::RandomSource;
-use std::sync::atomic::{AtomicBool, AtomicU64, Ordering};
 use std::sync::ledger::{Blank, Ledger};
 use std::sync::{Arc, Mutex, Wait};
 use std::thread::Threads;
-use std::time::{Clock, Duration};
-use std::{io, thread};
+use std::time::Clock;
 
 /// How many passes a desk has: of the server, of the schedule, of the journal's file, and of the refresher.
 pub(crate) const SEATS: u32 = 4;
@@ -65,59 +56,120 @@ where
     requires samples { (samples.name ≡ B.name) × (samples.parts ≡ B.parts) × (B.parts ≡ SEATS) }
     ensures { IfOk result (λ r. IsLater N.opening r.0) }
 {
-    let Ok((desk, mut passes)) = Desk::<L, B, N>::open(alloc, core, SEATS, calls, samples) else {
-        return Err(AllocError.into());
-    };
+    match Desk::<L, B, N>::open(alloc, core, SEATS, calls, samples) {
+        Ok((desk, passes)) => serve_open(rt, alloc, service, office, desk, passes),
+        Err(_) => Err(AllocError.into()),
+    }
+}
+
+/// Serves over a desk with its passes.
+fn serve_open<R, L, B, N, S, F, C>(
+    rt: &R,
+    alloc: Global,
+    service: &Service,
+    office: &mut Office<S, F, C>,
+    desk: Desk<L, B, N>,
+    mut passes: Vec<Pass<L, B, N>>,
+) -> io::Result<(Core, Ending)>
+where
+    R: Wait
+        + Threads
+        + Clock
+        + Net<Listener = TcpListener, Stream = TcpStream>
+        + RandomSource
+        + AllocGlobal
+        + Eprint
+        + Sync
+        + Send
+        + Copy
+        + Drop,
+    L: Ledger + Send + Sync,
+    B: Ledger + Send + Sync,
+    N: DeskName + Send + Sync,
+    S: Scrape + Send + Drop,
+    F: Write + OpenFile + Send,
+    C: Configuration + Send + Drop,
+    ensures { IfOk result (λ r. IsLater N.opening r.0) }
+{
     let Some(asked) = passes.pop() else {
         return Err(AllocError.into());
     };
-    let Some(mut crew) = Crew::muster(passes) else {
+    let Some(crew) = Crew::muster(passes) else {
         return Err(AllocError.into());
     };
-    let handler = Handler {
+    match handler_of(rt, alloc, office, desk, asked) {
+        Ok(handler) => serve_by(rt, service, office, handler, crew),
+        Err(AllocError) => Err(AllocError.into()),
+    }
+}
+
+/// Serves over a handler's desk.
+fn serve_by<R, L, B, N, S, F, C>(
+    rt: &R,
+    service: &Service,
+    office: &mut Office<S, F, C>,
+    handler: Handler<R, L, B, N>,
+    mut crew: Crew<L, B, N>,
+) -> io::Result<(Core, Ending)>
+where
+    R: Wait
+        + Threads
+        + Clock
+        + Net<Listener = TcpListener, Stream = TcpStream>
+        + RandomSource
+        + AllocGlobal
+        + Eprint
+        + Sync
+        + Send
+        + Copy
+        + Drop,
+    L: Ledger + Send + Sync,
+    B: Ledger + Send + Sync,
+    N: DeskName + Send + Sync,
+    S: Scrape + Send + Drop,
+    F: Write + OpenFile + Send,
+    C: Configuration + Send + Drop,
+    ensures { IfOk result (λ r. IsLater N.opening r.0) }
+{
+    match run(rt, service, office, &handler, &mut crew) {
+        Ok(ending) => ended(handler, crew, ending),
+        Err(error) => Err(error),
+    }
+}
+
+/// What requests are handled with.
+fn handler_of<R: Wait + Copy, L: Ledger, B: Ledger, N: DeskName, S, F, C>(
+    rt: &R,
+    alloc: Global,
+    office: &Office<S, F, C>,
+    desk: Desk<L, B, N>,
+    asked: Pass<L, B, N>,
+) -> Result<Handler<R, L, B, N>, AllocError> {
+    let desk = shared(alloc, desk)?;
+    let pass = shared(alloc, Mutex::new(asked))?;
+    let kept = office.kept(rt, alloc)?;
+    let texts = shared(alloc, ListTexts::new(alloc))?;
+    let pages = Arc::try_clone(&office.pages)?;
+    let state = Arc::try_clone(&office.state)?;
+    Ok(Handler {
         rt: *rt,
         alloc,
-        desk: Arc::new(alloc, desk)?,
-        pass: Arc::new(alloc, Mutex::new(asked))?,
-        pages: Arc::try_clone(&office.pages)?,
-        state: Arc::try_clone(&office.state)?,
-        kept: kept_of(rt, alloc, &office.file)?,
-        texts: Arc::new(alloc, ListTexts::new(alloc))?,
-    };
-    let ending = run(rt, alloc, service, office, &handler, &mut crew)?;
-    let passes = crew.dismiss(alloc)?;
-    let core = closed(handler, passes)?;
-    Ok((core, ending))
+        desk,
+        pass,
+        pages,
+        state,
+        kept,
+        texts,
+    })
 }
 
-/// What tells how much of the journal is kept, where there is a file for it.
-fn kept_of<F>(
-    rt: &impl Wait,
-    alloc: Global,
-    file: &Option<JournalFile<F>>,
-) -> Result<Option<Arc<Kept>>, AllocError> {
-    let Some(file) = file else {
-        return Ok(None);
-    };
-    let kept = Arc::new(alloc, Kept::new())?;
-    if file.is_broken {
-        kept.fail(rt);
-    }
-    Ok(Some(kept))
-}
-
-/// Whether there is a journal's file, and another one is to begin.
-fn is_long<F>(file: &Option<JournalFile<F>>) -> bool {
-    match file {
-        Some(file) => file.is_long(),
-        None => false,
-    }
+fn shared<T: Drop>(alloc: Global, value: T) -> Result<Arc<T>, AllocError> {
+    Ok(Arc::new(alloc, value)?)
 }
 
 /// Runs the threads of a desk, and says why it is to be closed.
 fn run<R, L, B, N, S, F, C>(
     rt: &R,
-    alloc: Global,
     service: &Service,
     office: &mut Office<S, F, C>,
     handler: &Handler<R, L, B, N>,
@@ -142,175 +194,48 @@ where
     F: Write + OpenFile + Send,
     C: Configuration + Send + Drop,
 {
-    let workers = Workers::new(alloc, DEFAULT_WORKERS, Times::DEFAULT)?;
+    let workers = Workers::new(handler.alloc, DEFAULT_WORKERS, Times::DEFAULT)?;
     let here = office.listener.local_addr()?;
-    let shared = Shared {
+    let shared = shared_by(rt, service, office, handler)?;
+    shared.begin(&mut crew.scheduler, service, office)?;
+    let served = Served {
         rt: *rt,
-        alloc,
-        desk: Arc::try_clone(&handler.desk)?,
-        round: Duration::from_millis(service.settings.scrape_interval),
-        settle: Duration::from_millis(service.settings.settle),
-        absence: service
-            .settings
-            .collector_timeout
-            .map(Duration::from_millis),
-        control: Control::new(),
-        state: Arc::try_clone(&handler.state)?,
-        listed: AtomicU64::new(0),
-        is_long: AtomicBool::new(is_long(&office.file)),
-        kept: Kept::shared(&handler.kept)?,
+        alloc: handler.alloc,
+        shared: &shared,
+        handler,
+        workers: &workers,
+        here,
     };
-    if shared.is_broken() {
-        // What the configuration begins with is left to the next start.
-        shared.state.break_down();
-    } else if office.is_new {
-        shared.state.forget_sources(rt);
-        shared.enter_static_groups(&mut crew.scheduler, service.jobs())?;
-        let collectors = service.settings.collectors.as_slice();
-        shared.enter_collectors(&mut crew.scheduler, collectors)?;
-        office.is_new = false;
-    }
-    shared.run(office, &workers, here, handler, crew)?;
-    Ok(shared.control.ending(rt).unwrap_or(Ending::Quit))
+    served.run(office, crew)?;
+    Ok(shared.ending())
 }
 
-impl<R, L, B, N> Shared<R, L, B, N>
-where
-    R: Wait
-        + Threads
-        + Clock
-        + Net<Listener = TcpListener, Stream = TcpStream>
-        + RandomSource
-        + AllocGlobal
-        + Eprint
-        + Sync
-        + Send
-        + Copy
-        + Drop,
-    L: Ledger + Send + Sync,
-    B: Ledger + Send + Sync,
-    N: DeskName + Send + Sync,
+/// What the threads over a handler's desk share.
+fn shared_by<R: Wait + Copy, L: Ledger, B: Ledger, N: DeskName, S, F, C>(
+    rt: &R,
+    service: &Service,
+    office: &Office<S, F, C>,
+    handler: &Handler<R, L, B, N>,
+) -> Result<Shared<R, L, B, N>, AllocError> {
+    let desk = Arc::try_clone(&handler.desk)?;
+    let kept = Kept::shared(&handler.kept)?;
+    Shared::new(rt, handler.alloc, service, office, desk, kept)
+}
+
+/// Closes the desk of a handler and a crew whose threads have ended.
+fn ended<R: Drop, L: Ledger, B: Ledger, N: DeskName>(
+    handler: Handler<R, L, B, N>,
+    crew: Crew<L, B, N>,
+    ending: Ending,
+) -> io::Result<(Core, Ending)>
+    ensures { IfOk result (λ r. IsLater N.opening r.0) }
 {
-    /// Runs the threads: that which keeps the journal ends once all others have.
-    fn run<S: Scrape + Send + Drop, F: Write + OpenFile + Send, C: Configuration + Send + Drop>(
-        &self,
-        office: &mut Office<S, F, C>,
-        workers: &Workers,
-        here: SocketAddr,
-        handler: &Handler<R, L, B, N>,
-        crew: &mut Crew<L, B, N>,
-    ) -> io::Result<()> {
-        let Office {
-            listener,
-            schedule,
-            watch,
-            file,
-            ..
-        } = office;
-        let Crew {
-            scheduler,
-            keeper,
-            refresher,
-        } = crew;
-        let is_last = AtomicBool::new(false);
-        let ((), served) = thread::join(
-            &self.rt,
-            || self.keep(keeper, file, &is_last),
-            || -> io::Result<()>
-                requires { IsSend L.row × IsSend B.row × IsSend N.row × IsSend S.row × IsSend C.row }
-            {
-                let served = self.run_others(
-                    listener, workers, here, handler, scheduler, schedule, refresher, watch,
-                );
-                is_last.store(true, Ordering::SeqCst);
-                served
-            },
-        );
-        served
-    }
-
-    /// Runs the threads but that which keeps the journal. Where another desk follows, requests are answered until a refresh that has begun
-    /// has ended, too.
-    fn run_others<S: Scrape + Send + Drop, C: Configuration + Send>(
-        &self,
-        listener: &TcpListener,
-        workers: &Workers,
-        here: SocketAddr,
-        handler: &Handler<R, L, B, N>,
-        scheduler: &mut Pass<L, B, N>,
-        schedule: &mut Schedule<C>,
-        refresher: &mut Pass<L, B, N>,
-        watch: &mut Watch<S>,
-    ) -> io::Result<()> {
-        let (served, ((), ())) = thread::join(
-            &self.rt,
-            || self.serve(listener, workers, handler),
-            || -> ((), ())
-                requires { IsSend L.row × IsSend B.row × IsSend N.row × IsSend S.row × IsSend C.row }
-            {
-                let ended = thread::join(
-                    &self.rt,
-                    || self.schedule(workers, here, scheduler, schedule),
-                    || self.refresh_sources(refresher, watch),
-                );
-                if !self.is_quitting() {
-                    workers.stop(&self.rt, here);
-                }
-                ended
-            },
-        );
-        served
-    }
-
-    /// Opens rounds and reallocates until the desk is to be closed. Where the service is to end, no request is taken from then on.
-    fn schedule<C: Configuration>(
-        &self,
-        workers: &Workers,
-        here: SocketAddr,
-        pass: &mut Pass<L, B, N>,
-        schedule: &mut Schedule<C>,
-    ) {
-        self.keep_schedule(pass, schedule);
-        if self.is_quitting() {
-            workers.stop(&self.rt, here);
-        }
-    }
-
-    /// Whether the desk is closed since the service is to end.
-    fn is_quitting(&self) -> bool {
-        self.control.ending(&self.rt) == Some(Ending::Quit)
-    }
-
-    /// Answers requests until the workers are stopped. Where no server can be, the service ends.
-    fn serve(
-        &self,
-        listener: &TcpListener,
-        workers: &Workers,
-        handler: &Handler<R, L, B, N>,
-    ) -> io::Result<()> {
-        let served = serve_by_workers(&self.rt, self.alloc, workers, listener, handler);
-        self.control.end(&self.rt, Ending::Quit);
-        served
-    }
-
-    /// Keeps the journal, where there is a file for it.
-    fn keep<F: Write + OpenFile>(
-        &self,
-        pass: &mut Pass<L, B, N>,
-        file: &mut Option<JournalFile<F>>,
-        is_last: &AtomicBool,
-    ) {
-        if let (Some(file), Some(kept)) = (file, &self.kept) {
-            if file.is_broken {
-                return;
-            }
-            self.keep_journal(&mut Keeper {
-                pass,
-                file,
-                kept,
-                is_last,
-            });
-        }
+    match crew.dismiss(handler.alloc) {
+        Ok(passes) => match closed(handler, passes) {
+            Ok(core) => Ok((core, ending)),
+            Err(error) => Err(error),
+        },
+        Err(AllocError) => Err(AllocError.into()),
     }
 }
 

@@ -1,18 +1,13 @@
 //! A service from its beginning to its end.
 ghost use Rattle.std.specs.Prelude.{◌≡◌, IfOk};
-ghost use Rattle.daemon.specs.Later.{IsLater};
+ghost use Rattle.service_tasks.specs.Later.{IsLater};
 
-use crate::configuration::Configuration;
-use crate::control::Ending;
-use crate::journal_file::JournalFile;
-use crate::office::Office;
 use crate::one_desk::{SEATS, serve_desk};
-use crate::renewing::continued;
-use crate::service::Service;
 use allocation_core::Core;
 use durable_journal::Archive;
 use http_get::Scrape;
 use scrape_client::HyperScrape;
+use service_tasks::{Configuration, Ending, JournalFile, Office, Service, continued};
 use std::alloc::{AllocGlobal, Global};
 use std::fs::OpenFile;
 use std::io;
@@ -23,11 +18,10 @@ use std::random::RandomSource;
 use std::sync::Wait;
 use std::sync::ledger::Blank;
 use std::thread::Threads;
-use std::time::{Clock, Duration};
+use std::time::Clock;
 
 /// Serves over an allocator until the service is to end, and gives the allocator back as it is then. The file, where there is one, is
 /// that of its journal, and the archive begins the journals after it. The configuration is read again when a request asks for it.
-#[tactic(auto, using(crate::proofs::Laters::later_trans, crate::proofs::Laters::later_refl))]
 pub fn serve<R, F, A, C>(
     rt: &R,
     alloc: Global,
@@ -55,17 +49,52 @@ where
     C: Configuration + Send + Drop,
     ensures { IfOk result (IsLater core) }
 {
-    let limit = Duration::from_millis(service.settings.fetch_timeout);
+    let limit = service.fetch_timeout();
     let scrape = HyperScrape::new(*rt, limit);
-    let mut office = Office::open(rt, alloc, &service, listener, file, scrape, configuration)?;
-    let mut service = service;
+    match Office::open(rt, alloc, &service, listener, file, scrape, configuration) {
+        Ok(mut office) => {
+            let mut service = service;
+            serve_desks(rt, alloc, &mut service, &mut office, archive, core)
+        }
+        Err(error) => Err(error),
+    }
+}
+
+/// Serves over a desk after the other until the service is to end.
+#[tactic(auto, using(crate::proofs::Laters::later_trans, crate::proofs::Laters::later_refl))]
+fn serve_desks<R, S, F, A, C>(
+    rt: &R,
+    alloc: Global,
+    service: &mut Service,
+    office: &mut Office<S, F, C>,
+    archive: &mut A,
+    core: Core,
+) -> io::Result<Core>
+where
+    R: Wait
+        + Threads
+        + Clock
+        + Net<Listener = TcpListener, Stream = TcpStream>
+        + RandomSource
+        + AllocGlobal
+        + Eprint
+        + Sync
+        + Send
+        + Copy
+        + Drop,
+    S: Scrape + Send + Drop,
+    F: Write + OpenFile + Send + Drop,
+    A: Archive<F>,
+    C: Configuration + Send + Drop,
+    ensures { IfOk result (IsLater core) }
+{
     let mut core = core;
     for _turn in rt.forever() {
-        let (later, ending) = serve_once(rt, alloc, &service, &mut office, core)?;
+        let (later, ending) = serve_once(rt, alloc, service, office, core)?;
         if ending == Ending::Quit {
             return Ok(later);
         }
-        core = continued(rt, alloc, &mut service, &mut office, archive, later)?;
+        core = continued(rt, alloc, service, office, archive, later)?;
     }
     unreachable!()
 }

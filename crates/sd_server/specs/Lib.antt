@@ -1,4 +1,3 @@
-pub mod Jobs
 pub mod Replies
 pub mod Says
 pub mod Listing

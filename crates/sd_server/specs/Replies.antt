@@ -16,7 +16,7 @@ use Rattle.sd_routes.specs.declared.request_error.RequestError.TheVariants.{TooL
 use Rattle.sd_routes.specs.declared.responding.Said.{Said}
 use Rattle.sd_routes.specs.declared.responding.Said.TheVariants.{Refused}
 use Rattle.sd_server.specs.Says.{Says}
-use Rattle.sd_server.specs.declared.config_pages.ConfigPages.{ConfigPages}
+use Rattle.service_state.specs.declared.config_pages.ConfigPages.{ConfigPages}
 use Rattle.sd_server.specs.declared.reply.Reply.{Reply}
 use Rattle.sd_server.specs.declared.reply.Stage.{Stage}
 use Rattle.sd_server.specs.declared.reply.Stage.TheVariants as stage

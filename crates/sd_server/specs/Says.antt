@@ -22,9 +22,9 @@ use Rattle.sd_routes.specs.declared.request_error.RequestError.{RequestError}
 use Rattle.sd_routes.specs.declared.request_error.RequestError.TheVariants.{JournalFull, NotKept, Memory}
 use Rattle.sd_routes.specs.declared.responding.Said.{Said}
 use Rattle.sd_routes.specs.declared.responding.Said.TheVariants.{Answer as Answered, Page, Taken, Refused, Notice as Noticed, Metrics, Document, NotReloaded}
-use Rattle.sd_server.specs.Jobs.{place_of}
+use Rattle.service_state.specs.Jobs.{place_of}
 use Rattle.sd_server.specs.Texts.{certificate_text, groups_text, job_text}
-use Rattle.sd_server.specs.declared.config_pages.ConfigPages.{ConfigPages}
+use Rattle.service_state.specs.declared.config_pages.ConfigPages.{ConfigPages}
 
 -- this holds of some history that is legal from the opening state
 abbrev pub OfSome : State → (History → Type 0) → Type 0

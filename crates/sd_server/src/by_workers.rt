@@ -110,9 +110,41 @@ where
 {
     let mut runtime = LocalRuntime::new(rt)?;
     let routes = Arc::new(rt.alloc(), Routes::open(rt.alloc())?)?;
+    let http = builder(rt, &runtime, workers)?;
+    serve_each(rt, &mut runtime, &http, &routes, workers, listener, handler)
+}
+
+/// How connections are read, with the limit of time for a head.
+fn builder<R: Clock + RandomSource + AllocGlobal + Copy>(
+    rt: &R,
+    runtime: &LocalRuntime,
+    workers: &Workers,
+) -> io::Result<http1::Builder<TokioTimer<R>>> {
     let timer = TokioTimer::new(*rt, runtime.handle().time().clone()?);
     let mut http = http1::Builder::new(rt.alloc(), RandomState::new(rt)?).timer(timer);
     http.header_read_timeout(Some(Duration::from_millis(workers.times().head)));
+    Ok(http)
+}
+
+/// Serves one connection after the other until the workers are told to stop.
+fn serve_each<R, L: Ledger, B: Ledger, N: DeskName>(
+    rt: &R,
+    runtime: &mut LocalRuntime,
+    http: &http1::Builder<TokioTimer<R>>,
+    routes: &Arc<Routes>,
+    workers: &Workers,
+    listener: &TcpListener,
+    handler: &Handler<R, L, B, N>,
+) -> io::Result<()>
+where
+    R: Wait
+        + Clock
+        + Net<Listener = TcpListener, Stream = TcpStream>
+        + RandomSource
+        + AllocGlobal
+        + Copy
+        + Drop,
+{
     for _ in rt.forever() {
         if workers.is_stopped() {
             return Ok(());
@@ -122,7 +154,7 @@ where
                 workers.hold();
                 handler.state.begin_connection();
                 // A connection that failed is dropped, and the next is served.
-                drop(serve_one(rt, &mut runtime, &http, stream, handler, &routes, workers));
+                drop(serve_one(rt, runtime, http, stream, handler, routes, workers));
                 handler.state.end_connection();
                 workers.release();
             }
@@ -149,15 +181,29 @@ where
         return Ok(());
     }
     let twin = stream.try_clone()?;
-    let service = AllocatorService {
-        handler: handler.another()?,
-        routes: Arc::try_clone(routes)?,
-    };
-    let service = Paced::new(service, Arc::try_clone(&limits.exchanges)?);
+    serve_stream(rt, runtime, http, stream, handler, routes, limits)?;
+    linger(rt, &twin, workers.is_stopped())
+}
+
+/// Serves a connection within its limits.
+fn serve_stream<R, L: Ledger, B: Ledger, N: DeskName>(
+    rt: &R,
+    runtime: &mut LocalRuntime,
+    http: &http1::Builder<TokioTimer<R>>,
+    stream: TcpStream,
+    handler: &Handler<R, L, B, N>,
+    routes: &Arc<Routes>,
+    limits: Limits<'_, R>,
+) -> io::Result<()>
+where
+    R: Wait + Clock + RandomSource + AllocGlobal + Copy + Drop,
+{
+    let exchanges = Arc::try_clone(&limits.exchanges)?;
+    let service = Paced::new(AllocatorService::of(handler, routes)?, exchanges);
     let socket = Spoken::new(tokio::net::TcpStream::from_std(stream, runtime.handle().reactor())?);
     let conn = http.serve_connection(socket, service);
     runtime.block_on(rt, Timed::new(conn, limits))?;
-    linger(rt, &twin, workers.is_stopped())
+    Ok(())
 }
 
 /// The limits of a connection that begins now.

@@ -3,14 +3,12 @@ ghost use Rattle.std.specs.Prelude.{◌≡◌, IfOk, IfErr};
 ghost use Rattle.std.specs.Arc.{arc_value};
 ghost use Rattle.fleet.specs.Fleet.{id_named};
 ghost use Rattle.alloc_desk.specs.Views.{numbered_of, shares_of};
-ghost use Rattle.sd_server.specs.Jobs.{place_of};
+ghost use Rattle.service_state.specs.Jobs.{place_of};
 ghost use Rattle.sd_server.specs.Texts.{certificate_text, job_text};
 ghost use Rattle.sd_server.specs.Listing.{IsGroups};
 ghost use Rattle.sd_server.specs.Says.{IsEntered, IsUncoveredText, OfSome, Says, SaysCollector, SaysCopy, SaysDocument, SaysEvent, SaysHeld, SaysJob, SaysListed, SaysMetrics, SaysNot, SaysPage, SaysQuit, SaysReady, SaysReload, SaysTake, SaysText, SaysUncovered};
 
 use crate::certificate_page::certificate_page;
-use crate::config_pages::ConfigPages;
-use crate::kept::Kept;
 use crate::list_text::ListText;
 use crate::list_texts::ListTexts;
 use crate::uncovered::{Uncovered, uncovered_of};
@@ -23,7 +21,9 @@ use reach_rules::CollectorName;
 use sd_routes::{
     Ask, Notice, RequestError, Said, event_of, job_page, targets_page, uncovered_page,
 };
-use service_state::{EventKind, Figures, ServiceState, figures_of, metrics_page, status_page};
+use service_state::{
+    ConfigPages, EventKind, Figures, Kept, ServiceState, figures_of, metrics_page, status_page,
+};
 use std::alloc::{AllocError, Global};
 use std::sync::ledger::Ledger;
 use std::sync::{Arc, Mutex, Wait};

@@ -7,9 +7,7 @@
 
 mod by_workers;
 mod certificate_page;
-mod config_pages;
 mod handler;
-mod kept;
 mod lingering;
 mod list_text;
 mod list_texts;
@@ -24,9 +22,7 @@ mod uncovered;
 mod workers;
 
 pub use by_workers::serve_by_workers;
-pub use config_pages::ConfigPages;
 pub use handler::Handler;
-pub use kept::Kept;
 pub use list_texts::ListTexts;
 pub use one_by_one::serve_one_by_one;
 pub use reply::{LONGEST_BODY, Reply};

@@ -12,7 +12,7 @@ use std::sync::atomic::{AtomicBool, Ordering};
 use std::sync::ledger::Ledger;
 use std::sync::{Arc, Wait};
 use std::time::{Clock, Duration};
-use tokio::net::TcpListener;
+use tokio::net::{TcpListener, TcpStream};
 use tokio::runtime::LocalRuntime;
 
 /// How long one connection may take.
@@ -32,22 +32,47 @@ where
     let mut http = http1::Builder::new(rt.alloc(), RandomState::new(rt)?);
     http.keep_alive(false);
     let routes = Arc::new(rt.alloc(), Routes::open(rt.alloc())?)?;
+    serve_each(rt, runtime, &mut listener, &http, handler, &routes, stop)
+}
+
+fn serve_each<R, L: Ledger, B: Ledger, N: DeskName>(
+    rt: &R,
+    runtime: &mut LocalRuntime,
+    listener: &mut TcpListener,
+    http: &http1::Builder,
+    handler: &Handler<R, L, B, N>,
+    routes: &Arc<Routes>,
+    stop: &AtomicBool,
+) -> io::Result<()>
+where
+    R: Wait + Clock + RandomSource + AllocGlobal + Copy + Drop,
+{
     for _ in rt.forever() {
         let (socket, _from) = runtime.block_on(rt, listener.accept())??;
         if stop.load(Ordering::SeqCst) {
             return Ok(());
         }
-        let service = AllocatorService {
-            handler: handler.another()?,
-            routes: Arc::try_clone(&routes)?,
-        };
-        let conn = http.serve_connection(socket, service);
-        let timed = runtime
-            .handle()
-            .time()
-            .timeout(rt, Duration::from_secs(LONGEST_SECONDS), conn)?;
-        // A connection that took too long or failed is dropped, and the next is served.
-        let _ = runtime.block_on(rt, timed)?;
+        serve_one(rt, runtime, http, socket, handler, routes)?;
     }
     unreachable!()
+}
+
+fn serve_one<R, L: Ledger, B: Ledger, N: DeskName>(
+    rt: &R,
+    runtime: &mut LocalRuntime,
+    http: &http1::Builder,
+    socket: TcpStream,
+    handler: &Handler<R, L, B, N>,
+    routes: &Arc<Routes>,
+) -> io::Result<()>
+where
+    R: Wait + Clock + RandomSource + AllocGlobal + Copy + Drop,
+{
+    let service = AllocatorService::of(handler, routes)?;
+    let conn = http.serve_connection(socket, service);
+    let longest = Duration::from_secs(LONGEST_SECONDS);
+    let timed = runtime.handle().time().timeout(rt, longest, conn)?;
+    // A connection that took too long or failed is dropped, and the next is served.
+    let _ = runtime.block_on(rt, timed)?;
+    Ok(())
 }

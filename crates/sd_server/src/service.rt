@@ -36,6 +36,16 @@ enum Begun {
 }
 
 impl<R: Wait + Clock + Copy, L: Ledger, B: Ledger, N: DeskName> AllocatorService<R, L, B, N> {
+    /// Another for the same desk.
+    pub(crate) fn of(
+        handler: &Handler<R, L, B, N>,
+        routes: &Arc<Routes>,
+    ) -> Result<AllocatorService<R, L, B, N>, AllocError> {
+        let routes = Arc::try_clone(routes)?;
+        let handler = handler.another()?;
+        Ok(AllocatorService { handler, routes })
+    }
+
     fn begin(&self, head: &Parts) -> Begun
         ensures { Begins N.opening (arc_value self.now.handler.pages) (asked head.now.method (uri_path head.now.uri) (uri_query head.now.uri)) result }
     {

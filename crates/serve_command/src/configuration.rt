@@ -1,8 +1,8 @@
 //! The configuration file, as the service reads it again.
 use crate::documents::{read_document, service_in};
-use daemon::{Configuration, Service};
 use journal_files::Fault;
 use lists::Text;
+use service_tasks::{Configuration, Service};
 use std::alloc::{AllocError, Global};
 
 /// The configuration file at a path.

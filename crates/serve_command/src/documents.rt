@@ -1,11 +1,11 @@
 //! The configuration file.
 use crate::faults::{all_faults, document_fault};
-use daemon::{Service, ServiceError};
 use durable_journal::configuration_line;
 use journal_files::Fault;
 use lists::Text;
 use sd_documents::{Config, SdError, read_config};
 use service_settings::{Settings, SettingsError, read_settings};
+use service_tasks::{Service, ServiceError};
 use std::alloc::{AllocError, Global};
 use std::fs::File;
 use std::io;

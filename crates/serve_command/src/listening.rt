@@ -1,9 +1,9 @@
 //! Where the service listens.
-use daemon::Service;
 use journal_files::Fault;
 use log::error;
 use logfmt::Logfmt;
 use service_settings::{Address, ServeOptions, address_of};
+use service_tasks::Service;
 use std::alloc::AllocGlobal;
 use std::net::{Ipv4Addr, Net, SocketAddr, TcpListener, TcpStream};
 use std::time::Clock;

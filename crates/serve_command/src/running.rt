@@ -1,10 +1,10 @@
 //! The service over the allocator of its journal.
 use crate::configuration::ConfigurationFile;
 use allocation_core::Core;
-use daemon::{JournalFile, Service};
 use journal_files::{Fault, Journals, Opened, open_allocator};
 use log::{error, info};
 use logfmt::{Logfmt, Quoted};
+use service_tasks::{JournalFile, Service};
 use std::alloc::{AllocGlobal, Global};
 use std::fs::File;
 use std::io;

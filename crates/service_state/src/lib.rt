@@ -1,19 +1,24 @@
-//! What a service says of itself: what it counts and notes while it runs, its metrics, its page for people, and how a request has it read
-//! its configuration again.
+//! What the threads of a service share with those that answer requests: what it counts and notes while it runs, its metrics, its page for
+//! people, the pages of its configuration, how much of its journal is kept, and how a request has it read its configuration again.
 //!
-//! Contracts say nothing of figures: they are what the threads of a service wrote, and what a desk showed.
+//! Contracts say what the pages of a configuration are. They say nothing of figures: these are what the threads of a service wrote, and
+//! what a desk showed.
 #![tactic(auto)]
 
+mod config_pages;
 mod counts;
 mod figures;
+mod kept;
 mod metrics;
 mod notes;
 mod page;
 mod reloading;
 mod service_state;
 
+pub use config_pages::ConfigPages;
 pub use counts::EventKind;
 pub use figures::{Figures, figures_of};
+pub use kept::Kept;
 pub use metrics::metrics_page;
 pub use notes::{AllocationNote, Notes, SourceNote};
 pub use page::status_page;

@@ -1,6 +1,6 @@
 use Rattle.std.proofs.Common.{subst, sym}
 use Rattle.allocation_core.specs.State.{State}
-use Rattle.daemon.specs.Later.{IsLater}
+use Rattle.service_tasks.specs.Later.{IsLater}
 use Rattle.daemon.proofs.Laters.{legal_is_later}
 use Rattle.daemon.proofs.one_desk.closed.Goals as goal
 

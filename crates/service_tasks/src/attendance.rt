@@ -1,4 +1,5 @@
 //! Collectors that take nothing for long: they are drained, and then they leave.
+use crate::logging::log_warning;
 use crate::scheduling::Schedule;
 use crate::shared::Shared;
 use alloc_desk::{DeskName, Entry, Pass, Record};
@@ -149,7 +150,7 @@ impl<R: Wait + Clock + Eprint + Copy, L: Ledger, B: Ledger, N: DeskName> Shared<
             .dismiss_after(pass, &mut schedule.attendance, limit, now)
             .is_err()
         {
-            warn!(Logfmt(self.rt); "no memory to see which collectors are absent");
+            log_warning(&self.rt, "no memory to see which collectors are absent");
         }
     }
 
@@ -180,9 +181,13 @@ impl<R: Wait + Clock + Eprint + Copy, L: Ledger, B: Ledger, N: DeskName> Shared<
         match self.enter(pass, event) {
             Some(Answer::Not(_)) | None => {}
             Some(answer) => {
-                warn!(Logfmt(self.rt); collector; "a collector took nothing for long");
+                self.log_absence(collector);
                 self.log_answer("an absent collector", &answer);
             }
         }
+    }
+
+    fn log_absence(&self, collector: CollectorId) {
+        warn!(Logfmt(self.rt); collector; "a collector took nothing for long");
     }
 }

@@ -1,38 +1,36 @@
 //! What a service keeps from one desk to the next.
 use crate::configuration::Configuration;
 use crate::journal_file::JournalFile;
+use crate::logging::log_warning;
 use crate::refreshing::Watch;
 use crate::scheduling::Schedule;
 use crate::service::Service;
 use crate::source::Source;
 use http_get::Scrape;
-use log::warn;
-use logfmt::Logfmt;
-use sd_server::ConfigPages;
-use service_state::ServiceState;
+use service_state::{ConfigPages, Kept, ServiceState};
 use std::alloc::{AllocError, Global};
 use std::io;
 use std::net::TcpListener;
-use std::sync::Arc;
+use std::sync::{Arc, Wait};
 use std::time::{Clock, Instant};
 
 /// What a service keeps from one desk to the next: where it listens, its sources as they are watched, and what it says of itself.
 #[derive(Drop)]
-pub(crate) struct Office<S, F, C> {
-    pub(crate) listener: TcpListener,
-    pub(crate) pages: Arc<ConfigPages>,
-    pub(crate) state: Arc<ServiceState>,
-    pub(crate) schedule: Schedule<C>,
-    pub(crate) watch: Watch<S>,
+pub struct Office<S, F, C> {
+    pub listener: TcpListener,
+    pub pages: Arc<ConfigPages>,
+    pub state: Arc<ServiceState>,
+    pub schedule: Schedule<C>,
+    pub watch: Watch<S>,
     /// The journal's file.
-    pub(crate) file: Option<JournalFile<F>>,
+    pub file: Option<JournalFile<F>>,
     /// Whether no desk was opened yet for the configuration.
     pub(crate) is_new: bool,
 }
 
 impl<S: Scrape + Drop, F: Drop, C: Configuration + Drop> Office<S, F, C> {
     /// The office of a service that begins.
-    pub(crate) fn open<R: Clock>(
+    pub fn open<R: Clock>(
         rt: &R,
         alloc: Global,
         service: &Service,
@@ -63,7 +61,7 @@ impl<S: Scrape + Drop, F: Drop, C: Configuration + Drop> Office<S, F, C> {
 
     /// Tells that the configuration that was read last is not followed.
     pub(crate) fn refuse<R: Clock + Eprint + Copy>(&self, rt: &R) {
-        warn!(Logfmt(*rt); "no memory to follow the configuration");
+        log_warning(rt, "no memory to follow the configuration");
         self.state.set_reloaded(false);
     }
 
@@ -78,6 +76,28 @@ impl<S: Scrape + Drop, F: Drop, C: Configuration + Drop> Office<S, F, C> {
         self.watch.sources = sources;
         self.is_new = true;
         Ok(())
+    }
+}
+
+impl<S, F, C> Office<S, F, C> {
+    /// Whether there is a journal's file, and another one is to begin.
+    pub(crate) fn is_long(&self) -> bool {
+        match &self.file {
+            Some(file) => file.is_long(),
+            None => false,
+        }
+    }
+
+    /// What tells how much of the journal is kept, where there is a file for it.
+    pub fn kept(&self, rt: &impl Wait, alloc: Global) -> Result<Option<Arc<Kept>>, AllocError> {
+        let Some(file) = &self.file else {
+            return Ok(None);
+        };
+        let kept = Arc::new(alloc, Kept::new())?;
+        if file.is_broken {
+            kept.fail(rt);
+        }
+        Ok(Some(kept))
     }
 }
 

@@ -1,4 +1,6 @@
 //! What a service enters before it serves.
+use crate::office::Office;
+use crate::service::Service;
 use crate::shared::Shared;
 use alloc_desk::{DeskName, Pass};
 use allocation_core::Core;
@@ -13,8 +15,27 @@ use std::sync::ledger::Ledger;
 use std::time::Clock;
 
 impl<R: Wait + Clock + Eprint + Copy, L: Ledger, B: Ledger, N: DeskName> Shared<R, L, B, N> {
+    /// Enters what a configuration begins with, where no desk was opened for it yet. Where nothing can be kept, that is left to the next
+    /// start.
+    pub fn begin<S, F, C>(
+        &self,
+        pass: &mut Pass<L, B, N>,
+        service: &Service,
+        office: &mut Office<S, F, C>,
+    ) -> Result<(), AllocError> {
+        if self.is_broken() {
+            self.state.break_down();
+        } else if office.is_new {
+            self.state.forget_sources(&self.rt);
+            self.enter_static_groups(pass, service.jobs())?;
+            self.enter_collectors(pass, service.settings.collectors.as_slice())?;
+            office.is_new = false;
+        }
+        Ok(())
+    }
+
     /// Enters the static groups of each job, where it has some or had some.
-    pub(crate) fn enter_static_groups(
+    fn enter_static_groups(
         &self,
         pass: &mut Pass<L, B, N>,
         jobs: &[Job],
@@ -38,7 +59,7 @@ impl<R: Wait + Clock + Eprint + Copy, L: Ledger, B: Ledger, N: DeskName> Shared<
     }
 
     /// Has the collectors of the settings join that are not live.
-    pub(crate) fn enter_collectors(
+    fn enter_collectors(
         &self,
         pass: &mut Pass<L, B, N>,
         collectors: &[Collector],

@@ -1,4 +1,4 @@
-use Rattle.daemon.proofs.serving.serve.Goals as goal
+use Rattle.daemon.proofs.serving.serve_desks.Goals as goal
 use Rattle.daemon.proofs.Laters.{later_trans}
 
 pub returns-then-eq : goal.returns-then-eq

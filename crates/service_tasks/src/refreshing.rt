@@ -1,4 +1,5 @@
 //! The threads that refresh what discovery sources list.
+use crate::logging::log_warning;
 use crate::shared::Shared;
 use crate::source::Source;
 use alloc_desk::{DeskName, Pass};
@@ -21,7 +22,7 @@ const LONGEST_WAIT: u64 = 3_600;
 
 /// The sources of a service, and the device that asks them.
 #[derive(Drop)]
-pub(crate) struct Watch<S> {
+pub struct Watch<S> {
     /// The jobs of the configuration.
     pub(crate) jobs: Arc<List<Job>>,
     pub(crate) scrape: S,
@@ -30,11 +31,7 @@ pub(crate) struct Watch<S> {
 
 impl<R: Wait + Clock + Eprint + Copy, L: Ledger, B: Ledger, N: DeskName> Shared<R, L, B, N> {
     /// Refreshes each source when it is due, one after the other, until the desk is to be closed.
-    pub(crate) fn refresh_sources<S: Scrape>(
-        &self,
-        pass: &mut Pass<L, B, N>,
-        watch: &mut Watch<S>,
-    ) {
+    pub fn refresh_sources<S: Scrape>(&self, pass: &mut Pass<L, B, N>, watch: &mut Watch<S>) {
         for _ in self.rt.forever() {
             let wait = self.refresh_due(pass, watch);
             if self.control.is_ended_within(&self.rt, wait) {
@@ -93,11 +90,14 @@ impl<R: Wait + Clock + Eprint + Copy, L: Ledger, B: Ledger, N: DeskName> Shared<
             Ok(event) => self.submit_news(pass, job.name.as_str(), source, event),
             Err(error) => {
                 self.state.count_failed_refresh();
-                let about = Quoted(job.name.as_str());
-                let number = source.settings.number;
-                warn!(Logfmt(self.rt); about:% = about, source = number; "refresh failed: {error}");
+                self.log_failure(job.name.as_str(), source.settings.number, &error);
             }
         }
+    }
+
+    fn log_failure(&self, job: &str, number: u32, error: &RefreshError) {
+        let about = Quoted(job);
+        warn!(Logfmt(self.rt); about:% = about, source = number; "refresh failed: {error}");
     }
 
     /// Notes for those who look at the service how a refresh ended.
@@ -106,7 +106,7 @@ impl<R: Wait + Clock + Eprint + Copy, L: Ledger, B: Ledger, N: DeskName> Shared<
             return;
         };
         if self.state.note_refresh(&self.rt, note).is_err() {
-            warn!(Logfmt(self.rt); "no memory to note a refresh");
+            log_warning(&self.rt, "no memory to note a refresh");
         }
     }
 
@@ -149,7 +149,7 @@ impl<R: Wait + Clock + Eprint + Copy, L: Ledger, B: Ledger, N: DeskName> Shared<
     /// Submits a list that is another one than the last.
     fn submit_news(&self, pass: &mut Pass<L, B, N>, job: &str, source: &mut Source, event: Event) {
         let Ok(text) = event.to_json(self.alloc) else {
-            warn!(Logfmt(self.rt); "no memory for a list of targets");
+            log_warning(&self.rt, "no memory for a list of targets");
             return;
         };
         if !source.is_news(text.as_str()) {

@@ -1,9 +1,10 @@
 //! What comes between one desk and the next: what nobody needs is forgotten, another journal begins, another configuration is followed.
 ghost use Rattle.std.specs.Prelude.{◌≡◌, IfOk};
-ghost use Rattle.daemon.specs.Later.{IsLater};
+ghost use Rattle.service_tasks.specs.Later.{IsLater};
 
 use crate::configuration::Configuration;
 use crate::journal_file::JournalFile;
+use crate::logging::{log_error_of, log_info, log_warning, log_warning_of};
 use crate::office::{Office, sources_of};
 use crate::service::Service;
 use crate::source::Source;
@@ -11,8 +12,6 @@ use allocation_core::{Core, JobSpec, NotRenewed};
 use durable_journal::{Archive, are_jobs_of, renewed_line};
 use http_get::Scrape;
 use lists::copies;
-use log::{error, info, warn};
-use logfmt::Logfmt;
 use replay_lines::resume;
 use std::alloc::{AllocError, Global};
 use std::io;
@@ -20,7 +19,7 @@ use std::time::Clock;
 
 /// The allocator to go on with, for a service that follows the configuration that was read again where there is one.
 #[tactic(auto, using(crate::proofs::Laters::later_refl))]
-pub(crate) fn continued<R: Clock + Eprint + Copy, S, F, A, C>(
+pub fn continued<R: Clock + Eprint + Copy, S, F, A, C>(
     rt: &R,
     alloc: Global,
     service: &mut Service,
@@ -131,7 +130,7 @@ fn renewed<R: Clock + Eprint + Copy, F: Drop, A: Archive<F>>(
     ensures { IfOk result (IsLater core) }
 {
     let Ok(jobs) = copied_jobs(alloc, &core) else {
-        warn!(Logfmt(*rt); "no memory to renew the allocator");
+        log_warning(rt, "no memory to renew the allocator");
         return Ok(core);
     };
     let (core, _) = renewed_under(rt, alloc, service, archive, file, jobs, core)?;
@@ -155,11 +154,11 @@ fn renewed_under<R: Clock + Eprint + Copy, F: Drop, A: Archive<F>>(
     match core.renew(jobs) {
         Ok(renewed) => {
             begin_journal(rt, alloc, service, archive, file, &renewed)?;
-            info!(Logfmt(*rt); "the allocator is renewed");
+            log_info(rt, "the allocator is renewed");
             Ok((renewed, true))
         }
         Err(NotRenewed { core, why }) => {
-            warn!(Logfmt(*rt); "the allocator is not renewed: {why}");
+            log_warning_of(rt, "the allocator is not renewed", &why);
             Ok((core, false))
         }
     }
@@ -200,7 +199,7 @@ fn break_down<R: Clock + Eprint + Copy, F>(
     if error.kind() == io::ErrorKind::OutOfMemory {
         return Err(error);
     }
-    error!(Logfmt(*rt); "another journal cannot be begun: {error}");
+    log_error_of(rt, "another journal cannot be begun", &error);
     file.is_broken = true;
     Ok(())
 }

@@ -2,12 +2,13 @@
 use crate::attendance::Attendance;
 use crate::configuration::Configuration;
 use crate::control::Ending;
+use crate::logging::{log_error, log_info, log_warning};
 use crate::shared::Shared;
 use alloc_desk::{DeskName, MOST_ENTRIES, Pass, ReallocateError, Reallocated};
 use fleet::MOST_KNOWN_TARGETS;
 use fleet_events::{Answer, CollectorId, Event, TargetId};
 use lists::Text;
-use log::{error, info, warn};
+use log::{info, warn};
 use logfmt::{Logfmt, Quoted};
 use std::alloc::Global;
 use std::sync::Wait;
@@ -32,7 +33,7 @@ const TRIES: u32 = 4;
 
 /// When the thread did what.
 #[derive(Drop)]
-pub(crate) struct Schedule<C> {
+pub struct Schedule<C> {
     /// When the open round was opened.
     opened: Instant,
     /// Since when something is changed.
@@ -60,7 +61,7 @@ impl<C> Schedule<C> {
 
 impl<R: Wait + Clock + Eprint + Copy, L: Ledger, B: Ledger, N: DeskName> Shared<R, L, B, N> {
     /// Opens rounds, reallocates, and reads the configuration again when it is asked to, until the desk is to be closed.
-    pub(crate) fn keep_schedule<C: Configuration>(
+    pub fn keep_schedule<C: Configuration>(
         &self,
         pass: &mut Pass<L, B, N>,
         schedule: &mut Schedule<C>,
@@ -102,7 +103,7 @@ impl<R: Wait + Clock + Eprint + Copy, L: Ledger, B: Ledger, N: DeskName> Shared<
         match schedule.configuration.read() {
             Ok(()) => {
                 schedule.is_read = true;
-                info!(Logfmt(self.rt); "the configuration is read again");
+                log_info(&self.rt, "the configuration is read again");
                 self.state.set_reloaded(true);
                 self.state.reloading().answer(&self.rt, None);
                 self.control.end(&self.rt, Ending::Reload);
@@ -112,10 +113,14 @@ impl<R: Wait + Clock + Eprint + Copy, L: Ledger, B: Ledger, N: DeskName> Shared<
     }
 
     fn refuse_reload(&self, fault: Text) {
-        let why = Quoted(fault.as_str());
-        warn!(Logfmt(self.rt); why:% = why; "the configuration is not taken");
+        self.log_refused(fault.as_str());
         self.state.set_reloaded(false);
         self.state.reloading().answer(&self.rt, Some(fault));
+    }
+
+    fn log_refused(&self, fault: &str) {
+        let why = Quoted(fault);
+        warn!(Logfmt(self.rt); why:% = why; "the configuration is not taken");
     }
 
     /// Does what is due.
@@ -177,19 +182,22 @@ impl<R: Wait + Clock + Eprint + Copy, L: Ledger, B: Ledger, N: DeskName> Shared<
         self.state.count_search(&self.rt, milliseconds);
         match found {
             Ok(Reallocated::Published(number)) => {
-                info!(Logfmt(self.rt); number; "allocation published");
+                self.log_published(number);
                 self.note_published(pass, schedule, number, milliseconds);
             }
             Ok(Reallocated::Unchanged(_)) => {}
             Err(ReallocateError::Overtaken(_)) => {
-                info!(Logfmt(self.rt); "reallocation overtaken by other changes, tried again");
+                log_info(
+                    &self.rt,
+                    "reallocation overtaken by other changes, tried again",
+                );
             }
             Err(ReallocateError::JournalFull) => self.control.end(&self.rt, Ending::Full),
             Err(ReallocateError::NumbersSpent) => {
-                error!(Logfmt(self.rt); "the last number of an allocation is given");
+                log_error(&self.rt, "the last number of an allocation is given");
             }
             Err(ReallocateError::Memory) => {
-                warn!(Logfmt(self.rt); "no memory for a reallocation");
+                log_warning(&self.rt, "no memory for a reallocation");
             }
         }
     }
@@ -204,9 +212,17 @@ impl<R: Wait + Clock + Eprint + Copy, L: Ledger, B: Ledger, N: DeskName> Shared<
             || self.listed.load(Ordering::SeqCst) >= MOST_LISTED
             || self.is_long.load(Ordering::SeqCst)
         {
-            info!(Logfmt(self.rt); entries, known; "nearly full: the allocator is renewed, and another desk is opened");
+            self.log_full(entries, known);
             self.control.end(&self.rt, Ending::Full);
         }
+    }
+
+    fn log_published(&self, number: u32) {
+        info!(Logfmt(self.rt); number; "allocation published");
+    }
+
+    fn log_full(&self, entries: usize, known: usize) {
+        info!(Logfmt(self.rt); entries, known; "nearly full: the allocator is renewed, and another desk is opened");
     }
 }
 

@@ -1,12 +1,11 @@
 //! The thread that keeps the journal in a file.
 use crate::journal_file::JournalFile;
+use crate::logging::{log_error_of, log_warning};
 use crate::shared::Shared;
 use alloc_desk::{DeskName, Pass};
 use durable_journal::journal_lines;
 use lists::List;
-use log::{error, warn};
-use logfmt::Logfmt;
-use sd_server::Kept;
+use service_state::Kept;
 use std::alloc::AllocError;
 use std::fs::OpenFile;
 use std::io::Write;
@@ -24,12 +23,12 @@ const LOOK: u64 = 50;
 
 /// A thread that keeps the journal, with its right to read it.
 #[derive(Drop)]
-pub(crate) struct Keeper<'a, L: Ledger, B: Ledger, N: DeskName, F> {
-    pub(crate) pass: &'a mut Pass<L, B, N>,
-    pub(crate) file: &'a mut JournalFile<F>,
-    pub(crate) kept: &'a Kept,
+struct Keeper<'a, L: Ledger, B: Ledger, N: DeskName, F> {
+    pass: &'a mut Pass<L, B, N>,
+    file: &'a mut JournalFile<F>,
+    kept: &'a Kept,
     /// Whether all others have ended, so that no entry comes any more.
-    pub(crate) is_last: &'a AtomicBool,
+    is_last: &'a AtomicBool,
 }
 
 /// What is to be written of a journal.
@@ -41,8 +40,28 @@ struct News {
 }
 
 impl<R: Wait + Clock + Eprint + Copy, L: Ledger, B: Ledger, N: DeskName> Shared<R, L, B, N> {
+    /// Keeps the journal, where there is a file for it, until all others have ended.
+    pub fn keep<F: Write + OpenFile>(
+        &self,
+        pass: &mut Pass<L, B, N>,
+        file: &mut Option<JournalFile<F>>,
+        is_last: &AtomicBool,
+    ) {
+        if let (Some(file), Some(kept)) = (file, &self.kept) {
+            if file.is_broken {
+                return;
+            }
+            self.keep_journal(&mut Keeper {
+                pass,
+                file,
+                kept,
+                is_last,
+            });
+        }
+    }
+
     /// Writes what is new in the journal, until all others have ended or the device fails. What finds no memory is tried again.
-    pub(crate) fn keep_journal<F: Write + OpenFile>(&self, keeper: &mut Keeper<'_, L, B, N, F>) {
+    fn keep_journal<F: Write + OpenFile>(&self, keeper: &mut Keeper<'_, L, B, N, F>) {
         let mut written = 0;
         for _ in self.rt.forever() {
             let is_last = keeper.is_last.load(Ordering::SeqCst);
@@ -101,14 +120,14 @@ impl<R: Wait + Clock + Eprint + Copy, L: Ledger, B: Ledger, N: DeskName> Shared<
         if is_last {
             return Err(AllocError.into());
         }
-        warn!(Logfmt(self.rt); "no memory to write the journal, tried again");
+        log_warning(&self.rt, "no memory to write the journal, tried again");
         thread::sleep(&self.rt, Duration::from_millis(LOOK));
         Ok(0)
     }
 
     /// The device failed: nothing is kept any more.
     fn give_up<F>(&self, keeper: &mut Keeper<'_, L, B, N, F>, error: io::Error) {
-        error!(Logfmt(self.rt); "the journal cannot be written: {error}");
+        log_error_of(&self.rt, "the journal cannot be written", &error);
         keeper.file.is_broken = true;
         self.state.break_down();
         keeper.kept.fail(&self.rt);

@@ -2,8 +2,8 @@
 use lists::{List, Text};
 use relabel::{Rules, RulesError};
 use sd_documents::{Config, Job};
-use sd_server::ConfigPages;
 use service_settings::{Address, Settings};
+use service_state::ConfigPages;
 use std::alloc::{AllocError, Global};
 use std::sync::Arc;
 use std::time::Duration;
@@ -77,6 +77,11 @@ impl Service {
     /// Where the settings say to listen.
     pub fn listen(&self) -> Address {
         self.settings.listen
+    }
+
+    /// How long a source may take to answer.
+    pub fn fetch_timeout(&self) -> Duration {
+        Duration::from_millis(self.settings.fetch_timeout)
     }
 
     /// How many old journals are kept, or all.

@@ -1,12 +1,12 @@
 //! What is noted of an allocation that was published.
+use crate::logging::log_warning;
 use crate::scheduling::Schedule;
 use crate::shared::Shared;
 use alloc_desk::{DeskName, Pass};
 use allocation_core::{Answer, Core};
 use fleet_events::{CollectorId, TargetId};
 use lists::{Text, copies};
-use log::warn;
-use logfmt::{Logfmt, timestamp};
+use logfmt::timestamp;
 use service_state::{AllocationNote, EventKind};
 use std::alloc::AllocError;
 use std::sync::Wait;
@@ -51,7 +51,7 @@ impl<R: Wait + Clock + Eprint + Copy, L: Ledger, B: Ledger, N: DeskName> Shared<
         });
         self.remember_held(pass, schedule);
         if self.note_changes(number, changes, milliseconds).is_err() {
-            warn!(Logfmt(self.rt); "no memory to note an allocation");
+            log_warning(&self.rt, "no memory to note an allocation");
         }
     }
 
@@ -80,7 +80,7 @@ impl<R: Wait + Clock + Eprint + Copy, L: Ledger, B: Ledger, N: DeskName> Shared<
         });
         match held {
             Ok(held) => schedule.held = held,
-            Err(_) => warn!(Logfmt(self.rt); "no memory to note who holds what"),
+            Err(_) => log_warning(&self.rt, "no memory to note who holds what"),
         }
     }
 }

@@ -4,7 +4,7 @@ ghost use Rattle.serde_json.specs.View.{view};
 ghost use Rattle.serde_json.specs.Written.{compact_text};
 ghost use Rattle.sd_documents.specs.declared.config.Job.{Job};
 ghost use Rattle.sd_routes.specs.Pages.{jobs_data};
-ghost use Rattle.sd_server.specs.Jobs.{place_of};
+ghost use Rattle.service_state.specs.Jobs.{place_of};
 
 use lists::{List, Plain, Text};
 use sd_documents::{Config, scrape_configs_text};

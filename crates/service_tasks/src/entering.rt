@@ -1,5 +1,6 @@
 //! Events that a service enters of itself.
 use crate::control::Ending;
+use crate::logging::log_warning;
 use crate::shared::Shared;
 use alloc_desk::{DeskName, EnterError, Pass};
 use fleet_events::{Answer, Event};
@@ -28,7 +29,7 @@ impl<R: Wait + Clock + Eprint + Copy, L: Ledger, B: Ledger, N: DeskName> Shared<
                 None
             }
             Err(EnterError::Memory) => {
-                warn!(Logfmt(self.rt); "no memory for an event");
+                log_warning(&self.rt, "no memory for an event");
                 None
             }
         }
@@ -44,15 +45,23 @@ impl<R: Wait + Clock + Eprint + Copy, L: Ledger, B: Ledger, N: DeskName> Shared<
 
     /// Logs what an event about something was answered: a refusal as a warning.
     pub(crate) fn log_answer(&self, about: &str, answer: &Answer) {
-        let Ok(line) = answer.line(self.alloc) else {
-            return;
-        };
-        let about = Quoted(about);
-        let answer_line = Quoted(line.as_str());
-        match answer {
-            Answer::Not(_) =>
-                warn!(Logfmt(self.rt); about:% = about, answer:% = answer_line; "refused"),
-            _ => info!(Logfmt(self.rt); about:% = about, answer:% = answer_line; "entered"),
+        if let Ok(line) = answer.line(self.alloc) {
+            match answer {
+                Answer::Not(_) => self.log_refusal(about, line.as_str()),
+                _ => self.log_entry(about, line.as_str()),
+            }
         }
+    }
+
+    fn log_refusal(&self, about: &str, answer: &str) {
+        let about = Quoted(about);
+        let answer = Quoted(answer);
+        warn!(Logfmt(self.rt); about:% = about, answer:% = answer; "refused");
+    }
+
+    fn log_entry(&self, about: &str, answer: &str) {
+        let about = Quoted(about);
+        let answer = Quoted(answer);
+        info!(Logfmt(self.rt); about:% = about, answer:% = answer; "entered");
     }
 }

@@ -8,15 +8,15 @@ const SEATS: usize = 3;
 
 /// The passes of a desk's threads beside its server: of the schedule, of the journal's keeper, and of the refresher.
 #[derive(Drop)]
-pub(crate) struct Crew<L: Ledger, B: Ledger, N: DeskName> {
-    pub(crate) scheduler: Pass<L, B, N>,
-    pub(crate) keeper: Pass<L, B, N>,
-    pub(crate) refresher: Pass<L, B, N>,
+pub struct Crew<L: Ledger, B: Ledger, N: DeskName> {
+    pub scheduler: Pass<L, B, N>,
+    pub keeper: Pass<L, B, N>,
+    pub refresher: Pass<L, B, N>,
 }
 
 impl<L: Ledger, B: Ledger, N: DeskName> Crew<L, B, N> {
     /// A crew with these passes, where there is one for each.
-    pub(crate) fn muster(mut passes: Vec<Pass<L, B, N>>) -> Option<Crew<L, B, N>> {
+    pub fn muster(mut passes: Vec<Pass<L, B, N>>) -> Option<Crew<L, B, N>> {
         let scheduler = passes.pop()?;
         let keeper = passes.pop()?;
         let refresher = passes.pop()?;
@@ -28,7 +28,7 @@ impl<L: Ledger, B: Ledger, N: DeskName> Crew<L, B, N> {
     }
 
     /// Gives the passes back.
-    pub(crate) fn dismiss(self, alloc: Global) -> Result<Vec<Pass<L, B, N>>, AllocError> {
+    pub fn dismiss(self, alloc: Global) -> Result<Vec<Pass<L, B, N>>, AllocError> {
         let mut passes = Vec::with_capacity(alloc, SEATS)?;
         passes.push(self.refresher)?;
         passes.push(self.keeper)?;

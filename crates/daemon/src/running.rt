@@ -1,0 +1,130 @@
+//! The threads over one desk.
+ghost use Rattle.std.specs.Thread.{IsSend};
+
+use alloc_desk::{DeskName, Pass};
+use http_get::Scrape;
+use sd_server::{Handler, Workers, serve_by_workers};
+use service_tasks::{Configuration, Crew, JournalFile, Office, Schedule, Shared, Watch};
+use std::alloc::{AllocGlobal, Global};
+use std::fs::OpenFile;
+use std::io::Write;
+use std::net::{Net, SocketAddr, TcpListener, TcpStream};
+use std::random::RandomSource;
+use std::sync::Wait;
+use std::sync::atomic::{AtomicBool, Ordering};
+use std::sync::ledger::Ledger;
+use std::thread::Threads;
+use std::time::Clock;
+use std::{io, thread};
+
+/// A desk that is served: what its threads share, and its server.
+#[derive(Drop)]
+pub(crate) struct Served<'a, R, L: Ledger, B: Ledger, N: DeskName> {
+    pub(crate) rt: R,
+    pub(crate) alloc: Global,
+    pub(crate) shared: &'a Shared<R, L, B, N>,
+    pub(crate) handler: &'a Handler<R, L, B, N>,
+    pub(crate) workers: &'a Workers,
+    /// Where the server listens.
+    pub(crate) here: SocketAddr,
+}
+
+impl<'a, R, L, B, N> Served<'a, R, L, B, N>
+where
+    R: Wait
+        + Threads
+        + Clock
+        + Net<Listener = TcpListener, Stream = TcpStream>
+        + RandomSource
+        + AllocGlobal
+        + Eprint
+        + Sync
+        + Send
+        + Copy
+        + Drop,
+    L: Ledger + Send + Sync,
+    B: Ledger + Send + Sync,
+    N: DeskName + Send + Sync,
+{
+    /// Runs the threads: that which keeps the journal ends once all others have.
+    pub(crate) fn run<
+        S: Scrape + Send + Drop,
+        F: Write + OpenFile + Send,
+        C: Configuration + Send + Drop,
+    >(&self, office: &mut Office<S, F, C>, crew: &mut Crew<L, B, N>) -> io::Result<()> {
+        let Office {
+            listener,
+            schedule,
+            watch,
+            file,
+            ..
+        } = office;
+        let Crew {
+            scheduler,
+            keeper,
+            refresher,
+        } = crew;
+        let is_last = AtomicBool::new(false);
+        let ((), served) = thread::join(
+            &self.rt,
+            || self.shared.keep(keeper, file, &is_last),
+            || -> io::Result<()>
+                requires { IsSend L.row × IsSend B.row × IsSend N.row × IsSend S.row × IsSend C.row }
+            {
+                let served = self.run_others(listener, scheduler, schedule, refresher, watch);
+                is_last.store(true, Ordering::SeqCst);
+                served
+            },
+        );
+        served
+    }
+
+    /// Runs the threads but that which keeps the journal. Where another desk follows, requests are answered until a refresh that has begun
+    /// has ended, too.
+    fn run_others<S: Scrape + Send + Drop, C: Configuration + Send>(
+        &self,
+        listener: &TcpListener,
+        scheduler: &mut Pass<L, B, N>,
+        schedule: &mut Schedule<C>,
+        refresher: &mut Pass<L, B, N>,
+        watch: &mut Watch<S>,
+    ) -> io::Result<()> {
+        let (served, ((), ())) = thread::join(
+            &self.rt,
+            || self.serve(listener),
+            || -> ((), ())
+                requires { IsSend L.row × IsSend B.row × IsSend N.row × IsSend S.row × IsSend C.row }
+            {
+                let ended = thread::join(
+                    &self.rt,
+                    || self.schedule(scheduler, schedule),
+                    || self.shared.refresh_sources(refresher, watch),
+                );
+                if !self.shared.is_quitting() {
+                    self.stop();
+                }
+                ended
+            },
+        );
+        served
+    }
+
+    /// Opens rounds and reallocates until the desk is to be closed. Where the service is to end, no request is taken from then on.
+    fn schedule<C: Configuration>(&self, pass: &mut Pass<L, B, N>, schedule: &mut Schedule<C>) {
+        self.shared.keep_schedule(pass, schedule);
+        if self.shared.is_quitting() {
+            self.stop();
+        }
+    }
+
+    /// Answers requests until the workers are stopped. Where no server can be, the service ends.
+    fn serve(&self, listener: &TcpListener) -> io::Result<()> {
+        let served = serve_by_workers(&self.rt, self.alloc, self.workers, listener, self.handler);
+        self.shared.quit();
+        served
+    }
+
+    fn stop(&self) {
+        self.workers.stop(&self.rt, self.here);
+    }
+}

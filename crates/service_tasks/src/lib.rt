@@ -1,0 +1,34 @@
+//! What a service does beside its server: it refreshes its sources, opens rounds, reallocates, dismisses collectors that are absent, and
+//! keeps its journal, on threads that share a desk; and what it goes on with from one desk to the next.
+//!
+//! Contracts say that the allocator to go on with is one that events and renewals of the machine lead to; of time and order they say nothing.
+#![tactic(auto)]
+
+mod attendance;
+mod beginning;
+mod configuration;
+mod control;
+mod crew;
+mod entering;
+mod journal_file;
+mod keeping;
+mod logging;
+mod office;
+mod publishing;
+mod refreshing;
+mod renewing;
+mod scheduling;
+mod service;
+mod shared;
+mod source;
+
+pub use configuration::Configuration;
+pub use control::Ending;
+pub use crew::Crew;
+pub use journal_file::JournalFile;
+pub use office::Office;
+pub use refreshing::Watch;
+pub use renewing::continued;
+pub use scheduling::Schedule;
+pub use service::{Service, ServiceError};
+pub use shared::Shared;

@@ -1,0 +1,76 @@
+//! What the threads of a desk share.
+use crate::control::{Control, Ending};
+use crate::office::Office;
+use crate::service::Service;
+use alloc_desk::{Desk, DeskName};
+use service_state::{Kept, ServiceState};
+use std::alloc::{AllocError, Global};
+use std::sync::atomic::{AtomicBool, AtomicU64};
+use std::sync::ledger::Ledger;
+use std::sync::{Arc, Wait};
+use std::time::Duration;
+
+/// What the threads of a desk share.
+#[derive(Drop)]
+pub struct Shared<R, L: Ledger, B: Ledger, N: DeskName> {
+    pub(crate) rt: R,
+    pub(crate) alloc: Global,
+    pub(crate) desk: Arc<Desk<L, B, N>>,
+    /// How long a round is open.
+    pub(crate) round: Duration,
+    /// How long changes are gathered before a reallocation.
+    pub(crate) settle: Duration,
+    /// After how long a collector that takes nothing is drained, if ever.
+    pub(crate) absence: Option<Duration>,
+    pub(crate) control: Control,
+    pub(crate) state: Arc<ServiceState>,
+    /// How many targets the lists have that were entered.
+    pub(crate) listed: AtomicU64,
+    /// Whether the journal's file is so long that another one is to begin.
+    pub(crate) is_long: AtomicBool,
+    /// How much of the journal is kept, where there is a file for it.
+    pub(crate) kept: Option<Arc<Kept>>,
+}
+
+impl<R: Wait + Copy, L: Ledger, B: Ledger, N: DeskName> Shared<R, L, B, N> {
+    /// What the threads of a desk of a service share, with how much of the journal is kept, where there is a file for it.
+    pub fn new<S, F, C>(
+        rt: &R,
+        alloc: Global,
+        service: &Service,
+        office: &Office<S, F, C>,
+        desk: Arc<Desk<L, B, N>>,
+        kept: Option<Arc<Kept>>,
+    ) -> Result<Shared<R, L, B, N>, AllocError> {
+        let state = Arc::try_clone(&office.state)?;
+        let settings = &service.settings;
+        Ok(Shared {
+            rt: *rt,
+            alloc,
+            desk,
+            round: Duration::from_millis(settings.scrape_interval),
+            settle: Duration::from_millis(settings.settle),
+            absence: settings.collector_timeout.map(Duration::from_millis),
+            control: Control::new(),
+            state,
+            listed: AtomicU64::new(0),
+            is_long: AtomicBool::new(office.is_long()),
+            kept,
+        })
+    }
+
+    /// Whether the service is to end. Else another desk follows.
+    pub fn is_quitting(&self) -> bool {
+        self.control.ending(&self.rt) == Some(Ending::Quit)
+    }
+
+    /// The service is to end, unless the desk is closed for another reason.
+    pub fn quit(&self) {
+        self.control.end(&self.rt, Ending::Quit);
+    }
+
+    /// Why the desk is closed.
+    pub fn ending(&self) -> Ending {
+        self.control.ending(&self.rt).unwrap_or(Ending::Quit)
+    }
+}
