@@ -4,12 +4,17 @@
 //! whenever the machine stops, there is `PATH`, or else `PATH.next` is whole. Meanwhile nobody else has them: they are his who has the
 //! lock of `PATH.lock`, which keeps its name.
 use crate::fault::Fault;
+use crate::guarding::{check_file, goal_of};
 use durable_journal::{Archive, append};
 use std::alloc::{AllocError, AllocGlobal, Global};
 use std::fs::{File, OpenOptions};
+use std::os::unix::fs::OpenOptionsExt;
 use std::path::Path;
 use std::rt::Files;
 use std::{fs, io};
+
+/// What a file of a journal is made with: only its owner reads and writes it, since a configuration may hold passwords.
+const OWNERS_ALONE: u32 = 0o600;
 
 /// The journals of an allocator, which nobody else has as long as these are there.
 #[derive(Drop)]
@@ -23,25 +28,39 @@ pub struct Journals<R> {
     _lock: Option<File>,
 }
 
-impl<R: Files<File = File> + Drop> Journals<R> {
-    /// The journals at a path, of which so many old ones are kept, or all. An allocator without a path has none.
+impl<R: Files<File = File> + AllocGlobal + Clone + Drop> Journals<R> {
+    /// The journals at a path, of which so many old ones are kept, or all. An allocator without a path has none. Where the path names a
+    /// symbolic link they are beside its goal. A file there that is no journal is refused before anything is made beside it.
     pub fn open(
         rt: R,
         alloc: Global,
         path: Option<String>,
         keep: Option<u32>,
     ) -> Result<Journals<R>, Fault> {
-        let lock = match &path {
-            Some(path) => Some(lock_journals(&rt, alloc, path.as_str())?),
-            None => None,
+        let Some(path) = path else {
+            return Ok(Journals::locked(rt, alloc, None, keep, None));
         };
-        Ok(Journals {
+        let path = goal_of(&rt, alloc, path)?;
+        let lock = lock_journals(&rt, alloc, path.as_str())?;
+        Ok(Journals::locked(rt, alloc, Some(path), keep, Some(lock)))
+    }
+}
+
+impl<R> Journals<R> {
+    fn locked(
+        rt: R,
+        alloc: Global,
+        path: Option<String>,
+        keep: Option<u32>,
+        lock: Option<File>,
+    ) -> Journals<R> {
+        Journals {
             rt,
             alloc,
             path,
             keep,
             _lock: lock,
-        })
+        }
     }
 }
 
@@ -94,8 +113,9 @@ impl<R: Files<File = File> + AllocGlobal + Clone + Drop> Archive<File> for Journ
     }
 }
 
-/// Locks the journals at a path for whoever has the file that it gives.
+/// Locks the journals at a path for whoever has the file that it gives, unless what is there is no journal.
 fn lock_journals<R: Files<File = File>>(rt: &R, alloc: Global, path: &str) -> Result<File, Fault> {
+    check_file(rt, alloc, path)?;
     let lock = format!(in alloc; "{path}.lock")?;
     let file = open_journal(rt, lock.as_str())?;
     lock_file(alloc, path, &file)?;
@@ -117,6 +137,7 @@ pub(crate) fn open_journal<R: Files<File = File>>(rt: &R, path: &str) -> io::Res
         .read(true)
         .append(true)
         .create(true)
+        .mode(OWNERS_ALONE)
         .open(rt, path)
 }
 
@@ -148,7 +169,7 @@ fn newest<R: Files<File = File> + AllocGlobal + Clone + Drop>(
 }
 
 /// Ends what a service began that was to take another journal and ended in the midst. The caller has the journal at the path alone, if
-/// there is one.
+/// there is one. A file in its place that no service began is refused.
 pub(crate) fn end_renewal<R: Files<File = File>>(
     rt: &R,
     alloc: Global,
@@ -158,6 +179,7 @@ pub(crate) fn end_renewal<R: Files<File = File>>(
     if !fs::exists(rt, next.as_str())? {
         return Ok(());
     }
+    check_file(rt, alloc, next.as_str())?;
     if fs::exists(rt, path)? {
         fs::remove_file(rt, next.as_str())?;
     } else {

@@ -3,10 +3,12 @@
 #![tactic(auto)]
 
 mod fault;
+mod guarding;
 mod journals;
 mod opening;
 mod reading;
 
 pub use fault::Fault;
+pub use guarding::is_same_file;
 pub use journals::Journals;
 pub use opening::{Opened, open_allocator};

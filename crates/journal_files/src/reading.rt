@@ -1,5 +1,6 @@
 //! The allocator that a journal leads to, under the jobs of a configuration.
 use crate::fault::Fault;
+use crate::guarding::{no_journal, too_long};
 use allocation_core::{Core, JobSpec, NotRenewed, RenewalError};
 use durable_journal::{Recovered, are_jobs_of, recover, renewed_line};
 use lists::{List, copies};
@@ -57,7 +58,8 @@ pub(crate) fn read_journal<F: Read>(
 ) -> Result<Start, Fault> {
     match recover(alloc, file)? {
         Recovered::Found { lines, torn } => start_behind(alloc, path, lines, torn, line, jobs),
-        Recovered::TooLong => Err(Fault::Told(format!(in alloc; "{path}: too long")?)),
+        Recovered::Other => Err(no_journal(alloc, path)),
+        Recovered::TooLong => Err(too_long(alloc, path)),
     }
 }
 

@@ -3,7 +3,7 @@ use crate::configuration::ConfigurationFile;
 use crate::documents::read_service;
 use crate::listening::{listen_address, listener_at};
 use crate::running::serve_journal;
-use journal_files::Fault;
+use journal_files::{Fault, is_same_file};
 use log::error;
 use logfmt::Logfmt;
 use service_settings::{Asked, ServeOptions, USAGE, read_arguments};
@@ -96,10 +96,11 @@ where
 {
     let service = read_service(rt, rt.alloc(), options.config)?;
     let here = listen_address(rt, options, &service)?;
+    let journal = journal_of(rt.alloc(), options, &service)?;
+    check_journal(rt, options.config, &journal)?;
     if options.check_config {
         return written(rt, "the configuration is valid\n");
     }
-    let journal = journal_of(rt.alloc(), options, &service)?;
     let configuration = ConfigurationFile::new(host, rt.alloc(), options.config)?;
     let listener = listener_at(rt, here)?;
     serve_journal(rt, rt.alloc(), service, configuration, listener, journal)
@@ -115,4 +116,24 @@ fn journal_of(
         Some(path) => Ok(Some(String::from_str(alloc, path)?)),
         None => Ok(None),
     }
+}
+
+/// Refuses a journal in the configuration's own file.
+fn check_journal<R: Files<File = File> + AllocGlobal>(
+    rt: &R,
+    config: &str,
+    journal: &Option<String>,
+) -> Result<(), Fault> {
+    match journal {
+        Some(path) if is_same_file(rt, config, path.as_str()) => {
+            Err(Fault::Told(own_configuration(rt.alloc(), path.as_str())?))
+        }
+        _ => Ok(()),
+    }
+}
+
+fn own_configuration(alloc: Global, path: &str) -> Result<String, AllocError> {
+    format!(in alloc;
+        "{path}: this is the configuration, so no journal can be kept there: name another file"
+    )
 }

@@ -2,7 +2,7 @@
 use crate::configuration::ConfigurationFile;
 use allocation_core::Core;
 use journal_files::{Fault, Journals, Opened, open_allocator};
-use log::{error, info};
+use log::{error, info, warn};
 use logfmt::{Logfmt, Quoted};
 use service_tasks::{JournalFile, Service};
 use std::alloc::{AllocGlobal, Global};
@@ -40,6 +40,7 @@ where
         + Drop,
 {
     let (opened, mut journals) = open_journals(rt, alloc, &service, &journal)?;
+    tell_what_is_kept(rt, &journal);
     let core = serve_opened(
         rt,
         alloc,
@@ -52,6 +53,13 @@ where
     let samples = core.total();
     info!(Logfmt(*rt); samples:% = samples; "ended");
     Ok(())
+}
+
+/// Tells where nothing is kept.
+fn tell_what_is_kept<R: Clock + Eprint + Copy>(rt: &R, journal: &Option<String>) {
+    if journal.is_none() {
+        warn!(Logfmt(*rt); "no journal is given: what collectors were given and what was booked ends with this process");
+    }
 }
 
 /// The allocator that a journal leads to, and where the journals are. A journal that the machine cannot open is told.
