@@ -19,6 +19,8 @@ pub struct ServiceState {
     is_reloaded: AtomicBool,
     /// Whether what is submitted cannot be kept.
     is_broken: AtomicBool,
+    /// Whether all that was found first was given out.
+    has_begun: AtomicBool,
     untried: AtomicU64,
     refreshes: AtomicU64,
     failed_refreshes: AtomicU64,
@@ -41,6 +43,7 @@ impl ServiceState {
             reloading: Reloading::new(),
             is_reloaded: AtomicBool::new(true),
             is_broken: AtomicBool::new(false),
+            has_begun: AtomicBool::new(false),
             untried: AtomicU64::new(sources),
             refreshes: AtomicU64::new(0),
             failed_refreshes: AtomicU64::new(0),
@@ -52,9 +55,21 @@ impl ServiceState {
         }
     }
 
-    /// Whether each source was tried, and what is submitted is kept.
+    /// Whether each source was tried once, what they list was given out, and what is submitted is kept.
     pub fn is_ready(&self) -> bool {
-        self.untried.load(Ordering::SeqCst) == 0 && !self.is_broken.load(Ordering::SeqCst)
+        self.has_begun.load(Ordering::SeqCst) && !self.is_broken.load(Ordering::SeqCst)
+    }
+
+    /// So many sources are to be tried by a service that has not begun.
+    pub fn await_sources(&self, sources: u64) {
+        self.untried.store(sources, Ordering::SeqCst);
+    }
+
+    /// Nothing is left to be given out. A service has begun where each source was tried by then.
+    pub fn settle(&self) {
+        if self.untried.load(Ordering::SeqCst) == 0 {
+            self.has_begun.store(true, Ordering::SeqCst);
+        }
     }
 
     /// The service is to end, where requests may say so. Says whether they may.
@@ -95,7 +110,7 @@ impl ServiceState {
         self.is_broken.store(true, Ordering::SeqCst);
     }
 
-    /// A source was tried for the first time.
+    /// A source was tried for the first time, and what it lists was entered.
     pub fn count_tried(&self) {
         self.untried.fetch_sub(1, Ordering::SeqCst);
     }

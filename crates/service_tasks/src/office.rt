@@ -1,7 +1,7 @@
 //! What a service keeps from one desk to the next.
 use crate::configuration::Configuration;
 use crate::journal_file::JournalFile;
-use crate::logging::log_warning;
+use crate::logging::{log_error, log_warning};
 use crate::refreshing::Watch;
 use crate::scheduling::Schedule;
 use crate::service::Service;
@@ -52,7 +52,7 @@ impl<S: Scrape + Drop, F: Drop, C: Configuration + Drop> Office<S, F, C> {
             watch: Watch {
                 jobs: Arc::try_clone(&service.jobs)?,
                 scrape,
-                sources: sources_of(alloc, service, true)?,
+                sources: sources_of(alloc, service)?,
             },
             file,
             is_new: true,
@@ -65,6 +65,23 @@ impl<S: Scrape + Drop, F: Drop, C: Configuration + Drop> Office<S, F, C> {
         self.state.set_reloaded(false);
     }
 
+    /// Whether there is a journal's file, and nothing can be kept in it any more.
+    pub(crate) fn is_broken(&self) -> bool {
+        match &self.file {
+            Some(file) => file.is_broken,
+            None => false,
+        }
+    }
+
+    /// Nothing is begun behind a journal that is broken: all goes on as it is until the service is started again.
+    pub(crate) fn stay<R: Clock + Eprint + Copy>(&mut self, rt: &R) {
+        log_error(rt, "the journal is broken: nothing is renewed or read again until a start");
+        if self.schedule.is_read {
+            self.schedule.is_read = false;
+            self.state.set_reloaded(false);
+        }
+    }
+
     /// Follows another configuration from the next desk on, with these sources.
     pub(crate) fn follow(
         &mut self,
@@ -73,6 +90,7 @@ impl<S: Scrape + Drop, F: Drop, C: Configuration + Drop> Office<S, F, C> {
     ) -> Result<(), AllocError> {
         self.pages = Arc::try_clone(&service.pages)?;
         self.watch.jobs = Arc::try_clone(&service.jobs)?;
+        self.state.await_sources(sources.len() as u64);
         self.watch.sources = sources;
         self.is_new = true;
         Ok(())
@@ -102,17 +120,13 @@ impl<S, F, C> Office<S, F, C> {
 }
 
 /// The sources of a service, none asked yet.
-pub(crate) fn sources_of(
-    alloc: Global,
-    service: &Service,
-    are_awaited: bool,
-) -> Result<Vec<Source>, AllocError> {
+pub(crate) fn sources_of(alloc: Global, service: &Service) -> Result<Vec<Source>, AllocError> {
     let count = u32::try_from(service.sources.len()).unwrap_or(u32::MAX);
     let mut sources = Vec::new(alloc);
     let mut turn: u32 = 0;
     for settings in service.sources.iter() {
         turn = turn.saturating_add(1);
-        sources.push(Source::new(*settings, are_awaited, turn, count))?;
+        sources.push(Source::new(*settings, turn, count))?;
     }
     Ok(sources)
 }

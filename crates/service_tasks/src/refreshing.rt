@@ -66,14 +66,23 @@ impl<R: Wait + Clock + Eprint + Copy, L: Ledger, B: Ledger, N: DeskName> Shared<
         if !left.is_zero() || self.control.ending(&self.rt).is_some() {
             return left;
         }
-        if source.is_untried() {
-            self.state.count_tried();
-        }
+        let is_first = source.is_untried();
         source.begin(now);
         if let Some(job) = jobs.get(source.settings.job) {
             self.refresh(pass, job, scrape, source);
         }
-        source.due_in(now)
+        if is_first {
+            self.state.count_tried();
+        }
+        self.due_in(source)
+    }
+
+    /// How long it is until a source is due.
+    fn due_in(&self, source: &Source) -> Duration {
+        match Instant::now(&self.rt) {
+            Ok(now) => source.due_in(now),
+            Err(_) => Duration::from_secs(LONGEST_WAIT),
+        }
     }
 
     fn refresh<S: Scrape>(

@@ -34,6 +34,10 @@ where
     C: Configuration + Drop,
     ensures { IfOk result (IsLater core) }
 {
+    if office.is_broken() {
+        office.stay(rt);
+        return Ok(core);
+    }
     if !office.schedule.is_read {
         return renewed(rt, alloc, service, archive, &mut office.file, core);
     }
@@ -82,7 +86,7 @@ where
 
 /// The jobs of a service as an allocator has them, and its sources.
 fn parts_of(alloc: Global, service: &Service) -> io::Result<(Vec<JobSpec>, Vec<Source>)> {
-    let sources = sources_of(alloc, service, false)?;
+    let sources = sources_of(alloc, service)?;
     let jobs = jobs_of(alloc, service)?;
     Ok((jobs, sources))
 }

@@ -164,6 +164,7 @@ impl<R: Wait + Clock + Eprint + Copy, L: Ledger, B: Ledger, N: DeskName> Shared<
     ) {
         if !self.desk.is_changed(&self.rt, pass) {
             schedule.changed = None;
+            self.state.settle();
             return;
         }
         let since = schedule.changed.unwrap_or(now);

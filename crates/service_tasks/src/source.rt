@@ -10,7 +10,6 @@ const REFUSED_AGAIN: u32 = 32;
 #[derive(Drop)]
 pub(crate) struct Source {
     pub(crate) settings: SourceSettings,
-    /// Whether it was tried, or is not waited for.
     is_tried: bool,
     /// When its last refresh began.
     began: Option<Instant>,
@@ -27,10 +26,10 @@ pub(crate) struct Source {
 impl Source {
     /// A source that is not asked yet, at a turn from 1 on among so many. A service that begins is ready once it was tried. All are
     /// asked at once first, and from then on at times that are spread.
-    pub(crate) fn new(settings: SourceSettings, is_awaited: bool, turn: u32, count: u32) -> Source {
+    pub(crate) fn new(settings: SourceSettings, turn: u32, count: u32) -> Source {
         Source {
             settings,
-            is_tried: !is_awaited,
+            is_tried: false,
             began: None,
             first_wait: part_of(settings.every, turn, count),
             wait: settings.every,
