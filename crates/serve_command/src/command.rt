@@ -1,8 +1,10 @@
 //! The command: what its words ask for, and what it tells of it.
 use crate::configuration::ConfigurationFile;
+use crate::descriptors::check_descriptors;
 use crate::documents::read_service;
 use crate::listening::{listen_address, listener_at};
 use crate::running::serve_journal;
+use crate::standard_streams::hold_streams;
 use journal_files::{Fault, is_same_file};
 use log::error;
 use logfmt::Logfmt;
@@ -41,6 +43,7 @@ where
         + Copy
         + Drop,
 {
+    let _streams = hold_streams(rt, rt.alloc());
     let done = match read_arguments(words) {
         Asked::Help => written(rt, USAGE),
         Asked::Version => written(rt, VERSION),
@@ -101,6 +104,7 @@ where
     if options.check_config {
         return written(rt, "the configuration is valid\n");
     }
+    check_descriptors(rt, rt.alloc())?;
     let configuration = ConfigurationFile::new(host, rt.alloc(), options.config)?;
     let listener = listener_at(rt, here)?;
     serve_journal(rt, rt.alloc(), service, configuration, listener, journal)

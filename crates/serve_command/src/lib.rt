@@ -3,9 +3,11 @@
 
 mod command;
 mod configuration;
+mod descriptors;
 mod documents;
 mod faults;
 mod listening;
 mod running;
+mod standard_streams;
 
 pub use command::{VERSION, serve};

@@ -3,6 +3,7 @@ use durable_journal::append;
 use std::fs::OpenFile;
 use std::io;
 use std::io::Write;
+use std::os::unix::fs::MetadataExt;
 
 /// How many bytes a journal may have before another one begins: 48 MiB, a quarter less than `allocd replay` reads.
 const MOST_GROWN: u64 = 50_331_648;
@@ -47,8 +48,11 @@ impl<F> JournalFile<F> {
 }
 
 impl<F: Write + OpenFile> JournalFile<F> {
-    /// Writes lines behind those that are there, and has the device keep them.
+    /// Writes lines behind those that are there, and has the device keep them. A file that no folder has any more keeps nothing.
     pub(crate) fn append(&mut self, lines: &[u8]) -> io::Result<()> {
+        if self.file.metadata()?.nlink() == 0 {
+            return Err(io::ErrorKind::NotFound.into());
+        }
         append(&mut self.file, lines)?;
         self.grown = self.grown.saturating_add(lines.len() as u64);
         Ok(())

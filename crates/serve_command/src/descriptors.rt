@@ -1,0 +1,52 @@
+//! How many descriptors the service may have open.
+use journal_files::Fault;
+use std::alloc::{AllocError, Global};
+use std::fs::File;
+use std::io;
+use std::io::Read;
+use std::rt::Files;
+
+/// How many descriptors a service needs: four for each connection that is served at once, and some for its files and sources.
+const NEEDED: u64 = 320;
+
+/// What the kernel says of the limits of this process.
+const LIMITS: &str = "/proc/self/limits";
+
+/// Refuses to serve where too few descriptors may be open. What cannot be read is no limit.
+pub(crate) fn check_descriptors<R: Files<File = File>>(rt: &R, alloc: Global) -> Result<(), Fault> {
+    let limits = match read_limits(rt, alloc) {
+        Ok(limits) => limits,
+        Err(_) => return Ok(()),
+    };
+    match most_open(limits.as_str()) {
+        Some(most) if most < NEEDED => Err(too_few(alloc, most)),
+        _ => Ok(()),
+    }
+}
+
+fn read_limits<R: Files<File = File>>(rt: &R, alloc: Global) -> io::Result<String> {
+    let mut text = String::new(alloc);
+    File::open(rt, LIMITS)?.read_to_string(&mut text)?;
+    Ok(text)
+}
+
+/// The number of descriptors that may be open, where these limits say one.
+fn most_open(limits: &str) -> Option<u64> {
+    limits
+        .lines()
+        .find_map(|line| line.strip_prefix("Max open files"))?
+        .split_whitespace()
+        .next()?
+        .parse()
+        .ok()
+}
+
+fn too_few(alloc: Global, most: u64) -> Fault {
+    let line: Result<String, AllocError> = format!(in alloc;
+        "allocd serve: {most} descriptors may be open, and {NEEDED} are needed: raise the limit (ulimit -n {NEEDED}, or LimitNOFILE={NEEDED} in a systemd unit)"
+    );
+    match line {
+        Ok(line) => Fault::Told(line),
+        Err(error) => error.into(),
+    }
+}
