@@ -5,7 +5,8 @@ use crate::shared::Shared;
 use alloc_desk::{DeskName, Pass};
 use allocation_core::Core;
 use fleet_events::Event;
-use lists::Plain;
+use label_sets::Target;
+use lists::{List, Plain};
 use relabel::{Found, Rules};
 use sd_documents::Job;
 use service_settings::Collector;
@@ -34,28 +35,47 @@ impl<R: Wait + Clock + Eprint + Copy, L: Ledger, B: Ledger, N: DeskName> Shared<
         Ok(())
     }
 
-    /// Enters the static groups of each job, where it has some or had some.
+    /// Enters the static groups of each job of which the allocator knows others.
     fn enter_static_groups(
         &self,
         pass: &mut Pass<L, B, N>,
         jobs: &[Job],
     ) -> Result<(), AllocError> {
         for (place, job) in jobs.iter().enumerate() {
-            if !job.static_groups.is_empty() || self.has_static_targets(pass, place) {
-                self.enter_groups(pass, job)?;
+            let targets = static_targets(self.alloc, job)?;
+            if !self.has_static_targets(pass, place, targets.as_slice()) {
+                self.enter_static_targets(pass, job, targets)?;
             }
         }
         Ok(())
     }
 
-    fn enter_groups(&self, pass: &mut Pass<L, B, N>, job: &Job) -> Result<(), AllocError> {
-        let event = static_targets(self.alloc, job)?;
+    fn enter_static_targets(
+        &self,
+        pass: &mut Pass<L, B, N>,
+        job: &Job,
+        targets: List<Target>,
+    ) -> Result<(), AllocError> {
+        let event = Event::Discover {
+            job: job.name.copy()?,
+            source: 0,
+            targets,
+        };
         self.enter_first(pass, job.name.as_str(), event)
     }
 
-    /// Whether the static groups of the job at a place list a target by now.
-    fn has_static_targets(&self, pass: &mut Pass<L, B, N>, place: usize) -> bool {
-        self.desk.read(&self.rt, pass, |record| lists_static(record.core(), place))
+    /// Whether just these targets are listed by the static groups of the job at a place.
+    fn has_static_targets(
+        &self,
+        pass: &mut Pass<L, B, N>,
+        place: usize,
+        targets: &[Target],
+    ) -> bool {
+        self.desk.read(
+            &self.rt,
+            pass,
+            |record| is_listed(record.core(), place, targets),
+        )
     }
 
     /// Has the collectors of the settings join that are not live.
@@ -91,13 +111,33 @@ impl<R: Wait + Clock + Eprint + Copy, L: Ledger, B: Ledger, N: DeskName> Shared<
     }
 }
 
-fn lists_static(core: &Core, place: usize) -> bool {
-    match core.fleet().listed().get(place) {
-        Some(sources) => sources
-            .as_slice()
-            .first()
-            .is_some_and(|targets| !targets.is_empty()),
+fn is_listed(core: &Core, place: usize, targets: &[Target]) -> bool {
+    match static_list(core, place) {
+        Some(listed) => {
+            listed.len() == targets.len()
+                && listed
+                    .iter()
+                    .zip(targets.iter())
+                    .all(|(number, target)| is_target(core, *number, target))
+        }
         None => false,
+    }
+}
+
+/// The numbers of the targets that the static groups of the job at a place list.
+fn static_list(core: &Core, place: usize) -> Option<&[usize]> {
+    let sources = core.fleet().listed().get(place)?;
+    Some(sources.as_slice().first()?.as_slice())
+}
+
+/// Whether this is the target of a number.
+fn is_target(core: &Core, number: usize, target: &Target) -> bool {
+    match u32::try_from(number) {
+        Ok(number) => match core.fleet().target(number) {
+            Some((_, known)) => known.text() == target.text(),
+            None => false,
+        },
+        Err(_) => false,
     }
 }
 
@@ -113,15 +153,10 @@ fn joining(collector: &Collector) -> Result<Event, AllocError> {
 }
 
 /// What the static groups of a job list.
-fn static_targets(alloc: Global, job: &Job) -> Result<Event, AllocError> {
+fn static_targets(alloc: Global, job: &Job) -> Result<List<Target>, AllocError> {
     let Ok(rules) = Rules::read(alloc, job.rules.as_slice()) else {
         return Err(AllocError);
     };
     let Found { targets, .. } = rules.discover(alloc, job, 0, job.static_groups.as_slice())?;
-    let job = job.name.copy()?;
-    Ok(Event::Discover {
-        job,
-        source: 0,
-        targets,
-    })
+    Ok(targets)
 }

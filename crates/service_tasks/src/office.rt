@@ -75,7 +75,10 @@ impl<S: Scrape + Drop, F: Drop, C: Configuration + Drop> Office<S, F, C> {
 
     /// Nothing is begun behind a journal that is broken: all goes on as it is until the service is started again.
     pub(crate) fn stay<R: Clock + Eprint + Copy>(&mut self, rt: &R) {
-        log_error(rt, "the journal is broken: nothing is renewed or read again until a start");
+        log_error(
+            rt,
+            "the journal is broken: nothing is renewed or read again until a start",
+        );
         if self.schedule.is_read {
             self.schedule.is_read = false;
             self.state.set_reloaded(false);
