@@ -2,19 +2,29 @@
 """Runs each public reader on changed seeds for a time, and tells of crashes, of runs that hang, and of statuses that are not 0:
 fuzz.py SECONDS [SEED [NAME ..]]
 
-The seeds are the files of examples/fuzz/NAME, the program that of the crate fuzz_targets (FUZZ_TARGETS, or crates/fuzz_targets/out/fuzz_targets). An
-outside fuzzer can drive the same program: afl-fuzz -n -i examples/fuzz/NAME -o OUT -- crates/fuzz_targets/out/fuzz_targets NAME. What is found is
-written to the folder fuzz-found. It ends with 0 where nothing is."""
+The seeds are the files of examples/fuzz/NAME, the programs those of the crates document_rows, history_rows and request_rows (in the folder FUZZ_PROGRAMS, or
+where rt ci built them). An outside fuzzer can drive the same programs: afl-fuzz -n -i examples/fuzz/NAME -o OUT -- crates/CRATE/out/CRATE NAME. What is
+found is written to the folder fuzz-found. It ends with 0 where nothing is."""
 
 import collections
 import os
 import random
+import re
 import subprocess
 import sys
 import time
 
 ROOT = os.path.dirname(os.path.dirname(os.path.abspath(__file__)))
-PROGRAM = os.environ.get("FUZZ_TARGETS", f"{ROOT}/crates/fuzz_targets/out/fuzz_targets")
+# Which program has which readers.
+READERS = {
+    "document_rows": ("address", "certificate", "config", "discovery", "duration", "groups", "instance", "rules", "samples", "settings", "url"),
+    "history_rows": ("event", "history", "journal", "replay"),
+    "request_rows": ("request", "session"),
+}
+PROGRAMS = {name: program for program, names in READERS.items() for name in names}
+# How a line begins where its input is read, and how the line of a request that is refused ends.
+READ = ("read", "best", "{", "rounds ")
+REFUSED = re.compile(r"^no (method|target)$|(^|=> )(NoRoute|Method\(\w+\)|Shape|BadName|TooManyRules)$")
 SEEDS = f"{ROOT}/examples/fuzz"
 FOUND = "fuzz-found"
 # A run of a small input takes milliseconds.
@@ -78,10 +88,19 @@ def changed(dice, seeds):
     return text[:1_000_000]
 
 
-def run(name, text):
+def path_of(program):
+    folder = os.environ.get("FUZZ_PROGRAMS", f"{ROOT}/crates/{program}/out")
+    return f"{folder}/{program}"
+
+
+def is_read(name, line):
+    return not REFUSED.search(line) if name == "request" else line.startswith(READ)
+
+
+def run(program, name, text):
     """What came of a run, and the line that it wrote."""
     try:
-        done = subprocess.run([PROGRAM, name], input=text, capture_output=True, timeout=LONGEST_SECONDS)
+        done = subprocess.run([path_of(program), name], input=text, capture_output=True, timeout=LONGEST_SECONDS)
     except subprocess.TimeoutExpired:
         return "hangs", ""
     except BrokenPipeError:
@@ -106,21 +125,22 @@ def main():
     runs, read, lines, found = collections.Counter(), collections.Counter(), collections.defaultdict(set), 0
     for name in names:
         for number, text in enumerate(seeds[name]):
-            why, _ = run(name, text)
+            why, _ = run(PROGRAMS[name], name, text)
             found += bool(why)
             if why:
                 keep(name, f"seed{number}", text, why)
-    if run("none", b"")[0] != "status 2":
-        found += 1
-        print("NOT: an unknown name has another status than 2")
+    for program in READERS:
+        if run(program, "none", b"")[0] != "status 2":
+            found += 1
+            print(f"NOT: {program}: an unknown name has another status than 2")
     end = time.monotonic() + seconds
     while time.monotonic() < end:
         for name in names:
             text = changed(dice, seeds[name])
-            why, line = run(name, text)
+            why, line = run(PROGRAMS[name], name, text)
             runs[name] += 1
-            read[name] += line.split(" ")[0] in ("read", "best")
-            lines[name].add(line.split("/")[0] if name == "url" else line)
+            read[name] += is_read(name, line)
+            lines[name].add("read" if is_read(name, line) else line)
             if why:
                 found += 1
                 keep(name, runs[name], text, why)

@@ -1,6 +1,6 @@
 //! What the tests open a desk with, and what its devices answer.
 use alloc_desk::{Desk, DeskName, Pass};
-use allocation_core::{Core, JobSpec};
+use allocation_core::{Core, Event, JobSpec};
 use fleet_events::read_event;
 use http_get::{FetchFault, Reply};
 use lists::{List, Text};
@@ -11,16 +11,20 @@ use std::sync::ledger::Ledger;
 
 /// The allocator of the job `j` with this limit.
 pub(crate) fn core_of(alloc: Global, target_limit: u32) -> Option<Core> {
-    let name = Text::from_str(alloc, "j").ok()?;
-    let jobs = vec![in alloc;
-        JobSpec {
-            name,
-            target_limit,
-            sources: 1
-        },
-    ]
-    .ok()?;
-    Core::open(alloc, jobs).ok()
+    match jobs_of(alloc, target_limit) {
+        Ok(jobs) => Core::open(alloc, jobs).ok(),
+        Err(_) => None,
+    }
+}
+
+fn jobs_of(alloc: Global, target_limit: u32) -> Result<Vec<JobSpec>, AllocError> {
+    let mut jobs = Vec::new(alloc);
+    jobs.push(JobSpec {
+        name: Text::from_str(alloc, "j")?,
+        target_limit,
+        sources: 1,
+    })?;
+    Ok(jobs)
 }
 
 /// The same job as its targets are asked.
@@ -48,9 +52,23 @@ pub(crate) fn submit_line<L: Ledger, B: Ledger, N: DeskName, R: Wait>(
     pass: &mut Pass<L, B, N>,
     line: &str,
 ) -> Option<()> {
-    let event = read_event(alloc, line.as_bytes()).ok()??;
-    let _receipt = desk.submit(rt, pass, event).ok()?;
-    Some(())
+    match read_event(alloc, line.as_bytes()) {
+        Ok(Some(event)) => submit(rt, desk, pass, event),
+        _ => None,
+    }
+}
+
+/// Submits the event.
+pub(crate) fn submit<L: Ledger, B: Ledger, N: DeskName, R: Wait>(
+    rt: &R,
+    desk: &Desk<L, B, N>,
+    pass: &mut Pass<L, B, N>,
+    event: Event,
+) -> Option<()> {
+    match desk.submit(rt, pass, event) {
+        Ok(_) => Some(()),
+        Err(_) => None,
+    }
 }
 
 /// An answer of this status and body.

@@ -8,11 +8,12 @@ use allocation_core::{Core, Event};
 use collector_pool::{Turn, TurnEnd, Worker, run_round};
 use http_get::Script;
 use lists::Plain;
+use sd_documents::Job;
 use std::alloc::{AllocError, Global};
 use std::marker::Brand;
 use std::sync::Wait;
 use std::sync::ledger::{Blank, Ledger};
-use std::test::*;
+use std::test::Fail;
 use std::thread::{Threads, join};
 
 const THREE: &str =
@@ -34,23 +35,45 @@ struct Seen {
 
 #[test]
 fn gate_holds_one_scrape(rt: HostRuntime) -> Result<(), Fail> {
-    let core = core_of(rt.alloc(), 0).ok_or("opens")?;
-    let gate = Holding::new(vec![in rt.alloc(); 32; 65_536]?);
-    let seen = held_round::<Brand, Brand, Brand, HostRuntime>(
-        &rt,
-        rt.alloc(),
-        core,
-        Blank::new(4),
-        Blank::new(4),
-        &gate,
-    ).ok_or("a round")?;
-    assert!(rt; gate.was_held());
-    assert!(rt; seen.turns == [Some(complete(1)), Some(complete(2))]);
-    assert!(rt; seen.calls == [5, 2, 2, 3]);
-    assert_eq!(rt; seen.entries, 12);
-    assert_eq!(rt; seen.total, 3);
-    assert!(rt; seen.agrees);
+    assert!(rt; is_held(&rt, rt.alloc()));
     Ok(())
+}
+
+fn is_held<R: Threads + Wait + Sync>(rt: &R, alloc: Global) -> bool {
+    match vec![in alloc; 32u8; 65_536] {
+        Ok(work) => is_held_by(rt, alloc, &Holding::new(work)),
+        Err(_) => false,
+    }
+}
+
+fn is_held_by<R: Threads + Wait + Sync>(rt: &R, alloc: Global, gate: &Holding) -> bool {
+    match core_of(alloc, 0) {
+        Some(core) => {
+            let seen = held_round::<Brand, Brand, Brand, R>(
+                rt,
+                alloc,
+                core,
+                Blank::new(4),
+                Blank::new(4),
+                gate,
+            );
+            gate.was_held() && is_wanted(seen)
+        }
+        None => false,
+    }
+}
+
+fn is_wanted(seen: Option<Seen>) -> bool {
+    match seen {
+        Some(seen) => {
+            seen.turns == [Some(complete(1)), Some(complete(2))]
+                && seen.calls == [5, 2, 2, 3]
+                && seen.entries == 12
+                && seen.total == 3
+                && seen.agrees
+        }
+        None => false,
+    }
 }
 
 /// A turn by allocation 2 whose reports are all booked, of one sample each.
@@ -74,17 +97,55 @@ fn held_round<
     requires calls { (calls.name ≡ L.name) × (calls.parts ≡ L.parts) × (L.parts ≡ 4) }
     requires samples { (samples.name ≡ B.name) × (samples.parts ≡ B.parts) × (B.parts ≡ 4) }
 {
-    let (desk, mut passes) = Desk::<L, B, N>::open(alloc, core, 4, calls, samples).ok()?;
-    let mut workers = workers_of(alloc, &mut passes)?;
-    hold_round(
+    match Desk::<L, B, N>::open(alloc, core, 4, calls, samples) {
+        Ok((desk, passes)) => with_workers(rt, alloc, desk, passes, gate),
+        Err(_) => None,
+    }
+}
+
+fn with_workers<
+    L: Ledger + Send + Sync,
+    B: Ledger + Send + Sync,
+    N: DeskName + Send + Sync,
+    R: Threads + Wait + Sync,
+>(
+    rt: &R,
+    alloc: Global,
+    desk: Desk<L, B, N>,
+    mut passes: Vec<Pass<L, B, N>>,
+    gate: &Holding,
+) -> Option<Seen> {
+    match workers_of(alloc, &mut passes) {
+        Some(workers) => held_by(rt, alloc, desk, passes, workers, gate),
+        None => None,
+    }
+}
+
+fn held_by<
+    L: Ledger + Send + Sync,
+    B: Ledger + Send + Sync,
+    N: DeskName + Send + Sync,
+    R: Threads + Wait + Sync,
+>(
+    rt: &R,
+    alloc: Global,
+    desk: Desk<L, B, N>,
+    mut passes: Vec<Pass<L, B, N>>,
+    mut workers: Vec<Worker<L, B, N, Script>>,
+    gate: &Holding,
+) -> Option<Seen> {
+    let held = hold_round(
         rt,
         alloc,
         &desk,
         passes.as_mut_slice(),
         workers.as_mut_slice(),
         gate,
-    )?;
-    seen_of(rt, alloc, desk, passes, workers)
+    );
+    match held {
+        Some(()) => seen_of(rt, alloc, desk, passes, workers),
+        None => None,
+    }
 }
 
 /// The round, with a pass of the session's own thread and one of the thread that renews.
@@ -104,15 +165,57 @@ fn hold_round<
     let (main, others) = passes.split_first_mut()?;
     let other = others.first_mut()?;
     prepare(rt, alloc, desk, main)?;
-    let config = config_of(alloc)?;
-    let jobs = config.jobs.as_slice();
+    by_config(rt, alloc, desk, other, workers, gate)?;
+    shows_four(rt, alloc, desk, main)
+}
+
+fn by_config<
+    L: Ledger + Send + Sync,
+    B: Ledger + Send + Sync,
+    N: DeskName + Send + Sync,
+    R: Threads + Wait + Sync,
+>(
+    rt: &R,
+    alloc: Global,
+    desk: &Desk<L, B, N>,
+    other: &mut Pass<L, B, N>,
+    workers: &mut [Worker<L, B, N, Script>],
+    gate: &Holding,
+) -> Option<()> {
+    match config_of(alloc) {
+        Some(config) => scrape_and_renew(
+            rt,
+            alloc,
+            desk,
+            other,
+            workers,
+            gate,
+            config.jobs.as_slice(),
+        ),
+        None => None,
+    }
+}
+
+fn scrape_and_renew<
+    L: Ledger + Send + Sync,
+    B: Ledger + Send + Sync,
+    N: DeskName + Send + Sync,
+    R: Threads + Wait + Sync,
+>(
+    rt: &R,
+    alloc: Global,
+    desk: &Desk<L, B, N>,
+    other: &mut Pass<L, B, N>,
+    workers: &mut [Worker<L, B, N, Script>],
+    gate: &Holding,
+    jobs: &[Job],
+) -> Option<()> {
     let (_, renewed) = join(
         rt,
         || run_round(desk, rt, alloc, jobs, workers, gate),
         || renew(rt, alloc, desk, other, gate),
     );
-    renewed?;
-    shows_four(rt, alloc, desk, main)
+    renewed
 }
 
 /// Both collectors hold all targets of allocation 2.
@@ -166,12 +269,33 @@ fn shows_four<L: Ledger, B: Ledger, N: DeskName, R: Wait>(
     desk: &Desk<L, B, N>,
     main: &mut Pass<L, B, N>,
 ) -> Option<()> {
-    let view = desk.view(rt, alloc, main).ok()?;
-    let (job, target) = desk.target(rt, main, 3).ok()??;
-    if view.current == 3 && job == 0 && target.get("__address__") == "h:4" {
+    if has_third(rt, alloc, desk, main) && has_fourth(rt, desk, main) {
         Some(())
     } else {
         None
+    }
+}
+
+fn has_third<L: Ledger, B: Ledger, N: DeskName, R: Wait>(
+    rt: &R,
+    alloc: Global,
+    desk: &Desk<L, B, N>,
+    main: &mut Pass<L, B, N>,
+) -> bool {
+    match desk.view(rt, alloc, main) {
+        Ok(view) => view.current == 3,
+        Err(_) => false,
+    }
+}
+
+fn has_fourth<L: Ledger, B: Ledger, N: DeskName, R: Wait>(
+    rt: &R,
+    desk: &Desk<L, B, N>,
+    main: &mut Pass<L, B, N>,
+) -> bool {
+    match desk.target(rt, main, 3) {
+        Ok(Some((job, target))) => job == 0 && target.get("__address__") == "h:4",
+        _ => false,
     }
 }
 
@@ -182,18 +306,28 @@ fn workers_of<L: Ledger, B: Ledger, N: DeskName>(
 ) -> Option<Vec<Worker<L, B, N, Script>>> {
     let mut workers = Vec::new(alloc);
     for id in 1u32..3 {
-        let scrape = script_of(alloc, id).ok()?;
-        let pass = passes.pop()?;
-        workers
+        push_worker(alloc, &mut workers, passes.pop(), id)?;
+    }
+    Some(workers)
+}
+
+fn push_worker<L: Ledger, B: Ledger, N: DeskName>(
+    alloc: Global,
+    workers: &mut Vec<Worker<L, B, N, Script>>,
+    pass: Option<Pass<L, B, N>>,
+    id: u32,
+) -> Option<()> {
+    match (pass, script_of(alloc, id)) {
+        (Some(pass), Ok(scrape)) => workers
             .push(Worker {
                 pass,
                 id,
                 scrape,
                 turn: None,
             })
-            .ok()?;
+            .ok(),
+        _ => None,
     }
-    Some(workers)
 }
 
 /// So many answers of one sample.
@@ -212,17 +346,41 @@ fn seen_of<L: Ledger, B: Ledger, N: DeskName, R: Wait>(
     passes: Vec<Pass<L, B, N>>,
     workers: Vec<Worker<L, B, N, Script>>,
 ) -> Option<Seen> {
-    let turns = turns_of(workers.as_slice())?;
-    let passes = all_passes(passes, workers)?;
-    let calls = calls_of(passes.as_slice())?;
-    let closed = desk.close(passes).ok()?;
-    Some(Seen {
+    let turns = turns_of(workers.as_slice());
+    match (turns, all_passes(passes, workers)) {
+        (Some(turns), Some(passes)) => closed_with(rt, alloc, desk, turns, passes),
+        _ => None,
+    }
+}
+
+fn closed_with<L: Ledger, B: Ledger, N: DeskName, R: Wait>(
+    rt: &R,
+    alloc: Global,
+    desk: Desk<L, B, N>,
+    turns: [Option<Turn>; 2],
+    passes: Vec<Pass<L, B, N>>,
+) -> Option<Seen> {
+    let calls = calls_of(passes.as_slice());
+    match (calls, desk.close(passes)) {
+        (Some(calls), Ok(closed)) => Some(seen_in(rt, alloc, turns, calls, &closed)),
+        _ => None,
+    }
+}
+
+fn seen_in<N: DeskName, R: Wait>(
+    rt: &R,
+    alloc: Global,
+    turns: [Option<Turn>; 2],
+    calls: [u64; 4],
+    closed: &Closed<N>,
+) -> Seen {
+    Seen {
         turns,
         calls,
         entries: closed.journal().len(),
         total: closed.core().total(),
-        agrees: agrees_again(rt, alloc, &closed) == Some(true),
-    })
+        agrees: agrees_again(rt, alloc, closed),
+    }
 }
 
 fn turns_of<L: Ledger, B: Ledger, N: DeskName>(
@@ -256,17 +414,28 @@ fn all_passes<L: Ledger, B: Ledger, N: DeskName>(
 }
 
 /// Whether another desk that is asked the same answers the same.
-fn agrees_again<N: DeskName, R: Wait>(rt: &R, alloc: Global, closed: &Closed<N>) -> Option<bool> {
-    let core = core_of(alloc, 0)?;
-    let receipts = receipts_of::<Brand, Brand, Brand, R>(
-        rt,
-        alloc,
-        core,
-        Blank::new(4),
-        Blank::new(4),
-        closed.journal(),
-    )?;
-    Some(closed.agrees(receipts.as_slice()))
+fn agrees_again<N: DeskName, R: Wait>(rt: &R, alloc: Global, closed: &Closed<N>) -> bool {
+    match core_of(alloc, 0) {
+        Some(core) => agrees_with(
+            closed,
+            receipts_of::<Brand, Brand, Brand, R>(
+                rt,
+                alloc,
+                core,
+                Blank::new(4),
+                Blank::new(4),
+                closed.journal(),
+            ),
+        ),
+        None => false,
+    }
+}
+
+fn agrees_with<N: DeskName>(closed: &Closed<N>, receipts: Option<Vec<(Event, Receipt)>>) -> bool {
+    match receipts {
+        Some(receipts) => closed.agrees(receipts.as_slice()),
+        None => false,
+    }
 }
 
 /// The events of a journal with what they get on another desk, submitted in order by the same seats, where that desk agrees.
@@ -282,9 +451,30 @@ fn receipts_of<L: Ledger, B: Ledger, N: DeskName, R: Wait>(
     requires calls { (calls.name ≡ L.name) × (calls.parts ≡ L.parts) × (L.parts ≡ 4) }
     requires samples { (samples.name ≡ B.name) × (samples.parts ≡ B.parts) × (B.parts ≡ 4) }
 {
-    let (desk, mut passes) = Desk::<L, B, N>::open(alloc, core, 4, calls, samples).ok()?;
-    let receipts = ask_again(rt, alloc, &desk, passes.as_mut_slice(), entries)?;
-    let closed = desk.close(passes).ok()?;
+    match Desk::<L, B, N>::open(alloc, core, 4, calls, samples) {
+        Ok((desk, passes)) => asked_again(rt, alloc, desk, passes, entries),
+        Err(_) => None,
+    }
+}
+
+fn asked_again<L: Ledger, B: Ledger, N: DeskName, R: Wait>(
+    rt: &R,
+    alloc: Global,
+    desk: Desk<L, B, N>,
+    mut passes: Vec<Pass<L, B, N>>,
+    entries: &[Entry],
+) -> Option<Vec<(Event, Receipt)>> {
+    let receipts = ask_again(rt, alloc, &desk, passes.as_mut_slice(), entries);
+    match (desk.close(passes), receipts) {
+        (Ok(closed), Some(receipts)) => agreed(&closed, receipts),
+        _ => None,
+    }
+}
+
+fn agreed<N: DeskName>(
+    closed: &Closed<N>,
+    receipts: Vec<(Event, Receipt)>,
+) -> Option<Vec<(Event, Receipt)>> {
     if closed.agrees(receipts.as_slice()) {
         Some(receipts)
     } else {
@@ -301,21 +491,48 @@ fn ask_again<L: Ledger, B: Ledger, N: DeskName, R: Wait>(
 ) -> Option<Vec<(Event, Receipt)>> {
     let mut receipts = Vec::new(alloc);
     for entry in entries {
-        let pass = passes.get_mut(entry.seat as usize)?;
-        receipts
-            .push(told_again(rt, desk, pass, &entry.event)?)
-            .ok()?;
+        push_receipt(&mut receipts, told_again(rt, desk, passes, entry))?;
     }
     Some(receipts)
+}
+
+fn push_receipt(
+    receipts: &mut Vec<(Event, Receipt)>,
+    told: Option<(Event, Receipt)>,
+) -> Option<()> {
+    match told {
+        Some(told) => receipts.push(told).ok(),
+        None => None,
+    }
 }
 
 fn told_again<L: Ledger, B: Ledger, N: DeskName, R: Wait>(
     rt: &R,
     desk: &Desk<L, B, N>,
-    pass: &mut Pass<L, B, N>,
-    event: &Event,
+    passes: &mut [Pass<L, B, N>],
+    entry: &Entry,
 ) -> Option<(Event, Receipt)> {
-    let copy = event.copy().ok()?;
-    let receipt = desk.submit(rt, pass, event.copy().ok()?).ok()?;
-    Some((copy, receipt))
+    match (passes.get_mut(entry.seat as usize), entry.event.copy()) {
+        (Some(pass), Ok(event)) => with_copy(rt, desk, pass, event),
+        _ => None,
+    }
+}
+
+fn with_copy<L: Ledger, B: Ledger, N: DeskName, R: Wait>(
+    rt: &R,
+    desk: &Desk<L, B, N>,
+    pass: &mut Pass<L, B, N>,
+    event: Event,
+) -> Option<(Event, Receipt)> {
+    match event.copy() {
+        Ok(copy) => receipt_with(copy, desk.submit(rt, pass, event).ok()),
+        Err(_) => None,
+    }
+}
+
+fn receipt_with(event: Event, receipt: Option<Receipt>) -> Option<(Event, Receipt)> {
+    match receipt {
+        Some(receipt) => Some((event, receipt)),
+        None => None,
+    }
 }

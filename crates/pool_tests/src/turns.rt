@@ -1,7 +1,7 @@
 //! Turns of one collector, one after the other.
 ghost use Rattle.std.specs.Prelude.{◌≡◌};
 
-use crate::opening::{JOIN_A, config_of, core_of, reply_of, submit_line};
+use crate::opening::{JOIN_A, config_of, core_of, reply_of, submit, submit_line};
 use alloc_desk::{Desk, DeskName, Pass};
 use allocation_core::{Core, Event};
 use collector_pool::{Open, Turn, TurnEnd, collector_turn};
@@ -11,33 +11,98 @@ use std::alloc::{AllocError, Global};
 use std::marker::Brand;
 use std::sync::Wait;
 use std::sync::ledger::{Blank, Ledger};
-use std::test::*;
+use std::test::Fail;
 
 const TARGETS: &str =
     r#"{"event":"discover","job":"j","source":0,"targets":[{"labels":{"__scheme__":"http","__metrics_path__":"/a"},"targets":["h:1"]},{"labels":{"__scheme__":"http"},"targets":["h:2"]},{"labels":{"__scheme__":"http"},"targets":["h:3"]},{"labels":{"__scheme__":"https"},"targets":["h:4"]}]}"#;
 
 #[test]
 fn turns_report_what_was_fetched(rt: HostRuntime) -> Result<(), Fail> {
-    let core = core_of(rt.alloc(), 0).ok_or("opens")?;
-    let (turns, script) = turns_alone::<Brand, Brand, Brand, HostRuntime>(
-        &rt,
-        rt.alloc(),
-        core,
-        Blank::new(1),
-        Blank::new(1),
-    ).ok_or("turns")?;
-    assert!(rt;
-        turns
-            == [
-                turn(0, 0, 0, 0, TurnEnd::NotJoined),
-                turn(1, 4, 0, 2, TurnEnd::Complete),
-                turn(1, 0, 4, 0, TurnEnd::Complete),
-                turn(1, 1, 0, 0, TurnEnd::Memory),
-            ]
-    );
-    assert_eq!(rt; script.failures(), 4);
-    assert!(rt; asks_in_order(script.asked()));
+    assert!(rt; are_reported(&rt, rt.alloc()));
     Ok(())
+}
+
+fn are_reported<R: Wait>(rt: &R, alloc: Global) -> bool {
+    match core_of(alloc, 0) {
+        Some(core) => {
+            over_one_desk::<Brand, Brand, Brand, R>(rt, alloc, core, Blank::new(1), Blank::new(1))
+        }
+        None => false,
+    }
+}
+
+fn over_one_desk<L: Ledger, B: Ledger, N: DeskName, R: Wait>(
+    rt: &R,
+    alloc: Global,
+    core: Core,
+    calls: Blank,
+    samples: Blank,
+) -> bool
+    requires core { (core ≡ N.opening) × (N.seats ≡ 1) }
+    requires calls { (calls.name ≡ L.name) × (calls.parts ≡ L.parts) × (L.parts ≡ 1) }
+    requires samples { (samples.name ≡ B.name) × (samples.parts ≡ B.parts) × (B.parts ≡ 1) }
+{
+    match Desk::<L, B, N>::open(alloc, core, 1, calls, samples) {
+        Ok((desk, mut passes)) => by_first_pass(rt, alloc, &desk, passes.as_mut_slice()),
+        Err(_) => false,
+    }
+}
+
+fn by_first_pass<L: Ledger, B: Ledger, N: DeskName, R: Wait>(
+    rt: &R,
+    alloc: Global,
+    desk: &Desk<L, B, N>,
+    passes: &mut [Pass<L, B, N>],
+) -> bool {
+    match passes.first_mut() {
+        Some(pass) => prepare(rt, alloc, desk, pass).is_some() && by_config(rt, alloc, desk, pass),
+        None => false,
+    }
+}
+
+fn by_config<L: Ledger, B: Ledger, N: DeskName, R: Wait>(
+    rt: &R,
+    alloc: Global,
+    desk: &Desk<L, B, N>,
+    pass: &mut Pass<L, B, N>,
+) -> bool {
+    match config_of(alloc) {
+        Some(config) => by_script(rt, alloc, desk, pass, config.jobs.as_slice()),
+        None => false,
+    }
+}
+
+fn by_script<L: Ledger, B: Ledger, N: DeskName, R: Wait>(
+    rt: &R,
+    alloc: Global,
+    desk: &Desk<L, B, N>,
+    pass: &mut Pass<L, B, N>,
+    jobs: &[Job],
+) -> bool {
+    match script_of(alloc) {
+        Ok(mut script) => {
+            are_wanted(turns_of(rt, alloc, desk, pass, jobs, &mut script))
+                && script.failures() == 4
+                && asks_in_order(script.asked())
+        }
+        Err(_) => false,
+    }
+}
+
+/// A turn of nobody, a turn that scrapes, one that comes too late in its round, and one that runs out of memory.
+fn are_wanted(turns: Option<[Turn; 4]>) -> bool {
+    match turns {
+        Some(turns) => {
+            turns
+                == [
+                    turn(0, 0, 0, 0, TurnEnd::NotJoined),
+                    turn(1, 4, 0, 2, TurnEnd::Complete),
+                    turn(1, 0, 4, 0, TurnEnd::Complete),
+                    turn(1, 1, 0, 0, TurnEnd::Memory),
+                ]
+        }
+        None => false,
+    }
 }
 
 fn turn(number: u32, booked: u32, refused: u32, samples: u64, end: TurnEnd) -> Turn {
@@ -60,35 +125,6 @@ fn asks_in_order(asked: &[Get]) -> bool {
         })
 }
 
-/// A turn of nobody, a turn that scrapes, one that comes too late in its round, and one that runs out of memory.
-fn turns_alone<L: Ledger, B: Ledger, N: DeskName, R: Wait>(
-    rt: &R,
-    alloc: Global,
-    core: Core,
-    calls: Blank,
-    samples: Blank,
-) -> Option<([Turn; 4], Script)>
-    requires core { (core ≡ N.opening) × (N.seats ≡ 1) }
-    requires calls { (calls.name ≡ L.name) × (calls.parts ≡ L.parts) × (L.parts ≡ 1) }
-    requires samples { (samples.name ≡ B.name) × (samples.parts ≡ B.parts) × (B.parts ≡ 1) }
-{
-    let (desk, mut passes) = Desk::<L, B, N>::open(alloc, core, 1, calls, samples).ok()?;
-    turns_over(rt, alloc, &desk, passes.first_mut()?)
-}
-
-fn turns_over<L: Ledger, B: Ledger, N: DeskName, R: Wait>(
-    rt: &R,
-    alloc: Global,
-    desk: &Desk<L, B, N>,
-    pass: &mut Pass<L, B, N>,
-) -> Option<([Turn; 4], Script)> {
-    prepare(rt, alloc, desk, pass)?;
-    let config = config_of(alloc)?;
-    let mut script = script_of(alloc).ok()?;
-    let turns = turns_of(rt, alloc, desk, pass, config.jobs.as_slice(), &mut script)?;
-    Some((turns, script))
-}
-
 fn prepare<L: Ledger, B: Ledger, N: DeskName, R: Wait>(
     rt: &R,
     alloc: Global,
@@ -97,8 +133,10 @@ fn prepare<L: Ledger, B: Ledger, N: DeskName, R: Wait>(
 ) -> Option<()> {
     submit_line(rt, alloc, desk, pass, JOIN_A)?;
     submit_line(rt, alloc, desk, pass, TARGETS)?;
-    let _published = desk.reallocate(rt, alloc, pass, 8).ok()?;
-    Some(())
+    match desk.reallocate(rt, alloc, pass, 8) {
+        Ok(_) => Some(()),
+        Err(_) => None,
+    }
 }
 
 fn turns_of<L: Ledger, B: Ledger, N: DeskName, R: Wait>(
@@ -112,7 +150,7 @@ fn turns_of<L: Ledger, B: Ledger, N: DeskName, R: Wait>(
     let nobody = collector_turn(desk, rt, alloc, pass, jobs, 2, script, &Open);
     let first = collector_turn(desk, rt, alloc, pass, jobs, 1, script, &Open);
     let late = collector_turn(desk, rt, alloc, pass, jobs, 1, script, &Open);
-    let _opened = desk.submit(rt, pass, Event::NextRound).ok()?;
+    submit(rt, desk, pass, Event::NextRound)?;
     let last = collector_turn(desk, rt, alloc, pass, jobs, 1, script, &Open);
     Some([nobody, first, late, last])
 }

@@ -1,20 +1,12 @@
-//! Tests of renewals and of their histories. They stand apart from the crates that they
-//! test, since a crate with tests is proved once more with them.
+//! A test of renewals under desks. It stands apart from what it tests, since a crate with tests is proved once more with them. What renewals and
+//! histories come to stands in the rows of `history_rows`.
 #![tactic(auto)]
 
 #[cfg(test)]
-mod faults;
-#[cfg(test)]
-mod histories;
-#[cfg(test)]
-mod opening;
+mod jobs;
 #[cfg(test)]
 mod outline;
 #[cfg(test)]
 mod random;
-#[cfg(test)]
-mod refusals;
-#[cfg(test)]
-mod renewals;
 #[cfg(test)]
 mod reopening;

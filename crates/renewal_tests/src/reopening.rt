@@ -1,14 +1,13 @@
 //! A desk that is closed, renewed under other jobs and opened again, five times, beside an allocator without a desk.
 ghost use Rattle.std.specs.Prelude.{◌≡◌};
 
-use crate::opening::{Job, renewed};
+use crate::jobs::{Job, renewed};
 use crate::outline::outline;
 use crate::random::Random;
 use alloc_desk::{Desk, DeskName, Pass, Reallocated, reallocate};
-use allocation_core::{Answer, Core, Refusal};
+use allocation_core::{Answer, Core, Event, Refusal};
 use core_history::{read_history, write_history};
 use fleet_events::read_event;
-use lists::Text;
 use std::alloc::{AllocError, Global};
 use std::marker::Brand;
 use std::sync::Wait;
@@ -63,86 +62,125 @@ reallocate
 reallocate"#;
 
 /// So many of the lines, in some order.
-fn picked(alloc: Global, random: &mut Random) -> Result<Text, AllocError> {
+fn picked(alloc: Global, random: &mut Random) -> Result<String, AllocError> {
     let count = LINES.lines().count() as u32;
     let mut text = String::new(alloc);
     for _ in 0..EVENTS {
         let place = random.below(count) as usize;
-        text.push_str(LINES.lines().nth(place).unwrap_or(""))?;
-        text.push_str("\n")?;
+        push_line(&mut text, LINES.lines().nth(place).unwrap_or(""))?;
     }
-    Ok(Text::from_string(text))
+    Ok(text)
+}
+
+fn push_line(text: &mut String, line: &str) -> Result<(), AllocError> {
+    text.push_str(line)?;
+    text.push_str("\n")
 }
 
 /// Each desk but the first is opened over an allocator that was renewed when the one before it was closed.
 #[test]
 fn a_desk_is_renewed_and_reopened_five_times(rt: HostRuntime) -> Result<(), Fail> {
-    let mut random = Random { state: 2_026 };
-    let mut core = Core::open(rt.alloc(), Vec::new(rt.alloc()))?;
-    for jobs in JOBS {
-        let lines = picked(rt.alloc(), &mut random)?;
-        let begun = renewed(rt.alloc(), core, jobs).ok_or("renews")?;
-        let history = history_of(rt.alloc(), &begun);
-        let (end, said) = one_desk::<Brand, Brand, Brand, HostRuntime>(
-            &rt,
-            rt.alloc(),
-            begun,
-            &lines,
-            Blank::new(1),
-            Blank::new(1),
-        ).ok_or("closes")?;
-        core = is_as_without(rt.alloc(), end, history, &lines, said).ok_or("is as without a desk")?;
-    }
+    assert!(rt; goes_on_from_desk_to_desk(&rt, rt.alloc()));
     Ok(())
 }
 
-fn history_of(alloc: Global, core: &Core) -> Option<Text> {
-    write_history(alloc, core).ok()
+fn goes_on_from_desk_to_desk<R: Wait>(rt: &R, alloc: Global) -> bool {
+    let mut random = Random { state: 2_026 };
+    let mut core = Core::open(alloc, Vec::new(alloc)).ok();
+    for jobs in JOBS {
+        core = next(rt, alloc, core, jobs, &mut random);
+    }
+    core.is_some()
+}
+
+/// The allocator after one more desk.
+fn next<R: Wait>(
+    rt: &R,
+    alloc: Global,
+    core: Option<Core>,
+    jobs: &[Job],
+    random: &mut Random,
+) -> Option<Core> {
+    match (core, picked(alloc, random)) {
+        (Some(core), Ok(lines)) => over_lines(rt, alloc, core, jobs, lines.as_str()),
+        _ => None,
+    }
+}
+
+fn over_lines<R: Wait>(
+    rt: &R,
+    alloc: Global,
+    core: Core,
+    jobs: &[Job],
+    lines: &str,
+) -> Option<Core> {
+    match renewed(alloc, core, jobs) {
+        Some(core) => by_desk_and_without(rt, alloc, core, lines),
+        None => None,
+    }
+}
+
+fn by_desk_and_without<R: Wait>(rt: &R, alloc: Global, core: Core, lines: &str) -> Option<Core> {
+    let history = write_history(alloc, &core);
+    let ended = one_desk::<Brand, Brand, Brand, R>(
+        rt,
+        alloc,
+        core,
+        lines,
+        Blank::new(1),
+        Blank::new(1),
+    );
+    match (ended, history) {
+        (Some((core, said)), Ok(history)) => {
+            is_as_without(alloc, core, history.as_str(), lines, said.as_str())
+        }
+        _ => None,
+    }
 }
 
 /// The allocator, if one without a desk answers the same from that history on and comes to the same.
 fn is_as_without(
     alloc: Global,
     core: Core,
-    history: Option<Text>,
-    lines: &Text,
-    said: String,
+    history: &str,
+    lines: &str,
+    said: &str,
 ) -> Option<Core> {
-    match without(alloc, history, lines) {
-        Some((answers, end))
-            if answers.as_str() == said.as_str() && has_outline(alloc, &core, end.as_str()) => Some(
-            core,
-        ),
-        _ => None,
+    if agrees_without(alloc, &core, history, lines, said) {
+        Some(core)
+    } else {
+        None
     }
 }
 
-fn has_outline(alloc: Global, core: &Core, wanted: &str) -> bool {
-    match outline(alloc, core) {
-        Ok(outline) => outline.as_str() == wanted,
+fn agrees_without(alloc: Global, core: &Core, history: &str, lines: &str, said: &str) -> bool {
+    match read_history(alloc, history.as_bytes()) {
+        Ok(mut other) => {
+            answers_are(alloc, &mut other, lines, said) && are_alike(alloc, core, &other)
+        }
         Err(_) => false,
     }
 }
 
-/// What an allocator of a history answers to the lines, and its outline then.
-fn without(alloc: Global, history: Option<Text>, lines: &Text) -> Option<(String, String)> {
-    let history = history?;
-    let mut core = read_history(alloc, history.as_str().as_bytes()).ok()?;
-    ended(alloc, &mut core, lines)
+fn answers_are(alloc: Global, core: &mut Core, lines: &str, wanted: &str) -> bool {
+    match answers(alloc, core, lines) {
+        Some(answers) => answers.as_str() == wanted,
+        None => false,
+    }
 }
 
-fn ended(alloc: Global, core: &mut Core, lines: &Text) -> Option<(String, String)> {
-    let said = answers(alloc, core, lines)?;
-    let end = outline(alloc, core).ok()?;
-    Some((said, end))
+fn are_alike(alloc: Global, one: &Core, other: &Core) -> bool {
+    match (outline(alloc, one), outline(alloc, other)) {
+        (Ok(one), Ok(other)) => one.as_str() == other.as_str(),
+        _ => false,
+    }
 }
 
 /// The answers to the lines, each with a semicolon behind it.
-fn answers(alloc: Global, core: &mut Core, lines: &Text) -> Option<String> {
+fn answers(alloc: Global, core: &mut Core, lines: &str) -> Option<String> {
     let mut text = String::new(alloc);
-    for line in lines.as_str().lines() {
-        let answer = answered(alloc, core, line)?;
-        push_answer(alloc, &mut text, &answer)?;
+    for line in lines.lines() {
+        push_answer(alloc, &mut text, answered(alloc, core, line))?;
     }
     Some(text)
 }
@@ -151,13 +189,24 @@ fn answered(alloc: Global, core: &mut Core, line: &str) -> Option<Answer> {
     if line == REALLOCATE {
         return reallocate(alloc, core).ok();
     }
-    let event = read_event(alloc, line.as_bytes()).ok()??;
-    core.apply(event).ok()
+    match read_event(alloc, line.as_bytes()) {
+        Ok(Some(event)) => core.apply(event).ok(),
+        _ => None,
+    }
 }
 
-fn push_answer(alloc: Global, text: &mut String, answer: &Answer) -> Option<()> {
-    text.push_str(answer.line(alloc).ok()?.as_str()).ok()?;
-    text.push_str(";").ok()
+fn push_answer(alloc: Global, text: &mut String, answer: Option<Answer>) -> Option<()> {
+    match answer {
+        Some(answer) => push_text(text, answer.line(alloc)),
+        None => None,
+    }
+}
+
+fn push_text(text: &mut String, line: Result<String, AllocError>) -> Option<()> {
+    match line {
+        Ok(line) if text.push_str(line.as_str()).is_ok() => text.push_str(";").ok(),
+        _ => None,
+    }
 }
 
 /// The allocator after a desk over it took the lines and was closed, with the answers, each with a semicolon behind it.
@@ -165,7 +214,7 @@ fn one_desk<L: Ledger, B: Ledger, N: DeskName, R: Wait>(
     rt: &R,
     alloc: Global,
     core: Core,
-    lines: &Text,
+    lines: &str,
     calls: Blank,
     samples: Blank,
 ) -> Option<(Core, String)>
@@ -173,12 +222,37 @@ fn one_desk<L: Ledger, B: Ledger, N: DeskName, R: Wait>(
     requires calls { (calls.name ≡ L.name) × (calls.parts ≡ L.parts) × (L.parts ≡ 1) }
     requires samples { (samples.name ≡ B.name) × (samples.parts ≡ B.parts) × (B.parts ≡ 1) }
 {
-    let (desk, mut passes) = Desk::<L, B, N>::open(alloc, core, 1, calls, samples).ok()?;
-    let mut pass = passes.pop()?;
-    let said = all_said(rt, alloc, &desk, &mut pass, lines)?;
-    passes.push(pass).ok()?;
-    let closed = desk.close(passes).ok()?;
-    Some((closed.into_core(), said))
+    match Desk::<L, B, N>::open(alloc, core, 1, calls, samples) {
+        Ok((desk, passes)) => over_desk(rt, alloc, desk, passes, lines),
+        Err(_) => None,
+    }
+}
+
+fn over_desk<L: Ledger, B: Ledger, N: DeskName, R: Wait>(
+    rt: &R,
+    alloc: Global,
+    desk: Desk<L, B, N>,
+    mut passes: Vec<Pass<L, B, N>>,
+    lines: &str,
+) -> Option<(Core, String)> {
+    let said = said_to_first(rt, alloc, &desk, passes.as_mut_slice(), lines);
+    match (desk.close(passes), said) {
+        (Ok(closed), Some(said)) => Some((closed.into_core(), said)),
+        _ => None,
+    }
+}
+
+fn said_to_first<L: Ledger, B: Ledger, N: DeskName, R: Wait>(
+    rt: &R,
+    alloc: Global,
+    desk: &Desk<L, B, N>,
+    passes: &mut [Pass<L, B, N>],
+    lines: &str,
+) -> Option<String> {
+    match passes.first_mut() {
+        Some(pass) => all_said(rt, alloc, desk, pass, lines),
+        None => None,
+    }
 }
 
 fn all_said<L: Ledger, B: Ledger, N: DeskName, R: Wait>(
@@ -186,12 +260,11 @@ fn all_said<L: Ledger, B: Ledger, N: DeskName, R: Wait>(
     alloc: Global,
     desk: &Desk<L, B, N>,
     pass: &mut Pass<L, B, N>,
-    lines: &Text,
+    lines: &str,
 ) -> Option<String> {
     let mut text = String::new(alloc);
-    for line in lines.as_str().lines() {
-        let answer = said(rt, alloc, desk, pass, line)?;
-        push_answer(alloc, &mut text, &answer)?;
+    for line in lines.lines() {
+        push_answer(alloc, &mut text, said(rt, alloc, desk, pass, line))?;
     }
     Some(text)
 }
@@ -205,11 +278,35 @@ fn said<L: Ledger, B: Ledger, N: DeskName, R: Wait>(
     line: &str,
 ) -> Option<Answer> {
     if line == REALLOCATE {
-        return match desk.reallocate(rt, alloc, pass, 1).ok()? {
-            Reallocated::Published(number) => Some(Answer::Published(number)),
-            Reallocated::Unchanged(number) => Some(Answer::Not(Refusal::Unchanged(number))),
-        };
+        return reallocated(rt, alloc, desk, pass);
     }
-    let event = read_event(alloc, line.as_bytes()).ok()??;
-    Some(desk.submit(rt, pass, event).ok()?.answer)
+    match read_event(alloc, line.as_bytes()) {
+        Ok(Some(event)) => submitted(rt, desk, pass, event),
+        _ => None,
+    }
+}
+
+fn reallocated<L: Ledger, B: Ledger, N: DeskName, R: Wait>(
+    rt: &R,
+    alloc: Global,
+    desk: &Desk<L, B, N>,
+    pass: &mut Pass<L, B, N>,
+) -> Option<Answer> {
+    match desk.reallocate(rt, alloc, pass, 1) {
+        Ok(Reallocated::Published(number)) => Some(Answer::Published(number)),
+        Ok(Reallocated::Unchanged(number)) => Some(Answer::Not(Refusal::Unchanged(number))),
+        Err(_) => None,
+    }
+}
+
+fn submitted<L: Ledger, B: Ledger, N: DeskName, R: Wait>(
+    rt: &R,
+    desk: &Desk<L, B, N>,
+    pass: &mut Pass<L, B, N>,
+    event: Event,
+) -> Option<Answer> {
+    match desk.submit(rt, pass, event) {
+        Ok(receipt) => Some(receipt.answer),
+        Err(_) => None,
+    }
 }

@@ -1,30 +1,34 @@
 //! A desk of one job to be served.
 ghost use Rattle.std.specs.Prelude.{◌≡◌};
 
-use alloc_desk::{Desk, DeskName};
+use alloc_desk::{Desk, DeskName, Pass};
 use allocation_core::{Answer, Core, JobSpec};
 use fleet_events::read_event;
 use lists::Text;
 use sd_documents::read_config;
 use sd_server::{Handler, ListTexts};
 use service_state::{ConfigPages, ServiceState};
-use std::alloc::Global;
+use std::alloc::{AllocError, Global};
 use std::sync::ledger::{Blank, Ledger};
 use std::sync::{Arc, Mutex};
 
 const CONFIG: &str = r#"{"scrape_configs":[{"job_name":"j","target_limit":1}]}"#;
 
 pub(crate) fn core_of(alloc: Global) -> Option<Core> {
-    let name = Text::from_str(alloc, "j").ok()?;
-    let jobs = vec![in alloc;
-        JobSpec {
-            name,
-            target_limit: 1,
-            sources: 1
-        },
-    ]
-    .ok()?;
-    Core::open(alloc, jobs).ok()
+    match jobs_of(alloc) {
+        Ok(jobs) => Core::open(alloc, jobs).ok(),
+        Err(_) => None,
+    }
+}
+
+fn jobs_of(alloc: Global) -> Result<Vec<JobSpec>, AllocError> {
+    let mut jobs = Vec::new(alloc);
+    jobs.push(JobSpec {
+        name: Text::from_str(alloc, "j")?,
+        target_limit: 1,
+        sources: 1,
+    })?;
+    Ok(jobs)
 }
 
 /// What comes to an allocator before it is served: its collector `h` holds target 0.
@@ -36,22 +40,26 @@ const HELD: [&str; 3] = [
 
 /// An allocator whose one target is held.
 pub(crate) fn held_core_of(alloc: Global) -> Option<Core> {
-    let mut core = core_of(alloc)?;
-    let answer = applied(alloc, &mut core)?;
-    match answer {
-        Answer::Published(1) => Some(core),
+    match core_of(alloc) {
+        Some(mut core) if comes_to_be_held(alloc, &mut core) => Some(core),
         _ => None,
     }
 }
 
-/// The answer to the last of the events.
-fn applied(alloc: Global, core: &mut Core) -> Option<Answer> {
+/// Whether the last of the events is published as the first allocation.
+fn comes_to_be_held(alloc: Global, core: &mut Core) -> bool {
     let mut last = None;
     for line in HELD {
-        let event = read_event(alloc, line.as_bytes()).ok()??;
-        last = core.apply(event).ok();
+        last = answered(alloc, core, line);
     }
-    last
+    matches!(last, Some(Answer::Published(1)))
+}
+
+fn answered(alloc: Global, core: &mut Core, line: &str) -> Option<Answer> {
+    match read_event(alloc, line.as_bytes()) {
+        Ok(Some(event)) => core.apply(event).ok(),
+        _ => None,
+    }
 }
 
 /// What requests are handled with, over a desk of one pass.
@@ -66,21 +74,63 @@ pub(crate) fn handler_of<R: Copy, L: Ledger, B: Ledger, N: DeskName>(
     requires calls { (calls.name ≡ L.name) × (calls.parts ≡ L.parts) × (L.parts ≡ 1) }
     requires samples { (samples.name ≡ B.name) × (samples.parts ≡ B.parts) × (B.parts ≡ 1) }
 {
-    let (desk, mut passes) = Desk::<L, B, N>::open(alloc, core, 1, calls, samples).ok()?;
-    let pass = passes.pop()?;
-    Some(Handler {
-        rt: *rt,
-        alloc,
-        desk: Arc::new(alloc, desk).ok()?,
-        pass: Arc::new(alloc, Mutex::new(pass)).ok()?,
-        pages: Arc::new(alloc, pages_of(alloc)?).ok()?,
-        state: Arc::new(alloc, ServiceState::new(alloc, false, 0)).ok()?,
-        kept: None,
-        texts: Arc::new(alloc, ListTexts::new(alloc)).ok()?,
-    })
+    match Desk::<L, B, N>::open(alloc, core, 1, calls, samples) {
+        Ok((desk, mut passes)) => match passes.pop() {
+            Some(pass) => with_pass(rt, alloc, desk, pass),
+            None => None,
+        },
+        Err(_) => None,
+    }
 }
 
-fn pages_of(alloc: Global) -> Option<ConfigPages> {
-    let config = read_config(alloc, CONFIG.as_bytes()).ok()?;
-    ConfigPages::of(alloc, &config).ok()
+fn with_pass<R: Copy, L: Ledger, B: Ledger, N: DeskName>(
+    rt: &R,
+    alloc: Global,
+    desk: Desk<L, B, N>,
+    pass: Pass<L, B, N>,
+) -> Option<Handler<R, L, B, N>> {
+    match (Arc::new(alloc, desk), Arc::new(alloc, Mutex::new(pass))) {
+        (Ok(desk), Ok(pass)) => with_pages(rt, alloc, desk, pass),
+        _ => None,
+    }
+}
+
+fn with_pages<R: Copy, L: Ledger, B: Ledger, N: DeskName>(
+    rt: &R,
+    alloc: Global,
+    desk: Arc<Desk<L, B, N>>,
+    pass: Arc<Mutex<Pass<L, B, N>>>,
+) -> Option<Handler<R, L, B, N>> {
+    let state = Arc::new(alloc, ServiceState::new(alloc, false, 0));
+    match (
+        pages_of(alloc),
+        state,
+        Arc::new(alloc, ListTexts::new(alloc)),
+    ) {
+        (Some(pages), Ok(state), Ok(texts)) => Some(Handler {
+            rt: *rt,
+            alloc,
+            desk,
+            pass,
+            pages,
+            state,
+            kept: None,
+            texts,
+        }),
+        _ => None,
+    }
+}
+
+fn pages_of(alloc: Global) -> Option<Arc<ConfigPages>> {
+    match read_config(alloc, CONFIG.as_bytes()) {
+        Ok(config) => shared(alloc, ConfigPages::of(alloc, &config).ok()),
+        Err(_) => None,
+    }
+}
+
+fn shared(alloc: Global, pages: Option<ConfigPages>) -> Option<Arc<ConfigPages>> {
+    match pages {
+        Some(pages) => Arc::new(alloc, pages).ok(),
+        None => None,
+    }
 }

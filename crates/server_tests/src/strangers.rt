@@ -6,7 +6,7 @@ use crate::desks::{core_of, handler_of};
 use crate::talks::{LAST, TALKS};
 use alloc_desk::DeskName;
 use allocation_core::Core;
-use sd_server::{Times, Workers, serve_by_workers};
+use sd_server::{Handler, Times, Workers, serve_by_workers};
 use std::alloc::{AllocGlobal, Global};
 use std::marker::Brand;
 use std::net::{Ipv4Addr, Net, SocketAddr, TcpListener, TcpStream};
@@ -25,22 +25,20 @@ const LOOK_MILLIS: u64 = 10;
 
 #[test]
 fn strangers_are_answered(rt: HostRuntime) -> Result<(), Fail> {
-    let core = core_of(rt.alloc()).ok_or("opens")?;
     let times = Times {
         head: 3_000,
         turn: 20_000,
         request: 20_000,
     };
-    let wrong = first_wrong_talk::<Brand, Brand, Brand, HostRuntime>(
-        &rt,
-        rt.alloc(),
-        core,
-        Blank::new(1),
-        Blank::new(1),
-        times,
-        TALKS.as_slice(),
+    assert!(rt;
+        are_answered(
+            &rt,
+            rt.alloc(),
+            core_of(rt.alloc()),
+            times,
+            TALKS.as_slice()
+        )
     );
-    assert!(rt; wrong == Some(None));
     Ok(())
 }
 
@@ -49,27 +47,43 @@ fn strangers_are_answered(rt: HostRuntime) -> Result<(), Fail> {
 fn an_old_connection_says_that_it_ends_and_a_stop_waits_for_no_idle_one(
     rt: HostRuntime,
 ) -> Result<(), Fail> {
-    let core = core_of(rt.alloc()).ok_or("opens")?;
     let times = Times {
         head: 600_000,
         turn: 0,
         request: 1_200_000,
     };
-    let wrong = first_wrong_talk::<Brand, Brand, Brand, HostRuntime>(
-        &rt,
-        rt.alloc(),
-        core,
-        Blank::new(1),
-        Blank::new(1),
-        times,
-        LAST.as_slice(),
-    );
-    assert!(rt; wrong == Some(None));
+    assert!(rt; are_answered(&rt, rt.alloc(), core_of(rt.alloc()), times, LAST.as_slice()));
     Ok(())
 }
 
-/// The place of the first talk that went otherwise, or one past them where a count of connections did; else none.
-fn first_wrong_talk<L: Ledger + Send + Sync, B: Ledger + Send + Sync, N: DeskName + Send + Sync, R>(
+fn are_answered<R>(rt: &R, alloc: Global, core: Option<Core>, times: Times, talks: &[Talk]) -> bool
+where
+    R: Wait
+        + Threads
+        + Clock
+        + Net<Listener = TcpListener, Stream = TcpStream>
+        + RandomSource
+        + AllocGlobal
+        + Sync
+        + Send
+        + Copy
+        + Drop,
+{
+    match core {
+        Some(core) => over_desk::<Brand, Brand, Brand, R>(
+            rt,
+            alloc,
+            core,
+            Blank::new(1),
+            Blank::new(1),
+            times,
+            talks,
+        ),
+        None => false,
+    }
+}
+
+fn over_desk<L: Ledger + Send + Sync, B: Ledger + Send + Sync, N: DeskName + Send + Sync, R>(
     rt: &R,
     alloc: Global,
     core: Core,
@@ -77,7 +91,7 @@ fn first_wrong_talk<L: Ledger + Send + Sync, B: Ledger + Send + Sync, N: DeskNam
     samples: Blank,
     times: Times,
     talks: &[Talk],
-) -> Option<Option<usize>>
+) -> bool
 where
     R: Wait
         + Threads
@@ -93,20 +107,97 @@ where
     requires calls { (calls.name ≡ L.name) × (calls.parts ≡ L.parts) × (L.parts ≡ 1) }
     requires samples { (samples.name ≡ B.name) × (samples.parts ≡ B.parts) × (B.parts ≡ 1) }
 {
-    let handler = handler_of::<R, L, B, N>(rt, alloc, core, calls, samples)?;
-    let workers = Workers::new(alloc, 2, times).ok()?;
-    let listener = TcpListener::bind(rt, SocketAddr::from((Ipv4Addr::LOCALHOST, 0))).ok()?;
-    let here = listener.local_addr().ok()?;
-    let (served, (wrong, _idle)) = thread::join(
-        rt,
-        || serve_by_workers(rt, alloc, &workers, &listener, &handler),
-        || talk_then_stop(rt, alloc, here, &workers, talks),
-    );
-    served.ok()?;
-    Some(wrong)
+    match handler_of::<R, L, B, N>(rt, alloc, core, calls, samples) {
+        Some(handler) => by_workers(rt, alloc, &handler, times, talks),
+        None => false,
+    }
 }
 
-/// Talks, opens a connection that is idle, and stops the server. The connection is left open.
+fn by_workers<L: Ledger + Send + Sync, B: Ledger + Send + Sync, N: DeskName + Send + Sync, R>(
+    rt: &R,
+    alloc: Global,
+    handler: &Handler<R, L, B, N>,
+    times: Times,
+    talks: &[Talk],
+) -> bool
+where
+    R: Wait
+        + Threads
+        + Clock
+        + Net<Listener = TcpListener, Stream = TcpStream>
+        + RandomSource
+        + AllocGlobal
+        + Sync
+        + Send
+        + Copy
+        + Drop,
+{
+    match Workers::new(alloc, 2, times) {
+        Ok(workers) => by_listener(rt, alloc, handler, &workers, talks),
+        Err(_) => false,
+    }
+}
+
+fn by_listener<L: Ledger + Send + Sync, B: Ledger + Send + Sync, N: DeskName + Send + Sync, R>(
+    rt: &R,
+    alloc: Global,
+    handler: &Handler<R, L, B, N>,
+    workers: &Workers,
+    talks: &[Talk],
+) -> bool
+where
+    R: Wait
+        + Threads
+        + Clock
+        + Net<Listener = TcpListener, Stream = TcpStream>
+        + RandomSource
+        + AllocGlobal
+        + Sync
+        + Send
+        + Copy
+        + Drop,
+{
+    match TcpListener::bind(rt, SocketAddr::from((Ipv4Addr::LOCALHOST, 0))) {
+        Ok(listener) => match listener.local_addr() {
+            Ok(here) => by_clients(rt, alloc, handler, workers, &listener, here, talks),
+            Err(_) => false,
+        },
+        Err(_) => false,
+    }
+}
+
+/// Whether each talk goes as it says, while the server runs until it is stopped.
+fn by_clients<L: Ledger + Send + Sync, B: Ledger + Send + Sync, N: DeskName + Send + Sync, R>(
+    rt: &R,
+    alloc: Global,
+    handler: &Handler<R, L, B, N>,
+    workers: &Workers,
+    listener: &TcpListener,
+    here: SocketAddr,
+    talks: &[Talk],
+) -> bool
+where
+    R: Wait
+        + Threads
+        + Clock
+        + Net<Listener = TcpListener, Stream = TcpStream>
+        + RandomSource
+        + AllocGlobal
+        + Sync
+        + Send
+        + Copy
+        + Drop,
+{
+    let (served, (wrong, _idle)) = thread::join(
+        rt,
+        || serve_by_workers(rt, alloc, workers, listener, handler),
+        || talk_then_stop(rt, alloc, here, workers, talks),
+    );
+    served.is_ok() && wrong.is_none()
+}
+
+/// Talks, opens a connection that is idle, and stops the server. The connection is left open. Gives the place of the first talk that went otherwise,
+/// or one past them where a count of connections did; else none.
 fn talk_then_stop<R: Net<Listener = TcpListener, Stream = TcpStream> + Clock>(
     rt: &R,
     alloc: Global,

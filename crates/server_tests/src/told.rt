@@ -13,7 +13,6 @@ use sd_routes::{Routes, Said, answer, route};
 use sd_server::Handler;
 use std::alloc::Global;
 use std::marker::Brand;
-use std::process::Abort;
 use std::sync::Wait;
 use std::sync::ledger::{Blank, Ledger};
 use std::test::Fail;
@@ -35,48 +34,54 @@ const FULL_ROWS: [Row; 2] = [
 
 #[test]
 fn each_row_is_told_over_a_desk(rt: HostRuntime) -> Result<(), Fail> {
-    let core = core_of(rt.alloc()).ok_or("opens")?;
-    all_are_told::<Brand, Brand, Brand, HostRuntime>(
-        &rt,
-        rt.alloc(),
-        core,
-        Blank::new(1),
-        Blank::new(1),
-        0,
-        ROWS.as_slice(),
-    )
+    assert!(rt; are_told(&rt, rt.alloc(), core_of(rt.alloc()), 0, ROWS.as_slice()));
+    Ok(())
 }
 
 #[test]
 fn each_row_of_a_held_target_is_told_over_a_desk(rt: HostRuntime) -> Result<(), Fail> {
-    let core = held_core_of(rt.alloc()).ok_or("opens")?;
-    all_are_told::<Brand, Brand, Brand, HostRuntime>(
-        &rt,
-        rt.alloc(),
-        core,
-        Blank::new(1),
-        Blank::new(1),
-        0,
-        HELD_ROWS.as_slice(),
-    )
+    assert!(rt;
+        are_told(
+            &rt,
+            rt.alloc(),
+            held_core_of(rt.alloc()),
+            0,
+            HELD_ROWS.as_slice()
+        )
+    );
+    Ok(())
 }
 
 #[test]
 fn a_full_journal_is_told_over_a_desk(rt: HostRuntime) -> Result<(), Fail> {
-    let core = core_of(rt.alloc()).ok_or("opens")?;
-    all_are_told::<Brand, Brand, Brand, HostRuntime>(
-        &rt,
-        rt.alloc(),
-        core,
-        Blank::new(1),
-        Blank::new(1),
-        MOST_ENTRIES,
-        FULL_ROWS.as_slice(),
-    )
+    let rows = FULL_ROWS.as_slice();
+    assert!(rt; are_told(&rt, rt.alloc(), core_of(rt.alloc()), MOST_ENTRIES, rows));
+    Ok(())
 }
 
-/// Each row is told as it says, once so many rounds were opened.
-fn all_are_told<L: Ledger, B: Ledger, N: DeskName, R: Wait + Clock + Abort + Copy>(
+/// Whether each row is told as it says, once so many rounds were opened.
+fn are_told<R: Wait + Clock + Copy>(
+    rt: &R,
+    alloc: Global,
+    core: Option<Core>,
+    rounds: usize,
+    rows: &[Row],
+) -> bool {
+    match core {
+        Some(core) => over_desk::<Brand, Brand, Brand, R>(
+            rt,
+            alloc,
+            core,
+            Blank::new(1),
+            Blank::new(1),
+            rounds,
+            rows,
+        ),
+        None => false,
+    }
+}
+
+fn over_desk<L: Ledger, B: Ledger, N: DeskName, R: Wait + Clock + Copy>(
     rt: &R,
     alloc: Global,
     core: Core,
@@ -84,74 +89,139 @@ fn all_are_told<L: Ledger, B: Ledger, N: DeskName, R: Wait + Clock + Abort + Cop
     samples: Blank,
     rounds: usize,
     rows: &[Row],
-) -> Result<(), Fail>
+) -> bool
     requires core { (core ≡ N.opening) × (N.seats ≡ 1) }
     requires calls { (calls.name ≡ L.name) × (calls.parts ≡ L.parts) × (L.parts ≡ 1) }
     requires samples { (samples.name ≡ B.name) × (samples.parts ≡ B.parts) × (B.parts ≡ 1) }
 {
-    let handler = handler_of::<R, L, B, N>(rt, alloc, core, calls, samples).ok_or("a desk")?;
-    open_rounds(rt, &handler, rounds)?;
-    are_told(rt, alloc, &handler, rows)
+    match handler_of::<R, L, B, N>(rt, alloc, core, calls, samples) {
+        Some(handler) => { opens_rounds(rt, &handler, rounds) && by_routes(alloc, &handler, rows) }
+        None => false,
+    }
 }
 
-fn open_rounds<L: Ledger, B: Ledger, N: DeskName, R: Wait>(
+fn opens_rounds<L: Ledger, B: Ledger, N: DeskName, R: Wait>(
     rt: &R,
     handler: &Handler<R, L, B, N>,
     rounds: usize,
-) -> Result<(), Fail> {
-    let mut pass = handler.pass.lock(rt);
+) -> bool {
     for _ in 0..rounds {
-        handler
-            .desk
-            .submit(rt, &mut *pass, Event::NextRound)
-            .ok()
-            .ok_or("a round")?;
+        if !opens_round(rt, handler) {
+            return false;
+        }
     }
-    Ok(())
+    true
 }
 
-fn are_told<L: Ledger, B: Ledger, N: DeskName, R: Wait + Clock + Abort + Copy>(
+fn opens_round<L: Ledger, B: Ledger, N: DeskName, R: Wait>(
     rt: &R,
+    handler: &Handler<R, L, B, N>,
+) -> bool {
+    let mut pass = handler.pass.lock(rt);
+    handler
+        .desk
+        .submit(rt, &mut *pass, Event::NextRound)
+        .is_ok()
+}
+
+fn by_routes<L: Ledger, B: Ledger, N: DeskName, R: Wait + Clock + Copy>(
     alloc: Global,
     handler: &Handler<R, L, B, N>,
     rows: &[Row],
-) -> Result<(), Fail> {
-    let routes = Routes::open(alloc)?;
-    for row in rows {
-        let said = said_of(alloc, &routes, handler, row.request)?;
-        tells(rt, alloc, said, row)?;
+) -> bool {
+    match Routes::open(alloc) {
+        Ok(routes) => all_are_told(alloc, &routes, handler, rows),
+        Err(_) => false,
     }
-    Ok(())
+}
+
+fn all_are_told<L: Ledger, B: Ledger, N: DeskName, R: Wait + Clock + Copy>(
+    alloc: Global,
+    routes: &Routes,
+    handler: &Handler<R, L, B, N>,
+    rows: &[Row],
+) -> bool {
+    for row in rows {
+        if !is_told(alloc, said_to(alloc, routes, handler, row.request), row) {
+            return false;
+        }
+    }
+    true
 }
 
 /// What is said to a request.
-fn said_of<L: Ledger, B: Ledger, N: DeskName, R: Wait + Clock + Copy>(
+fn said_to<L: Ledger, B: Ledger, N: DeskName, R: Wait + Clock + Copy>(
     alloc: Global,
     routes: &Routes,
     handler: &Handler<R, L, B, N>,
     request: &str,
-) -> Result<Said, Fail> {
-    let (head, body) = request.split_once("\r\n\r\n").ok_or("no head")?;
-    let (method, rest) = head.split_once(' ').ok_or("no method")?;
-    let (target, _) = rest.split_once(' ').ok_or("no target")?;
-    let method = Method::from_bytes(alloc, method.as_bytes())?;
-    let target = Uri::from_str(alloc, target)?;
-    Ok(match route(routes, alloc, &method, &target) {
-        Ok(ask) => handler.said(&ask, body.as_bytes()),
-        Err(error) => Said::Refused(error),
-    })
+) -> Option<Said> {
+    let (head, body) = request.split_once("\r\n\r\n")?;
+    let (method, rest) = head.split_once(' ')?;
+    let (target, _) = rest.split_once(' ')?;
+    let method = Method::from_bytes(alloc, method.as_bytes());
+    match (method, Uri::from_str(alloc, target)) {
+        (Ok(method), Ok(target)) => {
+            Some(said_at(alloc, routes, handler, &method, &target, body))
+        }
+        _ => None,
+    }
 }
 
-/// The answer has the row's status code, and its body where the row has the whole of it.
-fn tells(rt: &impl Abort, alloc: Global, said: Said, row: &Row) -> Result<(), Fail> {
-    let response = answer(alloc, said)?;
-    let status = format!(in alloc; "HTTP/1.1 {} ", response.status().as_u16())?;
-    assert!(rt; row.begins.starts_with(status.as_str()), "{}", row.request);
-    if let Some(body) = row.ends.strip_prefix("\r\n\r\n") {
-        let told = format!(in alloc; "{:?}", response.body())?;
-        let body: Full<Bytes> = Full::new(Bytes::from_static(body.as_bytes()));
-        let expected = format!(in alloc; "{:?}", body)?;
-        assert_eq!(rt; told.as_str(), expected.as_str());
+fn said_at<L: Ledger, B: Ledger, N: DeskName, R: Wait + Clock + Copy>(
+    alloc: Global,
+    routes: &Routes,
+    handler: &Handler<R, L, B, N>,
+    method: &Method,
+    target: &Uri,
+    body: &str,
+) -> Said {
+    match route(routes, alloc, method, target) {
+        Ok(ask) => handler.said(&ask, body.as_bytes()),
+        Err(error) => Said::Refused(error),
     }
-    Ok(())
+}
+
+/// Whether the answer has the row's status code, and its body where the row has the whole of it.
+fn is_told(alloc: Global, said: Option<Said>, row: &Row) -> bool {
+    match said {
+        Some(said) => match answer(alloc, said) {
+            Ok(response) => {
+                has_status(alloc, response.status().as_u16(), row.begins)
+                    && has_body(alloc, response.body(), row.ends)
+            }
+            Err(_) => false,
+        },
+        None => false,
+    }
+}
+
+fn has_status(alloc: Global, status: u16, begins: &str) -> bool {
+    match format!(in alloc; "HTTP/1.1 {status} ") {
+        Ok(line) => begins.starts_with(line.as_str()),
+        Err(_) => false,
+    }
+}
+
+fn has_body(alloc: Global, body: &Full<Bytes>, ends: &'static str) -> bool {
+    match ends.strip_prefix("\r\n\r\n") {
+        Some(wanted) => {
+            is_written_alike(
+                alloc,
+                body,
+                &Full::new(Bytes::from_static(wanted.as_bytes())),
+            )
+        }
+        None => true,
+    }
+}
+
+fn is_written_alike(alloc: Global, body: &Full<Bytes>, wanted: &Full<Bytes>) -> bool {
+    match (
+        format!(in alloc; "{body:?}"),
+        format!(in alloc; "{wanted:?}"),
+    ) {
+        (Ok(body), Ok(wanted)) => body.as_str() == wanted.as_str(),
+        _ => false,
+    }
 }

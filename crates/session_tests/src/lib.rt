@@ -1,11 +1,7 @@
-//! Tests of sessions: of documents and lines, of rounds over devices in memory, and of whole sessions over loopback. They stand apart from
-//! what they test, since a crate with tests is proved once more with them.
+//! Tests of the parts of a session, and of rounds over devices in memory. They stand apart from what they test, since a crate with tests is proved
+//! once more with them. What documents say, and the lines, stand in the rows of `request_rows`, and whole sessions in `tests/session`.
 #![tactic(auto)]
 
-#[cfg(test)]
-mod commands;
-#[cfg(test)]
-mod documents;
 #[cfg(test)]
 mod opening;
 #[cfg(test)]

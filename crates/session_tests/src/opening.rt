@@ -19,16 +19,20 @@ pub(crate) fn session_of(alloc: Global) -> Option<Session> {
 
 /// The allocator of the session's job.
 pub(crate) fn core_of(alloc: Global) -> Option<Core> {
-    let name = Text::from_str(alloc, "j").ok()?;
-    let jobs = vec![in alloc;
-        JobSpec {
-            name,
-            target_limit: 0,
-            sources: 3
-        },
-    ]
-    .ok()?;
-    Core::open(alloc, jobs).ok()
+    match jobs_of(alloc) {
+        Ok(jobs) => Core::open(alloc, jobs).ok(),
+        Err(_) => None,
+    }
+}
+
+fn jobs_of(alloc: Global) -> Result<Vec<JobSpec>, AllocError> {
+    let mut jobs = Vec::new(alloc);
+    jobs.push(JobSpec {
+        name: Text::from_str(alloc, "j")?,
+        target_limit: 0,
+        sources: 3,
+    })?;
+    Ok(jobs)
 }
 
 /// Collectors 1 and 2, whose targets always answer.
@@ -38,18 +42,28 @@ pub(crate) fn workers_of<L: Ledger, B: Ledger, N: DeskName>(
 ) -> Option<Vec<Worker<L, B, N, Script>>> {
     let mut workers = Vec::new(alloc);
     for id in 1u32..3 {
-        let scrape = targets_script(alloc).ok()?;
-        let pass = passes.pop()?;
-        workers
+        push_worker(alloc, &mut workers, passes.pop(), id)?;
+    }
+    Some(workers)
+}
+
+fn push_worker<L: Ledger, B: Ledger, N: DeskName>(
+    alloc: Global,
+    workers: &mut Vec<Worker<L, B, N, Script>>,
+    pass: Option<Pass<L, B, N>>,
+    id: u32,
+) -> Option<()> {
+    match (pass, targets_script(alloc)) {
+        (Some(pass), Ok(scrape)) => workers
             .push(Worker {
                 pass,
                 id,
                 scrape,
                 turn: None,
             })
-            .ok()?;
+            .ok(),
+        _ => None,
     }
-    Some(workers)
 }
 
 /// With the first pass.
@@ -57,16 +71,20 @@ pub(crate) fn refresher_of<L: Ledger, B: Ledger, N: DeskName>(
     alloc: Global,
     passes: &mut Vec<Pass<L, B, N>>,
 ) -> Option<Refresher<L, B, N, Script>> {
-    let scrape = sources_script(alloc).ok()?;
-    let pass = passes.pop()?;
-    Some(Refresher { pass, scrape })
+    match (passes.pop(), sources_script(alloc)) {
+        (Some(pass), Ok(scrape)) => Some(Refresher { pass, scrape }),
+        _ => None,
+    }
 }
 
 /// More answers than there are fetches.
 fn targets_script(alloc: Global) -> Result<Script, AllocError> {
     let mut script = Script::new(alloc);
     for _ in 0..8 {
-        script.push(Ok(reply_of(alloc, 200, "text/plain", "x 1\ny 2\n")?))?;
+        push_reply(
+            &mut script,
+            reply_of(alloc, 200, "text/plain", "x 1\ny 2\n"),
+        )?;
     }
     Ok(script)
 }
@@ -75,9 +93,16 @@ fn targets_script(alloc: Global) -> Result<Script, AllocError> {
 fn sources_script(alloc: Global) -> Result<Script, AllocError> {
     let mut script = Script::new(alloc);
     let list = r#"[{"targets":["h:3"],"labels":{"zone":"x"}}]"#;
-    script.push(Ok(reply_of(alloc, 200, "application/json", list)?))?;
-    script.push(Ok(reply_of(alloc, 503, "", "")?))?;
+    push_reply(&mut script, reply_of(alloc, 200, "application/json", list))?;
+    push_reply(&mut script, reply_of(alloc, 503, "", ""))?;
     Ok(script)
+}
+
+fn push_reply(script: &mut Script, reply: Result<Reply, AllocError>) -> Result<(), AllocError> {
+    match reply {
+        Ok(reply) => script.push(Ok(reply)),
+        Err(error) => Err(error),
+    }
 }
 
 fn reply_of(alloc: Global, status: u16, media: &str, body: &str) -> Result<Reply, AllocError> {

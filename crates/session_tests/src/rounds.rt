@@ -2,7 +2,7 @@
 ghost use Rattle.std.specs.Prelude.{◌≡◌};
 
 use crate::opening::{core_of, refresher_of, session_of, workers_of};
-use alloc_desk::{Desk, DeskName};
+use alloc_desk::{Desk, DeskName, Pass};
 use allocation_core::Core;
 use collector_pool::{Open, Worker};
 use http_get::Script;
@@ -22,16 +22,31 @@ round 2 booked 3 refused 0 samples 6
 
 #[test]
 fn a_session_writes_its_lines(rt: HostRuntime) -> Result<(), Fail> {
-    let core = core_of(rt.alloc()).ok_or("opens")?;
-    let text = text_of::<Brand, Brand, Brand, HostRuntime>(
-        &rt,
-        rt.alloc(),
-        core,
-        Blank::new(3),
-        Blank::new(3),
-    ).ok_or("a session")?;
-    assert!(rt; text.as_slice() == LINES.as_bytes());
+    assert!(rt; is_written(&rt, rt.alloc()));
     Ok(())
+}
+
+fn is_written<R: Threads + Wait + Sync>(rt: &R, alloc: Global) -> bool {
+    match core_of(alloc) {
+        Some(core) => {
+            let text = text_of::<Brand, Brand, Brand, R>(
+                rt,
+                alloc,
+                core,
+                Blank::new(3),
+                Blank::new(3),
+            );
+            has_lines(text)
+        }
+        None => false,
+    }
+}
+
+fn has_lines(text: Option<Vec<u8>>) -> bool {
+    match text {
+        Some(text) => text.as_slice() == LINES.as_bytes(),
+        None => false,
+    }
 }
 
 /// What the session writes.
@@ -45,13 +60,27 @@ fn text_of<
     requires calls { (calls.name ≡ L.name) × (calls.parts ≡ L.parts) × (L.parts ≡ 3) }
     requires samples { (samples.name ≡ B.name) × (samples.parts ≡ B.parts) × (B.parts ≡ 3) }
 {
-    let (desk, mut passes) = Desk::<L, B, N>::open(alloc, core, 3, calls, samples).ok()?;
-    let mut workers = workers_of(alloc, &mut passes)?;
-    let mut refresher = refresher_of(alloc, &mut passes)?;
-    text_over(rt, alloc, &desk, &mut refresher, workers.as_mut_slice())
+    match Desk::<L, B, N>::open(alloc, core, 3, calls, samples) {
+        Ok((desk, mut passes)) => with_staff(rt, alloc, &desk, &mut passes),
+        Err(_) => None,
+    }
 }
 
-fn text_over<
+fn with_staff<
+    L: Ledger + Send + Sync,
+    B: Ledger + Send + Sync,
+    N: DeskName + Send + Sync,
+    R: Threads + Wait + Sync,
+>(rt: &R, alloc: Global, desk: &Desk<L, B, N>, passes: &mut Vec<Pass<L, B, N>>) -> Option<Vec<u8>> {
+    match (workers_of(alloc, passes), refresher_of(alloc, passes)) {
+        (Some(mut workers), Some(mut refresher)) => {
+            by_session(rt, alloc, desk, &mut refresher, workers.as_mut_slice())
+        }
+        _ => None,
+    }
+}
+
+fn by_session<
     L: Ledger + Send + Sync,
     B: Ledger + Send + Sync,
     N: DeskName + Send + Sync,
@@ -63,8 +92,10 @@ fn text_over<
     refresher: &mut Refresher<L, B, N, Script>,
     workers: &mut [Worker<L, B, N, Script>],
 ) -> Option<Vec<u8>> {
-    let session = session_of(alloc)?;
-    run(rt, alloc, desk, &session, refresher, workers)
+    match session_of(alloc) {
+        Some(session) => run(rt, alloc, desk, &session, refresher, workers),
+        None => None,
+    }
 }
 
 fn run<
@@ -81,12 +112,49 @@ fn run<
     workers: &mut [Worker<L, B, N, Script>],
 ) -> Option<Vec<u8>> {
     let mut text = Vec::new(alloc);
-    begin(desk, rt, alloc, session, refresher, &mut text).ok()?;
+    if has_begun(rt, alloc, desk, session, refresher, &mut text)
+        && has_run(rt, alloc, desk, session, refresher, workers, &mut text)
+    {
+        Some(text)
+    } else {
+        None
+    }
+}
+
+fn has_begun<
+    L: Ledger + Send + Sync,
+    B: Ledger + Send + Sync,
+    N: DeskName + Send + Sync,
+    R: Threads + Wait + Sync,
+>(
+    rt: &R,
+    alloc: Global,
+    desk: &Desk<L, B, N>,
+    session: &Session,
+    refresher: &mut Refresher<L, B, N, Script>,
+    text: &mut Vec<u8>,
+) -> bool {
+    begin(desk, rt, alloc, session, refresher, text).is_ok()
+}
+
+fn has_run<
+    L: Ledger + Send + Sync,
+    B: Ledger + Send + Sync,
+    N: DeskName + Send + Sync,
+    R: Threads + Wait + Sync,
+>(
+    rt: &R,
+    alloc: Global,
+    desk: &Desk<L, B, N>,
+    session: &Session,
+    refresher: &mut Refresher<L, B, N, Script>,
+    workers: &mut [Worker<L, B, N, Script>],
+    text: &mut Vec<u8>,
+) -> bool {
     let jobs = session.config.jobs.as_slice();
     let rounds = session.rounds;
     run_rounds(
-        desk, rt, alloc, jobs, rounds, workers, refresher, &Open, &mut text,
+        desk, rt, alloc, jobs, rounds, workers, refresher, &Open, text,
     )
-    .ok()?;
-    Some(text)
+    .is_ok()
 }

@@ -1,5 +1,0 @@
-//! Routes, bodies, pages and answers, without a connection.
-mod answers;
-mod events;
-mod pages;
-mod routing;
