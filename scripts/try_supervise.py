@@ -378,6 +378,35 @@ def wrong_uses(folder):
     yield "no awk: refused by name, status 2", status == 2 and "awk is needed" in said
 
 
+def examples(folder):
+    """The unit and the container file of examples/, as far as they can be tried without systemd and without a container."""
+    with open(f"{ROOT}/examples/Containerfile") as it:
+        lines = it.read().split("\n")
+    health = json.loads(next(line.split("CMD ")[1] for line in lines if line.startswith("HEALTHCHECK")))
+    entry, command = (json.loads(next(line.split(" ", 1)[1] for line in lines if line.startswith(f"{word} "))) for word in ("ENTRYPOINT", "CMD"))
+    yield "the container file starts the supervisor", entry == ["allocd-supervise", "/usr/local/bin/allocd", "serve"] and command[0] == "--config"
+    it = Supervised(folder, ["bash"], False, config("one"))
+    it.is_up()
+    def is_healthy():
+        return subprocess.run([word.replace("/8080", f"/{it.port}") for word in health], capture_output=True).returncode == 0
+    yield "its health check holds while the service lives", is_healthy()
+    it.send(signal.SIGTERM)
+    it.ended()
+    yield "and not when it has ended", not is_healthy()
+    if shutil.which("systemd-analyze"):
+        with open(f"{ROOT}/examples/allocd.service") as it:
+            unit = it.read()
+        with open(f"{folder}/allocd.service", "w") as it:
+            it.write(unit.replace("/usr/local/bin/allocd-supervise", SCRIPT).replace("/usr/local/bin/allocd ", f"{PROGRAM} "))
+        done = subprocess.run(["systemd-analyze", "verify", f"{folder}/allocd.service"], capture_output=True, text=True)
+        yield "systemd-analyze verify has no word to say of the unit", (done.returncode, done.stdout + done.stderr) == (0, ""), done.stderr
+        done = subprocess.run(
+            ["systemd-analyze", "security", "--offline=true", "--threshold=20", f"{folder}/allocd.service"], capture_output=True, text=True)
+        yield "systemd-analyze security: an exposure of 2.0 at most", done.returncode == 0, done.stdout[-200:]
+    else:
+        print("skipped: the unit, since systemd-analyze is not here")
+
+
 def rows():
     """Each run with its name."""
     shells = {name: words for name, words in SHELLS.items() if shutil.which(words[0])}
@@ -404,6 +433,7 @@ def rows():
         else:
             print(f"skipped: addresses by {awk}, which is not here")
     yield "", wrong_uses
+    yield "examples: ", examples
 
 
 def run(row):
