@@ -43,17 +43,17 @@ def run_row(row):
             holds, found = row.run(folder)
         except Exception as fault:
             holds, found = False, f"{type(fault).__name__}: {fault}"
-    return bool(holds), str(found)
+    return bool(holds), " ".join(str(found).split())[:400]
 
 
 def main(rows):
     """Runs the rows, or those whose names have one of the words of the command line, and tells of each. Ends with 0 where only open ones fail."""
     rows = [row for row in rows if len(sys.argv) < 2 or any(word in row.name for word in sys.argv[1:])]
     passed = failed = still_open = now_pass = 0
-    with concurrent.futures.ThreadPoolExecutor(8) as pool:
+    with concurrent.futures.ThreadPoolExecutor(12) as pool:
         for row, (holds, found) in zip(rows, pool.map(run_row, rows)):
             word = ("now passes" if holds else "open") if row.later else ("ok" if holds else "NOT")
-            print(f"{word}: {row.name}{'' if holds else f': {found[:400]}'}", flush=True)
+            print(f"{word}: {row.name}{'' if holds else f': {found}'}", flush=True)
             passed += holds
             failed += not holds
             still_open += row.later and not holds

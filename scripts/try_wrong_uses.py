@@ -102,9 +102,9 @@ def said_at_start(name, document, says, words=(), later=False):
     return told_rows.Row(name, run, later)
 
 
-def exchange(port, method, path, headers, body):
+def exchange(port, method, path, headers, body, seconds=3):
     """The status and the text of an answer to a request of just these headers."""
-    it = http.client.HTTPConnection("127.0.0.1", port, timeout=5)
+    it = http.client.HTTPConnection("127.0.0.1", port, timeout=seconds)
     try:
         it.putrequest(method, path, skip_host="host" in headers, skip_accept_encoding=True)
         if body is not None and "content-length" not in headers and "transfer-encoding" not in headers:
