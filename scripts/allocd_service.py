@@ -6,12 +6,15 @@ import os
 import random
 import socket
 import subprocess
+import threading
 import time
 
 ROOT = os.path.dirname(os.path.dirname(os.path.abspath(__file__)))
 PROGRAM = os.environ.get("ALLOCD_PROGRAM", f"{ROOT}/dist/allocd")
 # A request's answer where the connection ended without one.
 CLOSED = (None, None)
+# The ports that were given to this process.
+PORTS, PORTS_LOCK = set(), threading.Lock()
 
 
 def run(words, text=b"", **more):
@@ -30,15 +33,17 @@ def first_of_the_kernel():
 
 
 def free_port():
-    """A port that is free, and that no connection of another is given before a service has it."""
+    """A port that is free and was not given before, and that no connection of another is given before a service has it."""
     while True:
         port = random.randrange(10000, max(20000, first_of_the_kernel()))
-        with socket.socket() as it:
+        with PORTS_LOCK, socket.socket() as it:
             try:
                 it.bind(("127.0.0.1", port))
-                return port
             except OSError:
-                pass
+                continue
+            if port not in PORTS:
+                PORTS.add(port)
+                return port
 
 
 def ask(port, method, path, body=None, seconds=60):

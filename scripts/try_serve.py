@@ -301,7 +301,7 @@ def signals(folder):
     with open(config, "w") as it:
         json.dump(CONFIG, it)
     port = free_port()
-    bridge = [f"{ROOT}/scripts/serve.sh", f"127.0.0.1:{port}", "--config", config]
+    bridge = [f"{ROOT}/scripts/allocd-supervise", PROGRAM, "serve", "--config", config, "--listen", f"127.0.0.1:{port}"]
     it = subprocess.Popen(bridge, stderr=subprocess.PIPE, text=True)
     up = comes(lambda: ask(port, "GET", "/-/healthy")[0] == 200)
     more = json.loads(json.dumps(CONFIG))
