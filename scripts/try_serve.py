@@ -138,9 +138,9 @@ FAULTY = {
     ]
 }
 FAULTS = [
-    'scrape_configs[0], job "node": target_limit: another shape',
+    'scrape_configs[0], job "node": target_limit: no whole number of 32 bits',
     'scrape_configs[2], job "web": relabel_configs: rule 1: an unknown action',
-    'scrape_configs[3], job "a \\"b\\"": params: another shape',
+    'scrape_configs[3], job "a \\"b\\"": params: no object',
 ]
 
 

@@ -4,8 +4,8 @@
 mod command;
 mod configuration;
 mod documents;
-mod faults;
 mod listening;
+mod not_followed;
 mod running;
 
 pub use command::{VERSION, serve};
