@@ -111,9 +111,9 @@ class Work:
     def started(self, words, seconds, **how):
         return Started(self, words, seconds, **how)
 
-    def outcome(self, words, text, folder):
-        """The status of a run of the program, and what it wrote."""
-        how = {"cwd": folder, "stdin": subprocess.PIPE, "stdout": subprocess.PIPE, "stderr": subprocess.DEVNULL}
+    def outcome(self, words, text, folder, errors=subprocess.DEVNULL):
+        """The status of a run of the program, and what it wrote. What it wrote to standard error goes to a file, if one is given."""
+        how = {"cwd": folder, "stdin": subprocess.PIPE, "stdout": subprocess.PIPE, "stderr": errors}
         with self.started([self.program, *words], RUN_SECONDS, **how) as it:
             found = it.communicate(text)[0]
         return it.returncode, found

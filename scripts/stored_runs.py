@@ -4,6 +4,7 @@ stdin     what it reads, nothing where there is no such file
 args      its words, one a line; COMMAND alone where there is no such file
 data/     files that lie where it runs
 stdout    what it writes
+stderr    what it writes to standard error; anything where there is no such file
 checked   in place of stdout: what `check` writes of that, for a plan may be any best one
 status    its exit status, 0 where there is no such file
 """
@@ -11,6 +12,7 @@ status    its exit status, 0 where there is no such file
 import difflib
 import os
 import shutil
+import tempfile
 
 # Of a difference so many lines are shown, and so many characters of each.
 MOST_LINES, MOST_WIDTH = 12, 200
@@ -40,7 +42,10 @@ class StoredRun:
             shutil.copytree(f"{self.folder}/data", data)
         else:
             os.mkdir(data)
-        status, found = outcome(self.words(), self.file("stdin") or b"", data)
+        with tempfile.TemporaryFile() as errors:
+            status, found = outcome(self.words(), self.file("stdin") or b"", data, errors)
+            errors.seek(0)
+            told = errors.read()
         wanted = self.file("checked")
         if wanted is None:
             wanted = self.file("stdout") or b""
@@ -48,6 +53,8 @@ class StoredRun:
             status, found = outcome(["check"], found, data)
         right = int(self.file("status") or b"0")
         lines = [] if found == wanted else difference(wanted, found)
+        wanted = self.file("stderr")
+        lines += [] if wanted is None or told == wanted else difference(wanted, told)
         lines += [] if status == right else [f"status {status}, and not {right}"]
         return lines or None
 

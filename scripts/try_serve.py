@@ -138,9 +138,9 @@ FAULTY = {
     ]
 }
 FAULTS = [
-    'scrape_configs[0], job "node": target_limit: another shape',
+    'scrape_configs[0], job "node": target_limit: no whole number of 32 bits',
     'scrape_configs[2], job "web": relabel_configs: rule 1: an unknown action',
-    'scrape_configs[3], job "a \\"b\\"": params: another shape',
+    'scrape_configs[3], job "a \\"b\\"": params: no object',
 ]
 
 
@@ -169,6 +169,23 @@ def faults(folder):
     status, _, err = run("serve", "--check-config", "--config", f"{folder}/bad.json")
     tell("of many faults 16 are told", status == 2 and len(lines_told(folder, err)) == 16)
     tell("ends", service.quit() == (200, 0))
+
+
+def members_of_prometheus(folder):
+    node, *others = CONFIG["scrape_configs"]
+    more = {**CONFIG, "rule_files": [], "scrape_configs": [{**node, "sample_limit": 500}, *others]}
+    ways = ["rule_files", "scrape_configs[0].sample_limit"]
+    lines = lambda: [line for line in log_of(folder).split("\n") if "not followed" in line]
+    service = Service(folder, config=more)
+    tell("members that are not followed refuse nothing", service.is_up())
+    tell("they are a warning each", ['level=warn' in line and f'member="{way}"' in line for line, way in zip(lines(), ways)] == [True, True] and len(lines()) == 2)
+    status, _, text = rewrite(service, more)
+    tell("and so by a reload", status == 200 and len(lines()) == 4)
+    status, _, text = rewrite(service, {**CONFIG, "scrape_configs": [{**node, "target_limt": 5}, *others]})
+    tell("a reload with an unknown member is refused", status == 500 and lines_told(folder, text) == ["scrape_configs[0].target_limt: unknown member; is target_limit meant?"], text.strip().removeprefix(f"{folder}/"))
+    tell("ends", service.quit() == (200, 0))
+    status, _, err = run("serve", "--config", f"{folder}/config.json")
+    tell("a start with it is none", status == 2 and lines_told(folder, err) == ["scrape_configs[0].target_limt: unknown member; is target_limit meant?"])
 
 
 def log_of(folder):
@@ -1047,7 +1064,7 @@ def long_journals(folder):
 
 
 PARTS = (
-    words_and_configurations, faults, failures, routes, reloads, signals, absences, journals, kills, kills_while_reloading, restarts,
+    words_and_configurations, faults, members_of_prometheus, failures, routes, reloads, signals, absences, journals, kills, kills_while_reloading, restarts,
     kills_of_restarts, starts_at_once, renewals, long_journals, strangers, idle_clients, newcomers_at_the_end, slow_source, silent_source,
     full_disk, full_renewal,
 )

@@ -1,8 +1,9 @@
 //! The command: what its words ask for, and what it tells of it.
 use crate::configuration::ConfigurationFile;
 use crate::descriptors::check_descriptors;
-use crate::documents::read_service;
+use crate::documents::{read_document, service_in};
 use crate::listening::{listen_address, listener_at};
+use crate::not_followed::{told_valid, warn_of};
 use crate::running::serve_journal;
 use crate::standard_streams::hold_streams;
 use journal_files::{Fault, is_same_file};
@@ -97,13 +98,16 @@ where
         + Copy
         + Drop,
 {
-    let service = read_service(rt, rt.alloc(), options.config)?;
+    let document = read_document(rt, rt.alloc(), options.config)?;
+    let service = service_in(rt.alloc(), options.config, document.as_slice())?;
     let here = listen_address(rt, options, &service)?;
     let journal = journal_of(rt.alloc(), options, &service)?;
     check_journal(rt, options.config, &journal)?;
     if options.check_config {
-        return written(rt, "the configuration is valid\n");
+        let valid = told_valid(rt.alloc(), options.config, document.as_slice())?;
+        return written(rt, valid.as_str());
     }
+    warn_of(rt, rt.alloc(), document.as_slice())?;
     check_descriptors(rt, rt.alloc())?;
     let configuration = ConfigurationFile::new(host, rt.alloc(), options.config)?;
     let listener = listener_at(rt, here)?;

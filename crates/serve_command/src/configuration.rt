@@ -1,5 +1,6 @@
 //! The configuration file, as the service reads it again.
-use crate::documents::{read_document, service_in};
+use crate::documents::{read_document, service_in, service_of_parts};
+use crate::not_followed::warn_of;
 use journal_files::Fault;
 use lists::Text;
 use service_tasks::{Configuration, Service};
@@ -34,6 +35,7 @@ impl ConfigurationFile {
         let path = self.path.as_str();
         let document = read_document(&self.host, self.alloc, path)?;
         let _ = service_in(self.alloc, path, document.as_slice())?;
+        warn_of(&self.host, self.alloc, document.as_slice())?;
         Ok(document)
     }
 
@@ -62,6 +64,6 @@ impl Configuration for ConfigurationFile {
     }
 
     fn service(&self) -> Option<Service> {
-        service_in(self.alloc, self.path.as_str(), self.document.as_slice()).ok()
+        service_of_parts(self.alloc, self.path.as_str(), self.document.as_slice()).ok()
     }
 }

@@ -1,5 +1,5 @@
 //! The configuration file.
-use crate::faults::{all_faults, document_fault};
+use config_faults::faults_of;
 use durable_journal::configuration_line;
 use journal_files::Fault;
 use lists::Text;
@@ -14,16 +14,6 @@ use std::rt::Files;
 
 /// The most bytes of a configuration: 64 MiB.
 const LONGEST_CONFIGURATION: u64 = 67_108_864;
-
-/// Reads the service of a configuration file.
-pub(crate) fn read_service<R: Files<File = File>>(
-    rt: &R,
-    alloc: Global,
-    path: &str,
-) -> Result<Service, Fault> {
-    let document = read_document(rt, alloc, path)?;
-    service_in(alloc, path, document.as_slice())
-}
 
 /// Reads the document of a configuration file.
 pub(crate) fn read_document<R: Files<File = File>>(
@@ -43,14 +33,18 @@ pub(crate) fn read_document<R: Files<File = File>>(
 
 /// The service that the document of a configuration file asks for. Where it is faulty its faults are told, a line each.
 pub(crate) fn service_in(alloc: Global, path: &str, document: &[u8]) -> Result<Service, Fault> {
-    match read_parts(alloc, path, document) {
-        Err(Fault::Told(first)) => Err(Fault::Told(all_faults(alloc, path, document, first)?)),
-        done => done,
+    match faults_of(alloc, path, document)? {
+        Some(lines) => Err(Fault::Told(lines)),
+        None => service_of_parts(alloc, path, document),
     }
 }
 
-/// The same, or what is found first to be wrong.
-fn read_parts(alloc: Global, path: &str, document: &[u8]) -> Result<Service, Fault> {
+/// The service of a document in which no fault was found.
+pub(crate) fn service_of_parts(
+    alloc: Global,
+    path: &str,
+    document: &[u8],
+) -> Result<Service, Fault> {
     let config = config_in(alloc, path, document)?;
     let settings = settings_in(alloc, path, document)?;
     let Some(line) = configuration_line(alloc, document)? else {
@@ -63,7 +57,7 @@ fn config_in(alloc: Global, path: &str, document: &[u8]) -> Result<Config, Fault
     match read_config(alloc, document) {
         Ok(config) => Ok(config),
         Err(SdError::Memory) => Err(AllocError.into()),
-        Err(error) => Err(Fault::Told(document_fault(alloc, path, &error)?)),
+        Err(error) => Err(Fault::Told(format!(in alloc; "{path}: {error}")?)),
     }
 }
 

@@ -5,8 +5,8 @@ mod command;
 mod configuration;
 mod descriptors;
 mod documents;
-mod faults;
 mod listening;
+mod not_followed;
 mod running;
 mod standard_streams;
 

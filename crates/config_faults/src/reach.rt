@@ -1,0 +1,74 @@
+//! What is wrong with the reach rules of a collector.
+use crate::collectors::member_of;
+use crate::rules::is_label;
+use json_values::Spelled;
+use reach_rules::ReachRule;
+use serde_json::Value;
+use std::alloc::{AllocError, Global};
+
+/// The rule that is none, and why, or else the line.
+pub(crate) fn reach_fault(
+    alloc: Global,
+    document: &Value,
+    line: &str,
+    index: usize,
+) -> Result<String, AllocError> {
+    let Some(found) = member_of(document, index, "reach") else {
+        return format!(in alloc; "{line}: it is missing");
+    };
+    let Some(rules) = found.as_array() else {
+        return String::from_str(alloc, line);
+    };
+    for (place, rule) in rules.iter().enumerate() {
+        if !is_rule(alloc, rule)? {
+            return rule_line(alloc, index, place, rule);
+        }
+    }
+    format!(in alloc; "{line}: it has more than 32 rules")
+}
+
+fn is_rule(alloc: Global, rule: &Value) -> Result<bool, AllocError> {
+    let read: Option<ReachRule> = Spelled::read(alloc, rule)?;
+    Ok(read.is_some())
+}
+
+fn rule_line(
+    alloc: Global,
+    index: usize,
+    place: usize,
+    rule: &Value,
+) -> Result<String, AllocError> {
+    let why = rule_fault(alloc, rule)?;
+    format!(in alloc; "allocator.collectors[{index}].reach[{place}]{why}")
+}
+
+/// What is wrong with a rule, behind the way to it.
+fn rule_fault(alloc: Global, rule: &Value) -> Result<&'static str, AllocError> {
+    if !rule.is_object() {
+        return Ok(": no object");
+    }
+    match rule.get("allow") {
+        None => return Ok(".allow: it is missing, true or false"),
+        Some(Value::Bool(_)) => {}
+        Some(_) => return Ok(".allow: neither true nor false"),
+    }
+    match rule.get("test").and_then(Value::as_str) {
+        Some("present") => label_fault(alloc, rule),
+        Some("equals") => equals_fault(alloc, rule),
+        _ => Ok(".test: neither any, present nor equals"),
+    }
+}
+
+fn equals_fault(alloc: Global, rule: &Value) -> Result<&'static str, AllocError> {
+    match rule.get("label") {
+        Some(label) if is_label(alloc, label)? => Ok(".value: the test equals needs a text"),
+        _ => label_fault(alloc, rule),
+    }
+}
+
+fn label_fault(_alloc: Global, rule: &Value) -> Result<&'static str, AllocError> {
+    match rule.get("label") {
+        None => Ok(".label: it is missing, and its test needs a label name"),
+        Some(_) => Ok(".label: no label name"),
+    }
+}

@@ -1,0 +1,52 @@
+//! What is wrong with the sources of a job.
+use http_get::{address_of, get_of_url};
+use logfmt::Quoted;
+use sd_documents::Job;
+use serde_json::Value;
+use std::alloc::{AllocError, Global};
+
+/// The first source that is none, and why.
+pub(crate) fn sources_fault(alloc: Global, job: &Value) -> Result<String, AllocError> {
+    let Some(sources) = job.get("http_sd_configs").and_then(Value::as_array) else {
+        return String::from_str(alloc, "http_sd_configs: no list");
+    };
+    for (index, source) in sources.iter().enumerate() {
+        if !source.is_object() {
+            return format!(in alloc; "http_sd_configs[{index}]: no object");
+        }
+        match source.get("url") {
+            None => return format!(in alloc; "http_sd_configs[{index}].url: it is missing"),
+            Some(Value::String(_)) => {}
+            Some(_) => return format!(in alloc; "http_sd_configs[{index}].url: no text"),
+        }
+    }
+    String::from_str(alloc, "http_sd_configs: another shape")
+}
+
+/// The first source of a job that cannot be asked, and why.
+pub(crate) fn asking_fault(alloc: Global, read: &Job) -> Result<Option<String>, AllocError> {
+    for (index, url) in read.http_urls.as_slice().iter().enumerate() {
+        if let Some(why) = url_fault(alloc, url.as_str())? {
+            let url = Quoted(url.as_str());
+            return Ok(Some(format!(in alloc; "http_sd_configs[{index}].url: {url}: {why}")?));
+        }
+    }
+    Ok(None)
+}
+
+/// Why a URL cannot be asked, if it cannot.
+fn url_fault(alloc: Global, url: &str) -> Result<Option<&'static str>, AllocError> {
+    if url.as_bytes().starts_with(b"https://") {
+        return Ok(Some("TLS is not spoken, only http:// is asked"));
+    }
+    if !url.as_bytes().starts_with(b"http://") {
+        return Ok(Some("it does not begin with http://"));
+    }
+    let get = get_of_url(alloc, url)?;
+    match address_of(get.address.as_str()) {
+        Some(_) => Ok(None),
+        None => Ok(Some(
+            "no address; a dotted IPv4 address or localhost is one, with a port below 65536 or none, and no other name is looked up",
+        )),
+    }
+}

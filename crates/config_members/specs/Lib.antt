@@ -1,0 +1,3 @@
+pub mod Names
+pub mod Unread
+pub mod Nearest

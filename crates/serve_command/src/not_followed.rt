@@ -1,0 +1,50 @@
+//! Members of a configuration that Prometheus has and the service does not follow.
+use config_faults::not_followed;
+use log::warn;
+use logfmt::{Logfmt, Quoted};
+use std::alloc::{AllocError, Global};
+use std::time::Clock;
+
+/// How many of them are told one by one.
+const MOST_TOLD: usize = 256;
+
+/// What is told of a configuration that is valid: a line for each such member before the one that says so.
+pub(crate) fn told_valid(alloc: Global, path: &str, document: &[u8]) -> Result<String, AllocError> {
+    let ways = not_followed(alloc, document)?;
+    let mut lines = String::new(alloc);
+    for way in ways.as_slice() {
+        let way = way.as_str();
+        let line = format!(in alloc; "{path}: {way}: not followed\n")?;
+        lines.push_str(line.as_str())?;
+    }
+    lines.push_str("the configuration is valid\n")?;
+    Ok(lines)
+}
+
+/// A log line for each such member, of the first `MOST_TOLD`, and one for the others.
+pub(crate) fn warn_of<R: Eprint + Clock + Copy>(
+    rt: &R,
+    alloc: Global,
+    document: &[u8],
+) -> Result<(), AllocError> {
+    let ways = not_followed(alloc, document)?;
+    let mut told: usize = 0;
+    for way in ways.as_slice() {
+        if told == MOST_TOLD {
+            warn_of_others(rt, ways.len().saturating_sub(told));
+            break;
+        }
+        warn_of_one(rt, way.as_str());
+        told = told.saturating_add(1);
+    }
+    Ok(())
+}
+
+fn warn_of_one<R: Eprint + Clock + Copy>(rt: &R, way: &str) {
+    let way = Quoted(way);
+    warn!(Logfmt(*rt); member:% = way; "not followed: it is Prometheus's, and says nothing here");
+}
+
+fn warn_of_others<R: Eprint + Clock + Copy>(rt: &R, others: usize) {
+    warn!(Logfmt(*rt); members:% = others; "not followed, and not told one by one");
+}
