@@ -96,11 +96,13 @@ class Service:
     """A running `allocd serve`."""
 
     def __init__(self, folder, config, journal=None, environment=None):
+        """The configuration may be a function of the port, and then says itself where to listen."""
         self.folder = folder
         self.port = free_port()
         self.config = f"{folder}/config.json"
-        self.write(config)
-        words = [PROGRAM, "serve", "--config", self.config, "--listen", f"127.0.0.1:{self.port}"]
+        self.write(config(self.port) if callable(config) else config)
+        words = [PROGRAM, "serve", "--config", self.config]
+        words += [] if callable(config) else ["--listen", f"127.0.0.1:{self.port}"]
         words += ["--journal", journal] if journal else []
         with open(f"{folder}/log", "ab") as log:
             self.it = subprocess.Popen(words, stderr=log, stdout=subprocess.DEVNULL, env={**os.environ, **(environment or {})})

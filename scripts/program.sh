@@ -130,17 +130,26 @@ minutes() {
     echo "$((passed / 60)) min $((passed % 60)) s"
 }
 
-# Prints the path of the allocd to run: the released one where it was made from just these sources, else one that is built here,
-# which is proved and built first where that is due. ALLOCD_BUILD=1 never takes the released one.
-# usage: allocd_program ROOT
-allocd_program() {
+# Prints the path of an allocd that was made from just these sources, where there is one: the released one, or else one that was built
+# here. ALLOCD_BUILD=1 never takes the released one.
+# usage: made_program ROOT
+made_program() {
     local released=$1/dist/allocd own=$1/crates/allocd/out/allocd
     if [ -z "${ALLOCD_BUILD:-}" ] && is_made "$1" "$released" "$1/dist/RELEASE" && runs_here "$1"; then
         echo "$released"
-        return
+    elif is_made "$1" "$own" "$own.made"; then
+        echo "$own"
+    else
+        return 1
     fi
-    is_made "$1" "$own" "$own.made" || build_program "$1" allocd "$1/examples/one-of-two.json" check || return 1
-    echo "$own"
+}
+
+# Prints the path of the allocd to run, which is proved and built first where that is due.
+# usage: allocd_program ROOT
+allocd_program() {
+    made_program "$1" && return
+    build_program "$1" allocd "$1/examples/one-of-two.json" check || return 1
+    echo "$1/crates/allocd/out/allocd"
 }
 
 # Whether the released program runs on this machine. The first time that it does, this is said, and what else could be done.

@@ -1,0 +1,210 @@
+#!/usr/bin/env python3
+"""Runs `allocd serve` over settings, sources and figures that scripts/try_serve.py does not look at, and tells of each thing whether it holds: try_edge.py [PART ..]
+
+Where it listens and keeps its journal, each job's own rules, reloads with more sources, other orders and too many jobs, who is uncovered,
+names as text, what is counted, rounds. It needs Linux and the program (ALLOCD_PROGRAM, or dist/allocd)."""
+
+import http.server
+import json
+import os
+import socket
+import sys
+import threading
+import time
+
+from allocd_service import Service, comes, lines_of, run
+from parts import run_parts, tell
+
+ANY = [{"allow": True, "test": "any"}]
+
+
+class Source(http.server.BaseHTTPRequestHandler):
+    """Lists of targets by path."""
+
+    lists = {}
+
+    def do_GET(self):
+        body = json.dumps([{"targets": self.lists.get(self.path, [])}]).encode()
+        self.send_response(200)
+        self.send_header("content-type", "application/json")
+        self.send_header("content-length", str(len(body)))
+        self.end_headers()
+        self.wfile.write(body)
+
+    def log_message(self, *_):
+        pass
+
+
+def url(path):
+    """A URL of such a list, which is asked for twice a second."""
+    return {"url": f"http://127.0.0.1:{SOURCE.server_port}{path}", "refresh_interval": "500ms"}
+
+
+def static(name, count, first=9000, **more):
+    return {"job_name": name, "static_configs": [{"targets": [f"127.0.0.1:{first + i}" for i in range(count)]}], **more}
+
+
+def config(jobs, interval="1h", **settings):
+    allocator = {"settle": "50ms", "lifecycle": True, "collectors": [{"name": "a", "reach": ANY}], **settings}
+    return {"global": {"scrape_interval": interval}, "scrape_configs": jobs, "allocator": allocator}
+
+
+def started(folder, jobs, **more):
+    service = Service(folder, config(jobs, **more), f"{folder}/journal")
+    service.is_up()
+    return service
+
+
+def has(service, figure, value):
+    return comes(lambda: service.figure(figure) == value, 20)
+
+
+def reloaded(service, new):
+    service.write(new)
+    return service.ask("POST", "/-/reload")[0]
+
+
+def held(service, job, name="a"):
+    """The addresses that a collector holds of a job."""
+    return sorted(group["targets"][0] for group in json.loads(service.ask("GET", f"/jobs/{job}/targets?collector_id={name}")[1]))
+
+
+def ends(service):
+    tell("it ends", service.quit() == (200, 0))
+
+
+def settings(folder):
+    service = Service(folder, lambda port: config([static("n", 2)], listen=f"127.0.0.1:{port}", journal=f"{folder}/own"))
+    tell("it listens where its settings say", service.is_up())
+    with socket.socket() as it:
+        tell("and nowhere else", it.connect_ex(("127.0.0.2", service.port)) != 0)
+    has(service, "allocd_allocation", 1)
+    tell("its journal is where its settings say", len(lines_of(f"{folder}/own")) > 100)
+    ends(service)
+
+
+def relabels(folder):
+    Source.lists["/rules"] = ["127.0.0.1:7001", "127.0.0.1:7002"]
+    by = lambda value: [{"target_label": "by", "replacement": value}]
+    drops = [{"action": "drop", "source_labels": ["__address__"], "regex": ".*:7001"}]
+    found = {"http_sd_configs": [url("/rules")]}
+    jobs = [static("one", 2, relabel_configs=by("first")), {"job_name": "two", **found, "relabel_configs": by("second")}]
+    service = started(folder, [*jobs, {"job_name": "three", **found, "relabel_configs": drops}])
+    has(service, 'allocd_targets_covered{job="two"}', 2)
+    has(service, 'allocd_targets_covered{job="three"}', 1)
+    labels = lambda job: {group["labels"].get("by") for group in json.loads(service.ask("GET", f"/jobs/{job}/targets?collector_id=a")[1])}
+    tell("static targets and discovered ones have the labels of their own job's rules", (labels("one"), labels("two")) == ({"first"}, {"second"}))
+    tell("what a rule drops is not there", held(service, "three") == ["127.0.0.1:7002"])
+    ends(service)
+
+
+def reloads(folder):
+    Source.lists.update({f"/{i}": [f"127.0.0.1:710{i}"] for i in (1, 2, 3)})
+    one = static("a", 3)
+    service = started(folder, [one, {"job_name": "b", "http_sd_configs": [url("/1")]}])
+    has(service, 'allocd_targets_covered{job="b"}', 1)
+    more, other = {"job_name": "b", "http_sd_configs": [url("/1"), url("/2")]}, {"job_name": "e", "http_sd_configs": [url("/3")]}
+    tell("a reload with more sources", reloaded(service, config([one, more, other])) == 200)
+    tell("each of them is followed", has(service, 'allocd_targets_covered{job="b"}', 2) and has(service, 'allocd_targets_covered{job="e"}', 1))
+    before = {job: held(service, job) for job in "abe"}
+    tell("one with the jobs in another order", reloaded(service, config([other, more, one])) == 200)
+    comes(lambda: os.path.exists(f"{folder}/journal.2") and service.ask("GET", "/-/ready")[0] == 200, 20)
+    tell("each job has the targets that it had", {job: held(service, job) for job in "abe"} == before)
+    for i in range(40):
+        service.ask("POST", "/collectors", {"name": f"n{i}", "reach": []})
+    reloaded(service, config([*({"job_name": f"x{i}"} for i in range(900)), one, more, other]))
+    tell("one with too many jobs for so many collectors is not followed", has(service, "allocd_config_last_reload_successful", 0))
+    tell("the jobs are those before", sorted(json.loads(service.ask("GET", "/jobs")[1])) == ["a", "b", "e"])
+    Source.lists["/1"] = ["127.0.0.1:7101", "127.0.0.1:7104"]
+    tell("and their sources go on", has(service, 'allocd_targets{job="b"}', 3))
+    ends(service)
+    status, out = run(["audit", f"{folder}/journal.1", f"{folder}/journal.2", f"{folder}/journal"])
+    tell("the journals are audited", status == 0, out.decode().strip().rpartition("\n")[2])
+
+
+def uncovered(folder):
+    reach = [{"allow": True, "test": "equals", "label": "job", "value": "n"}]
+    jobs, only = [static("n", 4, target_limit=3), static("lone", 2, 9500)], [{"name": "a", "reach": reach}]
+    service = started(folder, jobs, collectors=only)
+    has(service, 'allocd_targets_covered{job="n"}', 3)
+    of = lambda job: tuple(len(json.loads(service.ask("GET", f"/jobs/{job}/uncovered")[1])[why]) for why in ("full", "unreached"))
+    tell("who is uncovered, and why", (of("n"), of("lone")) == ((1, 0), (0, 2)))
+    tell("the figures say how many", (service.figure('allocd_targets_uncovered{job="n"}'), service.figure('allocd_targets_uncovered{job="lone"}')) == (1, 2))
+    reloaded(service, config(jobs, collectors=only, settle="1h"))
+    # what is configured joins again where it left before the configuration was read
+    time.sleep(1)
+    service.ask("DELETE", "/collectors/1")
+    tell("before a reallocation nobody holds what was held by one that left", comes(lambda: of("n") == (0, 4), 5), of("n"))
+    ends(service)
+
+
+def texts(folder):
+    forged = {"name": 'two\nlevel=error msg="forged"', "reach": []}
+    service = started(folder, [static("n", 1)], collectors=[{"name": "a", "reach": ANY}, forged])
+    service.ask("POST", "/collectors", {"name": "<script>x</script>\"&'", "reach": []})
+    page = service.ask("GET", "/")[1]
+    tell("a collector's name is no markup", "<script>x" not in page and "&lt;script&gt;x" in page)
+    ends(service)
+    with open(f"{folder}/log") as it:
+        tell("no name makes two lines of the log", not any(line.startswith("level=error") for line in it))
+
+
+COUNTED = {
+    'allocd_events_total{event="join",answer="Joined"}': 2,
+    'allocd_events_total{event="join",answer="AlreadyJoined"}': 1,
+    'allocd_events_refused_total{event="join"}': 1,
+    'allocd_events_total{event="take",answer="Taken"}': 3,
+    'allocd_events_total{event="report",answer="Booked"}': 1,
+    'allocd_events_total{event="report",answer="AlreadyBooked"}': 1,
+    'allocd_http_requests_total{route="POST /reports",status="200"}': 1,
+    'allocd_http_requests_total{route="POST /reports",status="409"}': 1,
+    'allocd_http_requests_total{route="none",status="404"}': 1,
+    "allocd_samples_booked_total": 7,
+    'allocd_collector_targets{collector="a"}': 4,
+    'allocd_collector_targets{collector="b"}': 0,
+    'allocd_collector_draining{collector="a"}': 0,
+}
+READ_ONLY = ("/", "/jobs", "/scrape_configs", "/jobs/n/targets", "/jobs/n/uncovered", "/certificate", "/-/healthy", "/-/ready", "/metrics", "/nothing")
+
+
+def figures(folder):
+    service = started(folder, [static("n", 4)])
+    has(service, 'allocd_targets_covered{job="n"}', 4)
+    for _ in range(2):
+        service.ask("POST", "/collectors", {"name": "b", "reach": ANY})
+    for _ in range(3):
+        service.ask("GET", "/jobs/n/targets?collector_id=a")
+    number = service.figure("allocd_allocation")
+    for _ in range(2):
+        service.ask("POST", "/reports", {"collector": 1, "number": number, "target": 0, "round": 1, "up": True, "samples": 7})
+    service.ask("GET", "/nothing")
+    counted = lambda: {name: service.figure(name) for name in COUNTED}
+    same = comes(lambda: counted() == COUNTED, 5)
+    tell("events, requests, samples and targets are counted", same, "" if same else counted())
+    first = lines_of(f"{folder}/journal").index(b"\n") + 1
+    bytes_written = lambda: len(lines_of(f"{folder}/journal")) - first
+    tell("so are the bytes of the journal", comes(lambda: service.figure("allocd_journal_written_bytes_total") == bytes_written(), 5))
+    before = bytes_written()
+    for path in READ_ONLY:
+        service.ask("GET", path)
+    tell("and what only reads enters nothing", bytes_written() == before == service.figure("allocd_journal_written_bytes_total"))
+    service.ask("POST", "/collectors/1/drain", {})
+    tell("a drained collector is emptied, and the figures say how", has(service, 'allocd_collector_targets{collector="b"}', 4))
+    moved = [service.figure(name) for name in ("allocd_allocation_moved", "allocd_allocation_left", 'allocd_collector_draining{collector="a"}')]
+    tell("how many moved, how many are left, and who drains", moved == [4, 0, 1], moved)
+    ends(service)
+
+
+def rounds(folder):
+    service = started(folder, [static("n", 1)], interval="1s")
+    first, began = service.figure("allocd_round"), time.monotonic()
+    time.sleep(4)
+    opened, passed = service.figure("allocd_round") - first, time.monotonic() - began
+    tell("a round opens each scrape_interval", abs(opened - passed) <= 1.5, f"{opened} in {passed:.1f} seconds")
+    ends(service)
+
+
+SOURCE = http.server.ThreadingHTTPServer(("127.0.0.1", 0), Source)
+SOURCE.daemon_threads = True
+threading.Thread(target=SOURCE.serve_forever, daemon=True).start()
+run_parts((settings, relabels, reloads, uncovered, texts, figures, rounds), sys.argv[1:])

@@ -1,0 +1,48 @@
+#!/usr/bin/env python3
+"""Shows that ./test fails where a byte of the program's answers changes: try_test.py [PROGRAM]
+
+For each group a copy of the program (dist/allocd where none is named), in which one byte of a text that it writes is another one, is given to ./test:
+the group must fail. A line for each; it ends with 0 where all failed."""
+
+import os
+import subprocess
+import sys
+import tempfile
+
+from allocd_service import ROOT
+
+# What ./test is to run, a text of the program, and that text with another byte.
+ROWS = (
+    ("check", b"unreadable Shape", b"unreadable Shapf"),
+    ("plan", b"bin_prices", b"bin_pricet"),
+    ("relabel", b"UnknownAction", b"UnknownActiom"),
+    ("replay", b"Joined ", b"Joinee "),
+    ("audit", b"consistent files=", b"consistent filet="),
+    ("session", b"AlreadyJoined", b"AlreadyJoimed"),
+    ("words", b"usage: allocd check", b"usage: allocd chick"),
+    ("http", b"allocd is healthy", b"allocd is wealthy"),
+    ("statuses", b"unreadable NotJson", b"unreadable NotJsom"),
+    ("damage/nesting", b"unreadable Shape", b"unreadable Shapf"),
+    ("serve/routes", b"allocd_targets", b"allocd_targett"),
+    ("edge/figures", b"allocd_events_total", b"allocd_events_totam"),
+)
+
+
+def fails(program, folder):
+    with open(program, "rb") as it:
+        right = it.read()
+    for name, text, other in ROWS:
+        wrong = f"{folder}/allocd"
+        with open(wrong, "wb") as it:
+            it.write(right.replace(text, other))
+        os.chmod(wrong, 0o755)
+        done = subprocess.run([f"{ROOT}/test", "--program", wrong, name], stdout=subprocess.PIPE, stderr=subprocess.DEVNULL, universal_newlines=True)
+        last = done.stdout.rstrip("\n").rpartition("\n")[2]
+        holds = text in right and done.returncode == 1 and not last.endswith(" 0 failed")
+        print(f"{'ok' if holds else 'NOT'}: {name} fails where {text.decode()!r} is {other.decode()!r}: {last}", flush=True)
+        yield holds
+
+
+with tempfile.TemporaryDirectory() as top:
+    all_fail = all([*fails(sys.argv[1] if len(sys.argv) > 1 else f"{ROOT}/dist/allocd", top)])
+sys.exit(0 if all_fail else 1)
