@@ -1,6 +1,8 @@
 //! Entries are booked, refused and summed.
+use crate::instances::is_copied;
 use lists::Plain;
 use scrape_books::{Books, BooksError, Entry, Outcome, Page, rounds_rise};
+use std::alloc::Global;
 use std::test::Fail;
 
 /// An entry of collector 9, which scraped by allocation 8.
@@ -13,101 +15,105 @@ fn entry(round: u32, outcome: Outcome) -> Entry {
     }
 }
 
+/// Books of these entries.
+fn booked(alloc: Global, entries: &[(u32, Entry)]) -> Result<Books, BooksError> {
+    let mut books = Books::open(alloc);
+    for (target, entry) in entries {
+        books.book(*target, *entry)?;
+    }
+    Ok(books)
+}
+
+/// Whether the books have this page of a target, and this last round of it.
+fn has_page(books: &Books, target: u32, last_round: u32, page: Page) -> bool {
+    books.last_round(target) == last_round && books.page(target) == page
+}
+
+fn page(reports: u32, ups: u32, samples: u64) -> Page {
+    Page {
+        reports,
+        ups,
+        samples,
+    }
+}
+
 #[test]
 fn books_two_targets(rt: HostRuntime) -> Result<(), Fail> {
-    let mut books = Books::open(rt.alloc());
-    books.book(0, entry(1, Outcome::Up(7)))?;
-    books.book(3, entry(1, Outcome::Down))?;
-    books.book(0, entry(4, Outcome::Up(u32::MAX)))?;
-    assert_eq!(rt; books.last_round(0), 4);
-    assert_eq!(rt; books.last_round(3), 1);
-    assert_eq!(rt; books.total(), 4_294_967_302);
-    assert_eq!(rt;
-        books.page(0),
-        Page {
-            reports: 2,
-            ups: 2,
-            samples: 4_294_967_302
+    let entries = [
+        (0, entry(1, Outcome::Up(7))),
+        (3, entry(1, Outcome::Down)),
+        (0, entry(4, Outcome::Up(u32::MAX))),
+    ];
+    match booked(rt.alloc(), entries.as_slice()) {
+        Ok(books) => {
+            assert!(rt; are_two_targets(&books, entries.as_slice()));
+            Ok(())
         }
-    );
-    assert_eq!(rt;
-        books.page(3),
-        Page {
-            reports: 1,
-            ups: 0,
-            samples: 0
-        }
-    );
-    let first = (0, entry(1, Outcome::Up(7)));
-    let second = (3, entry(1, Outcome::Down));
-    let third = (0, entry(4, Outcome::Up(u32::MAX)));
-    assert_eq!(rt; books.entries(), [first, second, third].as_slice());
-    rounds_rise(&books);
-    Ok(())
+        Err(_) => Err("no memory".into()),
+    }
+}
+
+fn are_two_targets(books: &Books, entries: &[(u32, Entry)]) -> bool {
+    rounds_rise(books);
+    has_page(books, 0, 4, page(2, 2, 4_294_967_302))
+        && has_page(books, 3, 1, page(1, 0, 0))
+        && books.total() == 4_294_967_302
+        && books.entries() == entries
 }
 
 #[test]
 fn knows_no_other_target(rt: HostRuntime) -> Result<(), Fail> {
-    let mut books = Books::open(rt.alloc());
-    assert_eq!(rt; books.total(), 0);
-    books.book(3, entry(2, Outcome::Up(5)))?;
-    assert_eq!(rt; books.last_round(2), 0);
-    assert_eq!(rt; books.last_round(4), 0);
-    assert_eq!(rt;
-        books.page(2),
-        Page {
-            reports: 0,
-            ups: 0,
-            samples: 0
+    assert!(rt; Books::open(rt.alloc()).total() == 0);
+    match booked(rt.alloc(), &[(3, entry(2, Outcome::Up(5)))]) {
+        Ok(books) => {
+            assert!(rt;
+                has_page(&books, 2, 0, page(0, 0, 0)) && has_page(&books, 4, 0, page(0, 0, 0))
+            );
+            Ok(())
         }
-    );
-    assert_eq!(rt;
-        books.page(4),
-        Page {
-            reports: 0,
-            ups: 0,
-            samples: 0
-        }
-    );
-    Ok(())
+        Err(_) => Err("no memory".into()),
+    }
 }
 
 #[test]
 fn refuses_a_round_that_is_not_later(rt: HostRuntime) -> Result<(), Fail> {
-    let mut books = Books::open(rt.alloc());
-    books.book(2, entry(3, Outcome::Up(1)))?;
-    assert!(rt;
-        matches!(
-            books.book(2, entry(3, Outcome::Up(9))),
-            Err(BooksError::AlreadyBooked(3))
-        )
-    );
-    assert!(rt;
-        matches!(
-            books.book(2, entry(2, Outcome::Down)),
-            Err(BooksError::AlreadyBooked(3))
-        )
-    );
-    assert!(rt;
-        matches!(
-            books.book(5, entry(0, Outcome::Up(9))),
-            Err(BooksError::AlreadyBooked(0))
-        )
-    );
-    assert_eq!(rt; books.entries().len(), 1);
-    assert_eq!(rt; books.total(), 1);
+    match booked(rt.alloc(), &[(2, entry(3, Outcome::Up(1)))]) {
+        Ok(mut books) => {
+            assert!(rt; refuses_rounds(&mut books));
+            Ok(())
+        }
+        Err(_) => Err("no memory".into()),
+    }
+}
+
+fn refuses_rounds(books: &mut Books) -> bool {
+    refuses(books, 2, entry(3, Outcome::Up(9)), 3)
+        && refuses(books, 2, entry(2, Outcome::Down), 3)
+        && refuses(books, 5, entry(0, Outcome::Up(9)), 0)
+        && books.entries().len() == 1
+        && books.total() == 1
+}
+
+/// Whether the entry is refused, since the target is booked up to this round.
+fn refuses(books: &mut Books, target: u32, entry: Entry, last_round: u32) -> bool {
+    match books.book(target, entry) {
+        Err(BooksError::AlreadyBooked(round)) => round == last_round,
+        _ => false,
+    }
+}
+
+#[test]
+fn says_up_to_which_round(rt: HostRuntime) -> Result<(), Fail> {
     let refusal = format!(in rt.alloc(); "{}", BooksError::AlreadyBooked(3))?;
-    assert_eq!(rt; refusal.as_str(), "the target is booked up to round 3");
+    assert!(rt; refusal.as_str() == "the target is booked up to round 3");
     Ok(())
 }
 
 #[test]
 fn copies_are_the_same(rt: HostRuntime) -> Result<(), Fail> {
-    let one = entry(1, Outcome::Up(7));
-    assert!(rt; one.copy()?.same(&one));
-    assert!(rt; !one.same(&entry(1, Outcome::Down)));
-    assert!(rt; one.outcome.copy()?.same(&Outcome::Up(7)));
-    assert_eq!(rt; one.outcome.samples(), 7);
-    assert_eq!(rt; Outcome::Down.samples(), 0);
+    let up = Outcome::Up(7);
+    assert!(rt; is_copied(&entry(1, up))? && is_copied(&up)?);
+    assert!(rt; !entry(1, up).same(&entry(1, Outcome::Down)));
+    assert!(rt; up.samples() == 7 && Outcome::Down.samples() == 0);
     Ok(())
 }

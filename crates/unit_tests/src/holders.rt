@@ -61,39 +61,102 @@ fn next(state: u32) -> u32 {
     ((state as u64 * 1_103_515_245 + 12_345) % 2_147_483_648) as u32
 }
 
+/// The holders of no allocation, as spans and as whole lists.
+fn none(alloc: Global) -> (Holders, WholeLists) {
+    let whole = WholeLists {
+        published: Vec::new(alloc),
+    };
+    (Holders::open(alloc), whole)
+}
+
+/// Whether both say the same of the numbers up to this one.
+fn agree_up_to(
+    alloc: Global,
+    holders: &Holders,
+    whole: &WholeLists,
+    most: u32,
+) -> Result<bool, HoldersError> {
+    for number in 0..most.saturating_add(1) {
+        if !agree(alloc, holders, whole, number)? {
+            return Ok(false);
+        }
+    }
+    Ok(true)
+}
+
 #[test]
 fn each_number_keeps_its_holders(rt: HostRuntime) -> Result<(), Fail> {
     let alloc = rt.alloc();
-    let mut holders = Holders::open(alloc);
-    let mut whole = WholeLists {
-        published: Vec::new(alloc),
-    };
+    let (mut holders, mut whole) = none(alloc);
+    match publish_thousand(alloc, &mut holders, &mut whole) {
+        Ok(numbered) => {
+            assert!(rt; numbered && agree_up_to(alloc, &holders, &whole, 1000)?);
+            assert!(rt; are_thousand(&holders) && knows_no_other(&holders)?);
+            Ok(())
+        }
+        Err(_) => Err("no memory".into()),
+    }
+}
+
+/// Whether a thousand allocations got the numbers 1 to 1,000.
+fn publish_thousand(
+    alloc: Global,
+    holders: &mut Holders,
+    whole: &mut WholeLists,
+) -> Result<bool, HoldersError> {
     for n in 1..1001u32 {
         let third = if n % 10 == 0 { 3 } else { 0 };
-        let number = publish_both(alloc, &mut holders, &mut whole, &[1 + n % 2, third])?;
-        assert_eq!(rt; number, n);
+        if publish_both(alloc, holders, whole, &[1 + n % 2, third])? != n {
+            return Ok(false);
+        }
     }
+    Ok(true)
+}
+
+fn are_thousand(holders: &Holders) -> bool {
     for n in 1..1001u32 {
-        assert_eq!(rt; holders.holder(n, 0), Some(1 + n % 2), "at {n}");
-        assert!(rt; agree(alloc, &holders, &whole, n)?, "at {n}");
+        if holders.holder(n, 0) != Some(1 + n % 2) {
+            return false;
+        }
     }
-    assert_eq!(rt; holders.holder(500, 1), Some(3));
-    assert_eq!(rt; holders.holder(501, 1), None);
-    assert_eq!(rt; holders.holder(0, 0), None);
-    assert_eq!(rt; holders.holder(1001, 0), None);
-    assert!(rt; holders.held(0, 1)?.is_empty());
-    assert!(rt; is_unknown(holders.held(1001, 1)));
-    assert_eq!(rt; holders.current_pairs(), [(0, 1), (1, 3)].as_slice());
-    Ok(())
+    holders.holder(500, 1) == Some(3)
+        && holders.holder(501, 1).is_none()
+        && holders.holder(0, 0).is_none()
+        && holders.holder(1001, 0).is_none()
+        && holders.current_pairs() == [(0, 1), (1, 3)].as_slice()
+}
+
+fn knows_no_other(holders: &Holders) -> Result<bool, HoldersError> {
+    Ok(holds(holders, 0, 1, &[])? && is_unknown(holders.held(1001, 1)))
+}
+
+/// Whether the collector of an id held these targets at a number.
+fn holds(holders: &Holders, number: u32, id: u32, targets: &[u32]) -> Result<bool, HoldersError> {
+    match holders.held(number, id) {
+        Ok(held) => Ok(held.as_slice() == targets),
+        Err(error) => Err(error),
+    }
 }
 
 #[test]
 fn exchanged_collectors_are_told_apart(rt: HostRuntime) -> Result<(), Fail> {
     let alloc = rt.alloc();
-    let mut holders = Holders::open(alloc);
-    let mut whole = WholeLists {
-        published: Vec::new(alloc),
-    };
+    let (mut holders, mut whole) = none(alloc);
+    match publish_sixty(alloc, &mut holders, &mut whole) {
+        Ok(()) => {
+            assert!(rt; agree_up_to(alloc, &holders, &whole, 60)?);
+            Ok(())
+        }
+        Err(_) => Err("no memory".into()),
+    }
+}
+
+/// Publishes sixty allocations that look random.
+fn publish_sixty(
+    alloc: Global,
+    holders: &mut Holders,
+    whole: &mut WholeLists,
+) -> Result<(), HoldersError> {
     let mut state = 1;
     for _ in 0..60 {
         let mut collectors = [0u32; 6];
@@ -101,30 +164,34 @@ fn exchanged_collectors_are_told_apart(rt: HostRuntime) -> Result<(), Fail> {
             state = next(state);
             *collector = state / 65_536 % 4;
         }
-        publish_both(alloc, &mut holders, &mut whole, collectors.as_slice())?;
-    }
-    for n in 0..61 {
-        assert!(rt; agree(alloc, &holders, &whole, n)?, "at {n}");
+        publish_both(alloc, holders, whole, collectors.as_slice())?;
     }
     Ok(())
 }
 
 #[test]
 fn takes_only_what_is_published(rt: HostRuntime) -> Result<(), Fail> {
-    let alloc = rt.alloc();
-    let mut holders = Holders::open(alloc);
-    assert_eq!(rt; holders.current(), 0);
-    assert!(rt; holders.current_pairs().is_empty());
-    holders.publish(list_of(alloc, &[7, 0, 7])?)?;
-    assert_eq!(rt; holders.current(), 1);
-    assert_eq!(rt; holders.taken(7), 0);
+    let mut holders = Holders::open(rt.alloc());
+    assert!(rt; holders.current() == 0 && holders.current_pairs().is_empty());
+    match list_of(rt.alloc(), &[7, 0, 7]) {
+        Ok(list) => {
+            assert!(rt; takes_once(&mut holders, list)?);
+            Ok(())
+        }
+        Err(_) => Err("no memory".into()),
+    }
+}
+
+fn takes_once(holders: &mut Holders, list: List<(u32, u32)>) -> Result<bool, HoldersError>
+    requires { AllPairs (λ (a b : ℕ × ℕ). a.0 < b.0) list }
+{
+    holders.publish(list)?;
+    let was_taken = holders.taken(7);
     holders.take(7, 1)?;
     holders.take(8, 0)?;
-    assert_eq!(rt; holders.taken(7), 1);
-    assert!(rt; is_unknown(holders.take(7, 2)));
-    assert_eq!(rt; holders.taken(7), 1);
-    assert_eq!(rt; holders.held(1, 7)?.as_slice(), [0, 2].as_slice());
-    Ok(())
+    let unknown = holders.taken(7) == 1 && is_unknown(holders.take(7, 2));
+    let published = was_taken == 0 && holders.current() == 1 && holders.taken(7) == 1;
+    Ok(unknown && published && holds(holders, 1, 7, &[0, 2])?)
 }
 
 fn is_unknown<T: Drop>(answer: Result<T, HoldersError>) -> bool {

@@ -1,4 +1,5 @@
-//! Tests of the crates without state. They stand apart from them, since a crate with tests is proved once more with them.
+//! Tests of the crates without state: what is copied, counted and held, and what happens where memory is wanting. They stand apart from those crates, since a
+//! crate with tests is proved once more with them. What is read and written is told by rows (`document_rows`, `./test`).
 #![tactic(auto)]
 
 #[cfg(test)]
@@ -6,24 +7,18 @@ mod books;
 #[cfg(test)]
 mod certificates;
 #[cfg(test)]
-mod discovery_documents;
-#[cfg(test)]
 mod engine;
 #[cfg(test)]
+mod groups;
+#[cfg(test)]
 mod holders;
+#[cfg(test)]
+mod instances;
 #[cfg(test)]
 mod labels;
 #[cfg(test)]
 mod plain;
 #[cfg(test)]
-mod plan_documents;
-#[cfg(test)]
-mod reach;
-#[cfg(test)]
-mod relabelling;
-#[cfg(test)]
 mod samples;
 #[cfg(test)]
-mod service;
-#[cfg(test)]
-mod values;
+mod table;

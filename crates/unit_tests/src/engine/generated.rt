@@ -1,9 +1,8 @@
 //! Small instances that are generated, against a plain program.
 use assign_engine::solve;
 use lists::List;
-use price_certificate::{Instance, Verdict, check};
+use price_certificate::{Instance, InstanceError, Verdict, check};
 use std::alloc::{AllocError, Global};
-use std::process::Abort;
 use std::test::Fail;
 
 const BINS: u32 = 4;
@@ -121,24 +120,27 @@ impl Small {
     }
 
     /// The instance of version 1, which knows of no draining bins.
-    fn first(&self, alloc: Global) -> Result<Instance, Fail> {
-        Ok(Instance::new(
-            alloc,
-            self.limits(alloc)?,
-            self.rows(alloc)?,
-            self.before(alloc)?,
-        )?)
+    fn first(&self, alloc: Global) -> Result<Instance, InstanceError> {
+        match (self.limits(alloc), self.rows(alloc), self.before(alloc)) {
+            (Ok(limits), Ok(rows), Ok(before)) => Instance::new(alloc, limits, rows, before),
+            _ => Err(InstanceError::Memory),
+        }
     }
 
     /// The instance of version 2.
-    fn second(&self, alloc: Global) -> Result<Instance, Fail> {
-        Ok(Instance::new2(
-            alloc,
-            self.limits(alloc)?,
-            self.draining(alloc)?,
-            self.rows(alloc)?,
-            self.before(alloc)?,
-        )?)
+    fn second(&self, alloc: Global) -> Result<Instance, InstanceError> {
+        let lists = (
+            self.limits(alloc),
+            self.draining(alloc),
+            self.rows(alloc),
+            self.before(alloc),
+        );
+        match lists {
+            (Ok(limits), Ok(draining), Ok(rows), Ok(before)) => {
+                Instance::new2(alloc, limits, draining, rows, before)
+            }
+            _ => Err(InstanceError::Memory),
+        }
     }
 
     /// The levels of an assignment.
@@ -222,14 +224,28 @@ impl Small {
     }
 }
 
-/// Solves an instance, and compares the plan and the verdict on it with the best of all assignments.
-fn is_best(rt: &impl Abort, alloc: Global, small: &Small, instance: &Instance) -> Result<(), Fail> {
+/// Whether the plan for an instance and the verdict on it are those of the best of all assignments.
+fn is_best(
+    alloc: Global,
+    small: &Small,
+    instance: Result<Instance, InstanceError>,
+) -> Result<bool, AllocError> {
+    match instance {
+        Ok(instance) => is_solved(alloc, small, &instance),
+        Err(_) => Err(AllocError),
+    }
+}
+
+fn is_solved(alloc: Global, small: &Small, instance: &Instance) -> Result<bool, AllocError> {
     let best = small.best(alloc)?;
-    let (plan, _work) = solve(alloc, instance)?;
-    assert_eq!(rt; small.levels(plan.pairs.as_slice()), best);
-    let verdict = small.verdict(alloc, best)?;
-    assert_eq!(rt; check(alloc, instance, &plan)?, verdict);
-    Ok(())
+    match solve(alloc, instance) {
+        Ok((plan, _work)) => {
+            let verdict = small.verdict(alloc, best)?;
+            let levels = small.levels(plan.pairs.as_slice());
+            Ok(levels == best && check(alloc, instance, &plan)? == verdict)
+        }
+        Err(error) => Err(error),
+    }
 }
 
 #[test]
@@ -237,7 +253,7 @@ fn is_as_good_as_the_best_of_all_assignments(rt: HostRuntime) -> Result<(), Fail
     let mut numbers = Numbers { state: 2027 };
     for _ in 0..2000 {
         let small = Small::new(&mut numbers);
-        is_best(&rt, rt.alloc(), &small, &small.first(rt.alloc())?)?;
+        assert!(rt; is_best(rt.alloc(), &small, small.first(rt.alloc()))?);
     }
     Ok(())
 }
@@ -247,7 +263,7 @@ fn leaves_draining_bins_like_the_best_of_all_assignments(rt: HostRuntime) -> Res
     let mut numbers = Numbers { state: 2028 };
     for _ in 0..2000 {
         let small = Small::new_draining(&mut numbers);
-        is_best(&rt, rt.alloc(), &small, &small.second(rt.alloc())?)?;
+        assert!(rt; is_best(rt.alloc(), &small, small.second(rt.alloc()))?);
     }
     Ok(())
 }

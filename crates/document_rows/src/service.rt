@@ -1,0 +1,124 @@
+//! The words and the settings of the service.
+use crate::answers::READ;
+use crate::values::NONE;
+use json_values::parse;
+use serde_json::Value;
+use service_settings::{
+    Asked, Collector, Settings, SettingsError, address_of, duration_of, read_arguments,
+    read_settings,
+};
+use std::alloc::{AllocError, Global};
+
+pub(crate) fn address(alloc: Global, text: &str) -> Result<String, AllocError> {
+    match address_of(text) {
+        Some(address) => {
+            let [a, b, c, d] = address.octets;
+            let port = address.port;
+            format!(in alloc; "{READ} {a}.{b}.{c}.{d}:{port}")
+        }
+        None => String::from_str(alloc, "no address"),
+    }
+}
+
+/// A duration, in milliseconds.
+pub(crate) fn duration(alloc: Global, text: &str) -> Result<String, AllocError> {
+    match duration_of(text) {
+        Some(length) => format!(in alloc; "{READ} {length}"),
+        None => String::from_str(alloc, "no duration"),
+    }
+}
+
+/// A list of the words of a command line: what they ask for, or why they are refused.
+pub(crate) fn arguments(alloc: Global, text: &str) -> Result<String, AllocError> {
+    match parse(alloc, text.as_bytes())? {
+        Some(Value::Array(values)) => asked_by(alloc, values.as_slice()),
+        _ => String::from_str(alloc, NONE),
+    }
+}
+
+fn asked_by(alloc: Global, values: &[Value]) -> Result<String, AllocError> {
+    let mut words = Vec::new(alloc);
+    for value in values {
+        words.push(String::from_str(alloc, value.as_str().unwrap_or(""))?)?;
+    }
+    asked(alloc, words.as_slice())
+}
+
+fn asked(alloc: Global, words: &[String]) -> Result<String, AllocError> {
+    match read_arguments(words) {
+        Asked::Help => String::from_str(alloc, "help"),
+        Asked::Version => String::from_str(alloc, "version"),
+        Asked::Serve(options) => {
+            let config = options.config;
+            let listen = options.listen.unwrap_or("-");
+            let journal = options.journal.unwrap_or("-");
+            let check = options.check_config;
+            format!(in alloc; "{config} {listen} {journal} {check}")
+        }
+        Asked::Faulty(fault) => fault.line(alloc),
+    }
+}
+
+/// The settings that a document says, or why it is refused.
+pub(crate) fn settings(alloc: Global, bytes: &[u8]) -> Result<String, AllocError> {
+    match read_settings(alloc, bytes) {
+        Ok(settings) => outline(alloc, &settings),
+        Err(SettingsError::Memory) => Err(AllocError),
+        Err(fault) => fault.line(alloc),
+    }
+}
+
+/// All settings.
+fn outline(alloc: Global, settings: &Settings) -> Result<String, AllocError> {
+    let mut text = format!(in alloc; "{READ} {}", settings.scrape_interval)?;
+    add_refresh(alloc, &mut text, settings)?;
+    add_rest(alloc, &mut text, settings)?;
+    if let Some(journal) = &settings.journal {
+        text.push_str(" ")?;
+        text.push_str(journal.as_str())?;
+    }
+    add_collectors(alloc, &mut text, settings.collectors.as_slice())?;
+    Ok(text)
+}
+
+/// The intervals at which sources are asked, those of a job in brackets.
+fn add_refresh(alloc: Global, text: &mut String, settings: &Settings) -> Result<(), AllocError> {
+    for intervals in settings.refresh.as_slice() {
+        text.push_str(" [")?;
+        for interval in intervals.as_slice() {
+            text.push_str(format!(in alloc; " {interval}")?.as_str())?;
+        }
+        text.push_str(" ]")?;
+    }
+    Ok(())
+}
+
+fn add_rest(alloc: Global, text: &mut String, settings: &Settings) -> Result<(), AllocError> {
+    text.push_str(rest_outline(alloc, settings)?.as_str())
+}
+
+/// The other settings.
+fn rest_outline(alloc: Global, settings: &Settings) -> Result<String, AllocError> {
+    let [a, b, c, d] = settings.listen.octets;
+    let port = settings.listen.port;
+    let lifecycle = settings.lifecycle;
+    let keep = settings.keep;
+    let settle = settings.settle;
+    let timeout = settings.collector_timeout;
+    let fetch = settings.fetch_timeout;
+    format!(in alloc; " {a}.{b}.{c}.{d}:{port} {lifecycle} {keep:?} {settle} {timeout:?} {fetch}")
+}
+
+/// The names of the collectors, with how many limits each has.
+fn add_collectors(
+    alloc: Global,
+    text: &mut String,
+    collectors: &[Collector],
+) -> Result<(), AllocError> {
+    for collector in collectors {
+        let name = collector.name.as_str();
+        let limits = collector.limits.entries().len();
+        text.push_str(format!(in alloc; " {name}:{limits}")?.as_str())?;
+    }
+    Ok(())
+}
