@@ -44,6 +44,15 @@ def name_of(pid):
         return ""
 
 
+def words_of(pid):
+    """Its command line; empty where it has ended."""
+    try:
+        with open(f"/proc/{pid}/cmdline", "rb") as it:
+            return it.read()
+    except OSError:
+        return b""
+
+
 def stat(pid):
     """The state of a process, and the ticks of processor that it had."""
     with open(f"/proc/{pid}/stat") as it:
@@ -63,7 +72,7 @@ class Supervised:
         with open(self.log, "wb") as log:
             self.it = subprocess.Popen(
                 [*(PID_1 if first else []), *shell, SCRIPT, program, "serve", *words],
-                stderr=log, stdout=log, env={**os.environ, **(environment or {})}, start_new_session=True,
+                stderr=log, stdout=log, env={**os.environ, **(environment or {})},
             )
         self.first = first
 
@@ -84,10 +93,16 @@ class Supervised:
         comes(lambda: found.extend(one for one in children(self.pid()) if name_of(one) == os.path.realpath(PROGRAM)) or found, 5)
         return found[0]
 
+    def stop(self):
+        """Stops the program, each of its threads."""
+        pid = self.program()
+        os.kill(pid, signal.SIGSTOP)
+        comes(lambda: all(stat(f"{pid}/task/{one}")[0] == "T" for one in os.listdir(f"/proc/{pid}/task")), 10)
+
     def send(self, number):
         os.kill(self.pid(), number)
 
-    def said(self, text="", seconds=5):
+    def said(self, text="", seconds=15):
         """Whether it says this soon, a regular expression."""
         def now():
             with open(self.log, errors="replace") as it:
@@ -108,7 +123,7 @@ class Supervised:
         comes(lambda: found.append(ask(self.port, "GET", "/jobs", seconds=5)[1]) or found[-1], 5)
         return sorted(json.loads(found[-1]))
 
-    def ended(self, seconds=10):
+    def ended(self, seconds=20):
         """Its status, or None where it has not ended in time."""
         try:
             return self.it.wait(seconds)
@@ -116,28 +131,18 @@ class Supervised:
             return None
 
     def clear(self):
-        """Ends what is left of it, and says whether anything was: its session is its own."""
+        """Ends what is left of it, and says whether the program was."""
         self.it.poll()
-        left = []
-        for one in filter(str.isdigit, os.listdir("/proc")):
-            try:
-                if os.getsid(int(one)) == self.it.pid and stat(one)[0] != "Z" and name_of(one) == os.path.realpath(PROGRAM):
-                    left.append(int(one))
-            except (OSError, ValueError):
-                pass
-        if self.it.returncode is None:
-            os.killpg(self.it.pid, signal.SIGKILL)
-            self.it.wait()
-        for one in left:
-            os.kill(one, signal.SIGKILL)
-        return bool(left)
+        found = end_all(self.config)
+        self.it.wait()
+        return found
 
 
 def slow_program(folder, seconds):
     """A program that begins late."""
     path = f"{folder}/slow"
     with open(path, "w") as it:
-        it.write(f'#!/bin/sh\nsleep {seconds}\nexec {PROGRAM} "$@"\n')
+        it.write(f"#!{sys.executable}\nimport os, sys, time\ntime.sleep({seconds})\nos.execv({PROGRAM!r}, [{PROGRAM!r}, *sys.argv[1:]])\n")
     os.chmod(path, 0o755)
     return path
 
@@ -180,11 +185,11 @@ def interrupts(folder, shell, first):
 def hangs(folder, shell, first):
     it = Supervised(folder, shell, first, config("one"), environment={"ALLOCD_ANSWER_SECONDS": "1"})
     it.is_up()
-    os.kill(it.program(), signal.SIGSTOP)
+    it.stop()
     began = time.monotonic()
     it.send(signal.SIGTERM)
     yield "a quit that hangs: ended by SIGTERM, status 143", it.ended() == 143
-    yield "after the time that is stated", 0.9 <= time.monotonic() - began <= 5
+    yield "after the time that is stated", 0.9 <= time.monotonic() - began <= 15
     yield "and said so", it.said("TERM: POST /-/quit at .* has no answer, so the program is ended by SIGTERM")
     yield "nothing is left", not it.clear()
 
@@ -192,7 +197,7 @@ def hangs(folder, shell, first):
 def twice(folder, shell, first):
     it = Supervised(folder, shell, first, config("one"))
     it.is_up()
-    os.kill(it.program(), signal.SIGSTOP)
+    it.stop()
     it.send(signal.SIGTERM)
     time.sleep(0.3)
     yield "TERM while it hangs: it waits", it.it.poll() is None
@@ -200,7 +205,7 @@ def twice(folder, shell, first):
     yield "HUP meanwhile: nothing is read", it.said("HUP: the program is ending, nothing is read again")
     began = time.monotonic()
     it.send(signal.SIGTERM)
-    yield "TERM again: it ends at once, status 143", it.ended() == 143 and time.monotonic() - began < 1.5
+    yield "TERM again: it ends at once, status 143", it.ended() == 143 and time.monotonic() - began < 4
     yield "and said so", it.said("TERM again: the program is ended at once")
     yield "nothing is left", not it.clear()
 
@@ -210,13 +215,13 @@ def early(folder, shell, first):
     it.said("HUP asks for")
     began = time.monotonic()
     it.send(signal.SIGTERM)
-    yield "TERM before it listens: ended, status 143", it.ended() == 143 and time.monotonic() - began < 3
+    yield "TERM before it listens: ended, status 143", it.ended() == 143 and time.monotonic() - began < 6
     yield "nothing is left", not it.clear()
     it = Supervised(folder, shell, first, config("one"), program=slow_program(folder, 1.2))
     it.said("HUP asks for")
     time.sleep(0.1)
     it.send(signal.SIGHUP)
-    yield "HUP before it listens: asked until it is answered", it.said("HUP: POST /-/reload: The configuration is read again.", 8)
+    yield "HUP before it listens: asked until it is answered", it.said("HUP: POST /-/reload: The configuration is read again.")
     it.send(signal.SIGTERM)
     yield "TERM then: status 0", it.ended() == 0
     it.clear()
@@ -308,9 +313,9 @@ def asks_with(folder, tool):
     it.clear()
     it = Supervised(folder, [shutil.which("dash") or "/bin/sh"], False, config("one"), environment={**there, "ALLOCD_ANSWER_SECONDS": "1"})
     it.is_up()
-    os.kill(it.program(), signal.SIGSTOP)
+    it.stop()
     it.send(signal.SIGTERM)
-    yield "a quit that hangs", it.ended(5) == 143 and it.said("TERM: POST /-/quit at .* has no answer")
+    yield "a quit that hangs", it.ended() == 143 and it.said("TERM: POST /-/quit at .* has no answer")
     it.clear()
 
 
@@ -442,10 +447,32 @@ def run(row):
         found = []
         try:
             for what, holds, *more in case(folder):
-                found.append((f"{name}{what}", bool(holds), "" if holds or not more else f" {more[0]}"))
+                found.append((f"{name}{what}", bool(holds), "" if holds else f": {more} {log_of(folder)}"))
         except Exception as fault:
-            found.append((f"{name}{type(fault).__name__}: {fault}", False, ""))
+            found.append((f"{name}{type(fault).__name__}", False, f": {fault} {log_of(folder)}"))
+        end_all(folder)
         return found
+
+
+def log_of(folder):
+    """What was said there last."""
+    try:
+        with open(f"{folder}/log", errors="replace") as it:
+            return repr(it.read()[-1500:])
+    except OSError:
+        return ""
+
+
+def end_all(text):
+    """Ends each process that has this text among its words, and says whether the program was one."""
+    left = [one for one in map(int, filter(str.isdigit, os.listdir("/proc"))) if text.encode() in words_of(one)]
+    found = any(name_of(one) == os.path.realpath(PROGRAM) for one in left)
+    for one in left:
+        try:
+            os.kill(one, signal.SIGKILL)
+        except ProcessLookupError:
+            pass
+    return found
 
 
 def main():
