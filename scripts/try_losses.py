@@ -379,7 +379,7 @@ def fifo(folder):
 def a_folder(folder):
     write(f"{folder}/c.json", GOOD)
     os.mkdir(f"{folder}/volume")
-    return ends_with(folder, words_of(folder, "volume", free_port()), 3, "volume")
+    return ends_with(folder, words_of(folder, "volume", free_port()), 2, "volume")
 
 
 @row("journal and lock may be read by their owner alone", later=True)
