@@ -74,13 +74,14 @@ def served(folder, document=GOOD, journal="journal", up=True, **more):
 class Started(Service):
     """A service whose standard streams and limits may be others."""
 
-    def __init__(self, folder, document, journal, stderr=None, prepare=None):
+    def __init__(self, folder, document, journal, stderr=None, prepare=None, environment=None):
         self.folder, self.port, self.config = folder, free_port(), f"{folder}/c.json"
         self.journal = f"{folder}/{journal}"
         self.write(document)
         with open(f"{folder}/log", "ab") as log:
             self.it = subprocess.Popen(
-                [PROGRAM, *words_of(folder, self.journal, self.port)], stderr=stderr or log, stdout=subprocess.DEVNULL, preexec_fn=prepare)
+                [PROGRAM, *words_of(folder, self.journal, self.port)], stderr=stderr or log, stdout=subprocess.DEVNULL, preexec_fn=prepare,
+                env={**os.environ, **(environment or {})})
 
     def ask(self, method, path, body=None):
         try:
@@ -410,6 +411,48 @@ def again(folder):
     return found == [1, 1], found
 
 
+@row("of old journals 16 are kept where keep says nothing", later=True)
+def kept(folder):
+    with served(folder) as it:
+        for turn in range(18):
+            more = [] if turn % 2 else [{"job_name": "more"}]
+            it.write({**GOOD, "scrape_configs": [*GOOD["scrape_configs"], *more]})
+            it.ask("POST", "/-/reload")
+            comes(lambda: it.jobs() == sorted(["node", *(one["job_name"] for one in more)]), 5)
+        found = sorted(int(one.split(".")[1]) for one in os.listdir(folder) if re.fullmatch(r"journal\.\d+", one))
+        return len(found) == 16 and found[-1] == 18, found
+
+
+HANGS = """#include <unistd.h>
+#include <stdlib.h>
+int fdatasync(int file) {
+    while (access(getenv("HANGS"), F_OK) == 0) usleep(20000);
+    return 0;
+}
+"""
+
+
+@row("a device that hangs: a line and 503 of /-/ready after 3 seconds, and /-/healthy does not wait", later=True)
+def hanging(folder):
+    with open(f"{folder}/hangs.c", "w") as it:
+        it.write(HANGS)
+    if subprocess.run(["cc", "-shared", "-fPIC", "-o", f"{folder}/hangs.so", f"{folder}/hangs.c"], capture_output=True).returncode != 0:
+        return False, "there is no C compiler"
+    with served(folder, environment={"LD_PRELOAD": f"{folder}/hangs.so", "HANGS": f"{folder}/hanging"}) as it:
+        it.published()
+        write(f"{folder}/hanging", b"")
+        logged = len(it.said())
+        for _ in range(80):
+            threading.Thread(target=exchange, args=(it.port, "GET", "/jobs/node/targets?collector_id=a", {}, None, 6), daemon=True).start()
+        time.sleep(3.8)
+        began = time.monotonic()
+        lives = exchange(it.port, "GET", "/-/healthy", {}, None)[0]
+        took = time.monotonic() - began
+        ready = exchange(it.port, "GET", "/-/ready", {}, None)[0]
+        os.remove(f"{folder}/hanging")
+        return (lives, ready) == (200, 503) and took < 1 and len(it.said()) > logged, f"/-/healthy {lives} after {took:.1f} s, /-/ready {ready}, {it.said()[logged:]!r}"
+
+
 # Ready.
 
 
@@ -489,6 +532,15 @@ def other_limits(folder):
     return reloaded(folder, document, lambda it, said: (comes(lambda: it.figure(name) == 1, 2), f"it holds {it.figure(name)}"))
 
 
+@row("a reload with another reach of a collector: it leaves and joins under its name, and holds what it reaches now", later=True, now=False)
+@row("and where reach_changes is now, at once", later=True, now=True)
+def other_reach(folder, now):
+    reach = [{"allow": True, "test": "equals", "label": "instance", "value": "127.0.0.1:9102"}]
+    document = settings(collectors=[{"name": "a", "reach": reach}], **({"reach_changes": "now"} if now else {}))
+    name = 'allocd_collector_targets{collector="a"}'
+    return reloaded(folder, document, lambda it, said: (said[0] == 200 and comes(lambda: it.figure(name) == 1, 3), f"{said}, it holds {it.figure(name)}"))
+
+
 @row("a reload without a collector of the list: it is drained and leaves, and one that joined over HTTP stays", later=True)
 def taken_out(folder):
     with served(folder, settings(collectors=[*GOOD["allocator"]["collectors"], {"name": "b", "reach": ANY}])) as it:
@@ -518,11 +570,44 @@ row("a join under a name that was rebound (host): refused", True, method="POST",
 row("a list under a name that was rebound (host): refused", True, method="GET", path="/jobs", body=None, status=(400, 403, 421), headers={"host": "evil.example"})(strange)
 
 
-@row("a join over HTTP is a log line with the peer's address", later=True)
-def join_line(folder):
+@row("a join, limits, a drain and a leave over HTTP are a log line each, with the peer's address", later=True)
+def event_lines(folder):
     with served(folder) as it:
         it.send("POST", "/collectors", GHOST)
-        return comes(lambda: re.search("ghost.*127\\.0\\.0\\.1", it.said()), 1), it.said()
+        it.send("PUT", "/collectors/2/limits", {"limits": {"node": 1}})
+        it.send("POST", "/collectors/2/drain")
+        it.send("DELETE", "/collectors/2")
+        return comes(lambda: len([line for line in it.said().split("\n") if re.search("127\\.0\\.0\\.1(?!:%d)" % it.port, line)]) >= 4, 1), it.said()
+
+
+def tokens_at(folder, mode=0o600):
+    """Settings with two files of tokens, of this mode."""
+    for name in ("admin", "collectors"):
+        write(f"{folder}/{name}", f"of-{name}\n".encode())
+        os.chmod(f"{folder}/{name}", mode)
+    return settings(tokens={"admin": f"{folder}/admin", "collectors": f"{folder}/collectors"})
+
+
+@row("with tokens: who shows none, or another's, is 401 with www-authenticate, and who shows his own is answered", later=True)
+def with_tokens(folder):
+    def asked(it, method, path, body, token):
+        one = http.client.HTTPConnection("127.0.0.1", it.port, timeout=3)
+        headers = {"content-type": "application/json", **({"authorization": f"Bearer {token}"} if token else {})}
+        one.request(method, path, body and json.dumps(body), headers)
+        said = one.getresponse()
+        return said.status, "www-authenticate" in dict((name.lower(), value) for name, value in said.getheaders())
+    with served(folder, tokens_at(folder)) as it:
+        listed = "/jobs/node/targets?collector_id=a"
+        found = [asked(it, *what) for what in (
+            ("POST", "/collectors", GHOST, None), ("POST", "/collectors", GHOST, "of-collectors"), ("POST", "/collectors", GHOST, "of-admin"),
+            ("GET", listed, None, None), ("GET", listed, None, "of-collectors"))]
+        return [one[0] for one in found] in ([401, 401, 200, 401, 200], [401, 403, 200, 401, 200]) and found[0][1], found
+
+
+@row("a file of tokens that others may read: refused by name", later=True)
+def open_tokens(folder):
+    write(f"{folder}/c.json", tokens_at(folder, 0o644))
+    return ends_with(folder, words_of(folder, "journal", free_port()), 2, "/admin")
 
 
 SECRET = {**GOOD, "scrape_configs": [{**GOOD["scrape_configs"][0], "basic_auth": {"username": "u", "password": "hunter2"}}]}
