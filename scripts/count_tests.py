@@ -1,5 +1,5 @@
 #!/usr/bin/env python3
-"""How the repository is tested, in numbers: for each crate its lines, its tests, and its edits that must fail.
+"""How the repository is tested, in numbers: for each crate its lines, its tests, its edits that must fail and its rows; and the stored runs of ./test.
 
 usage: scripts/count_tests.py                prints the table
        scripts/count_tests.py --write FILE   writes it between the marks of a document (docs/TESTING.md)
@@ -22,6 +22,14 @@ def is_test(file):
     return file.parts[0].endswith("_tests") or "tests" in file.parts or file.name == "tests.rt"
 
 
+# how many runs are stored of a crate's program, or how many rows it is given in one run
+def stored(crate):
+    if not (crate / "stdout").is_file():
+        return 0
+    rows = [line for line in (crate / "stdin").read_bytes().split(b"\n") if line and not line.startswith(b"#")]
+    return len(rows) if crate.name.endswith("_rows") else 1
+
+
 def row(crate):
     code = sorted(crate.glob("src/**/*.rt"))
     tests = [file for file in code if is_test(file.relative_to(ROOT))]
@@ -33,17 +41,18 @@ def row(crate):
         sum(file.read_text().count("#[test]") for file in code),
         len(list(crate.glob("must-fail/*.edit"))),
         len(list((EDITS / crate.name).glob("*.edit"))),
-        int((crate / "stdout").is_file()),
+        stored(crate),
     ]
 
 
 def table():
     crates = sorted(it for it in ROOT.iterdir() if (it / "src").is_dir())
-    rows = [(crate.name, row(crate)) for crate in crates]
-    yield "| Crate | Code | Lines of tests | Definitions | Proofs | Tests | Edits of the gate | Other edits | Stored runs |\n"
+    rows = [(f"`{crate.name}`", row(crate)) for crate in crates]
+    rows.append(("`tests/`, by `./test`", [0] * 7 + [sum(it.is_dir() for it in (ROOT.parent / "tests").glob("*/*"))]))
+    yield "| Crate | Code | Lines of tests | Definitions | Proofs | Tests | Edits of the gate | Other edits | Stored rows |\n"
     yield "|---|---|---|---|---|---|---|---|---|\n"
     for name, counts in rows:
-        yield f"| `{name}` | {' | '.join(f'{it:,}' for it in counts)} |\n"
+        yield f"| {name} | {' | '.join(f'{it:,}' for it in counts)} |\n"
     yield f"| all | {' | '.join(f'{sum(it):,}' for it in zip(*(counts for _, counts in rows)))} |\n"
 
 
