@@ -94,7 +94,7 @@ def outside_in_words(outside):
         if found and (ROOT / found[1]).is_dir():
             declared[found[1]].add(found[2])
         else:
-            library.add(re.sub(r"^Rattle\.(\w+)\.specs\.", r"\1 ", base).removeprefix("Rattle."))
+            library.add(re.sub(r"^Rattle\.(\w+)\.specs\.", r"\1 ", base).replace("Rattle.", "", 1))
     types = [f"`{name}`" for crate in sorted(declared) for name in sorted(declared[crate] - {"TheVariants", "TheConstants"})]
     return ", ".join(types), ", ".join(f"`{it}`" for it in sorted(library))
 

@@ -122,7 +122,7 @@ def words_and_configurations(folder):
         with open(f"{folder}/bad.json", "w") as it:
             it.write(text)
         status, out, err = run("serve", "--check-config", "--config", f"{folder}/bad.json")
-        tell(name, status == 2 and out == "" and err.startswith(f"{folder}/bad.json: "), err.strip().removeprefix(f"{folder}/"))
+        tell(name, status == 2 and out == "" and err.startswith(f"{folder}/bad.json: "), err.strip().replace(f"{folder}/", "", 1))
     with open(f"{folder}/good.json", "w") as it:
         json.dump(CONFIG, it)
     status, out, _ = run("serve", "--check-config", "--config", f"{folder}/good.json")
@@ -162,7 +162,7 @@ def faults(folder):
     service = Service(folder)
     service.is_up()
     status, _, text = rewrite(service, FAULTY)
-    tell("a reload tells the first", status == 500 and lines_told(folder, text) == FAULTS[:1], text.strip().removeprefix(f"{folder}/"))
+    tell("a reload tells the first", status == 500 and lines_told(folder, text) == FAULTS[:1], text.strip().replace(f"{folder}/", "", 1))
     many = {"scrape_configs": [{"job_name": f"j{i}", "params": 7} for i in range(40)]}
     with open(f"{folder}/bad.json", "w") as it:
         json.dump(many, it)
@@ -182,7 +182,7 @@ def members_of_prometheus(folder):
     status, _, text = rewrite(service, more)
     tell("and so by a reload", status == 200 and len(lines()) == 4)
     status, _, text = rewrite(service, {**CONFIG, "scrape_configs": [{**node, "target_limt": 5}, *others]})
-    tell("a reload with an unknown member is refused", status == 500 and lines_told(folder, text) == ["scrape_configs[0].target_limt: unknown member; is target_limit meant?"], text.strip().removeprefix(f"{folder}/"))
+    tell("a reload with an unknown member is refused", status == 500 and lines_told(folder, text) == ["scrape_configs[0].target_limt: unknown member; is target_limit meant?"], text.strip().replace(f"{folder}/", "", 1))
     tell("ends", service.quit() == (200, 0))
     status, _, err = run("serve", "--config", f"{folder}/config.json")
     tell("a start with it is none", status == 2 and lines_told(folder, err) == ["scrape_configs[0].target_limt: unknown member; is target_limit meant?"])
@@ -266,7 +266,7 @@ def reloads(folder):
     waits_for(port, "allocd_allocation 1")
     before = ask(port, "GET", "/jobs/node/targets")[2]
     status, _, text = rewrite(service, "{")
-    tell("a faulty configuration is not taken", status == 500 and "no JSON" in text, text.strip().removeprefix(f"{folder}/"))
+    tell("a faulty configuration is not taken", status == 500 and "no JSON" in text, text.strip().replace(f"{folder}/", "", 1))
     tell("the figures say so", "allocd_config_last_reload_successful 0" in ask(port, "GET", "/metrics")[2])
     tell("and nothing changes", ask(port, "GET", "/jobs/node/targets")[2] == before)
     config = json.loads(json.dumps(CONFIG))
@@ -599,7 +599,7 @@ def refused_restart(folder, journal):
     many = with_jobs(*({"job_name": f"j{i}"} for i in range(1000)))
     service = Service(folder, journal, many)
     status = service.ended(120)
-    why = text_of(f"{folder}/log").strip().split("\n")[-1].removeprefix(f"{folder}/")
+    why = text_of(f"{folder}/log").strip().split("\n")[-1].replace(f"{folder}/", "", 1)
     tell("a start under too many jobs is refused", status == 2 and why.startswith("journal: ") and "jobs times live collectors" in why, why)
     tell("and the files are what they were, a torn line too", bytes_of(folder) == before)
     service = Service(folder, journal, with_jobs())
