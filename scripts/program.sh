@@ -5,11 +5,20 @@
 # the same logic prove the same.
 logic=dac8208d650f15bf
 
-# One hash over all that a build reads, whatever the dates of the files and their order in their folders.
-# usage: sources_hash ROOT
+# One hash over all that the build of a program reads, whatever the dates of the files and their order in their folders: crates that it is
+# not made of, as those of tests, may change.
+# usage: sources_hash ROOT NAME
 sources_hash() {
-    (cd "$1" && { find crates/*/src crates/*/specs crates/*/proofs -type f -print0; printf 'crates.txt\0'; } |
-        LC_ALL=C sort -z | xargs -0 sha256sum | sha256sum | cut -d' ' -f1)
+    local crates
+    mapfile -t crates < <(crates_of "$1" "$2")
+    (cd "$1" && {
+        for crate in "${crates[@]}"; do
+            for folder in src specs proofs; do
+                [ ! -d "crates/$crate/$folder" ] || printf '%s\0' "crates/$crate/$folder"
+            done
+        done | xargs -0 sh -c 'find "$@" -type f -print0' sh | LC_ALL=C sort -z | xargs -0 sha256sum
+        printf '%s\n' "${crates[@]}" | awk -F'[ :]' 'NR == FNR { is_in[$1]; next } $1 in is_in' - crates.txt
+    } | sha256sum | cut -d' ' -f1)
 }
 
 file_hash() {
@@ -22,7 +31,7 @@ write_record() {
     printf 'program %s\nsources %s\ntoolchain %s\n' "$(file_hash "$1")" "$2" "$(rt version)" > "$3.part" && mv "$3.part" "$3"
 }
 
-# Whether a program is the one of its record, made from just these sources.
+# Whether a program, in a file of its name, is the one of its record, made from just these sources.
 # usage: is_made ROOT PROGRAM RECORD
 is_made() {
     [ -x "$2" ] && [ -r "$3" ] || return 1
@@ -33,7 +42,7 @@ is_made() {
             sources) sources=$value ;;
         esac
     done < "$3"
-    [ "$sources" = "$(sources_hash "$1")" ] && [ "$program" = "$(file_hash "$2")" ]
+    [ "$sources" = "$(sources_hash "$1" "${2##*/}")" ] && [ "$program" = "$(file_hash "$2")" ]
 }
 
 # The crates that a program is made of, itself last, one a line.
@@ -85,7 +94,7 @@ build_program() {
     has_toolchain || return 1
     log=$folder/out/build.log
     mkdir -p "$folder/out"
-    sources=$(sources_hash "$root")
+    sources=$(sources_hash "$root" "$name")
     total=$(crates_of "$root" "$name" | wc -l)
     at_once=$(lanes)
     echo "$name: proving and building $total crates, $at_once at a time. From nothing that takes an hour and a half on four free" \
@@ -102,7 +111,7 @@ build_program() {
         echo "$name: not built: $log says why" >&2
         return 1
     fi
-    if [ "$sources" != "$(sources_hash "$root")" ]; then
+    if [ "$sources" != "$(sources_hash "$root" "$name")" ]; then
         echo "$name: the sources have changed meanwhile: once more, please" >&2
         return 1
     fi

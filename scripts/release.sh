@@ -1,6 +1,6 @@
 #!/usr/bin/env bash
 # The released program: dist/allocd, and dist/RELEASE, which says what it was made from (three lines: the sha256 of the program,
-# one hash over all sources, the toolchain).
+# one hash over its sources, the toolchain).
 # usage: scripts/release.sh                proves and builds the program and writes both
 #        scripts/release.sh --is-current   ends with 0 where dist/allocd is the program of RELEASE and these are its sources, else 1
 #        scripts/release.sh --check        proves and builds it from nothing in a fresh copy, and compares it byte by byte

@@ -14,11 +14,10 @@ for crate; do
     [ -d "$root/edits/$crate" ] || { echo "try_edits: edits/$crate is no folder" >&2 && exit 2; }
 done
 
-# One hash over a crate's edits, its files and those of the crates below it.
+# One hash over a crate's edits, its files, those of the crates below it, and the logic.
 # usage: sum_of CRATE
 sum_of() {
-    (cd "$root" && { crates_of . "$1" | sed 's|.*|crates/&/src\ncrates/&/specs\ncrates/&/proofs|'; echo "edits/$1"; } |
-        xargs -I{} find {} -type f -print0 2> /dev/null | LC_ALL=C sort -z | xargs -0 sha256sum | sha256sum | cut -d' ' -f1)
+    { echo "$logic" && sources_hash "$root" "$1" && (cd "$root/edits/$1" && sha256sum -- *); } | sha256sum | cut -d' ' -f1
 }
 
 # usage: count CRATE LOG     (of its edits, how many a log says are refused)
