@@ -53,7 +53,14 @@ fn duration_fault(alloc: Global, job: &Value) -> Result<Option<String>, AllocErr
 /// Whether a member is a duration, or left out.
 pub(crate) fn is_duration(found: Option<&Value>) -> bool {
     match found {
-        Some(value) => value.as_str().and_then(duration_of).is_some(),
+        Some(value) => says_duration(value),
         None => true,
+    }
+}
+
+fn says_duration(value: &Value) -> bool {
+    match value.as_str() {
+        Some(text) => duration_of(text).is_some(),
+        None => false,
     }
 }
