@@ -49,7 +49,8 @@ def cuts(folder):
     text = example("two-rounds.replay")
     wrong = [at for at in range(len(text)) if not is_cut_audit(file, text, at)]
     tell(f"audit, two-rounds.replay cut at each of {len(text)} bytes", not wrong, wrong[:3] or "")
-    journal = f"{folder}/journal"
+    # the first line of a journal has a mark, by which also a front of it is told from a file that is none
+    journal, text = f"{folder}/journal", text.replace(b"{", b'{"":"allocd journal",', 1)
     wrong = [at for at in range(0, len(text), 7) if not starts_over(folder, journal, text, at)]
     tell(f"serve over a journal cut at each seventh of {len(text)} bytes goes on behind its whole lines", not wrong, wrong[:3] or "")
 
