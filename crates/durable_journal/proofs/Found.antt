@@ -3,7 +3,7 @@ use Rattle.std.proofs.Common.{◌≡◌, ℕ, ◌+◌, ◌<◌, List, [], ◌++�
 use Rattle.std.specs.Prelude.{option_map}
 use Rattle.std.proofs.lemmas.Bool.Decides.{leb_tells}
 use Rattle.std.proofs.lemmas.List.{take_all, length-take-le}
-use Rattle.durable_journal.specs.Lines.{found_in}
+use Rattle.durable_journal.specs.Marks.{found_in}
 use Rattle.durable_journal.specs.declared.recovering.Recovered.{Recovered}
 use Rattle.durable_journal.specs.declared.recovering.Recovered.TheVariants.{TooLong}
 use Rattle.durable_journal.specs.declared.recovering.TheConstants.{MOST_JOURNAL}

@@ -60,7 +60,7 @@ put_levels_at Less n k l d e ms hd he hms later = omega arith
 put_levels_at Equal n k l d e ms hd he hms later = omega arith
 put_levels_at Greater n k l d e ms hd he hms later = omega arith
 
-put_levels : (n : ℕ) (k : List ℕ) (d : Data) (ms : Members) → depth d ≤ n → members_depth ms ≤ n → members_depth (put k d ms) ≤ n
+pub put_levels : (n : ℕ) (k : List ℕ) (d : Data) (ms : Members) → depth d ≤ n → members_depth ms ≤ n → members_depth (put k d ms) ≤ n
 put_levels n k d no_members hd hms = omega arith
 put_levels n k d (member l e ms) hd hms =
     let he : depth e ≤ n = omega arith in

@@ -3,4 +3,5 @@ pub mod Found
 pub mod EventLines
 pub mod Crashes
 pub mod Opening
+pub mod Marking
 pub mod Histories

@@ -2,3 +2,4 @@ pub mod Lines
 pub mod Events
 pub mod Journals
 pub mod Configured
+pub mod Marks

@@ -1,10 +1,7 @@
 -- The lines of a file, each ended by a line feed, and what of a file was written whole.
-use Rattle.std.specs.Prelude.{◌≡◌, ℕ, ◌-◌, List, [], ◌∷◌, ◌++◌, length, nat_le, false, if◌then◌else◌}
+use Rattle.std.specs.Prelude.{◌≡◌, ℕ, List, [], ◌∷◌, ◌++◌, false, if◌then◌else◌}
 use Rattle.std.specs.List.{list_any}
 use Rattle.json_values.specs.Texts.{is_line_feed}
-use Rattle.durable_journal.specs.declared.recovering.Recovered.{Recovered}
-use Rattle.durable_journal.specs.declared.recovering.Recovered.TheVariants.{Found, TooLong}
-use Rattle.durable_journal.specs.declared.recovering.TheConstants.{MOST_JOURNAL}
 
 abbrev pub HasNoFeed : List ℕ → Type 0
 HasNoFeed bytes = list_any is_line_feed bytes ≡ false
@@ -22,7 +19,3 @@ written (line ∷ lines) = with_line line (written lines)
 abbrev pub whole_part : List ℕ → List ℕ
 whole_part [] = []
 whole_part (b ∷ bs) = if list_any is_line_feed (b ∷ bs) then b ∷ whole_part bs else []
-
--- what is found in a file of these bytes
-abbrev pub found_in : List ℕ → Recovered
-found_in bytes = if nat_le (length bytes) MOST_JOURNAL then Found (whole_part bytes) (length bytes - length (whole_part bytes)) else TooLong

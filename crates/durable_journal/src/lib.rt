@@ -9,6 +9,7 @@ mod archive;
 mod configuring;
 mod jobs;
 mod laws;
+mod marking;
 mod recovering;
 mod renewing;
 mod writing;

@@ -1,7 +1,9 @@
 //! Reading a journal that a crash may have left.
-ghost use Rattle.std.specs.Prelude.{◌≡◌, ◌≤◌, IfOk, IfSome, length, take};
-ghost use Rattle.durable_journal.specs.Lines.{found_in, whole_part};
+ghost use Rattle.std.specs.Prelude.{◌≡◌, ◌≤◌, ◌-◌, IfOk, IfSome, length, take};
+ghost use Rattle.durable_journal.specs.Lines.{whole_part};
+ghost use Rattle.durable_journal.specs.Marks.{found_in};
 
+use crate::marking::is_journal;
 use lists::List;
 use std::alloc::Global;
 use std::io;
@@ -15,6 +17,8 @@ pub const MOST_JOURNAL: u64 = 1073741824;
 pub enum Recovered {
     /// The whole lines, each with its line feed. So many bytes of a torn line follow them, and are to be cut.
     Found { lines: List<u8>, torn: usize },
+    /// No journal, nor what a crash may have left of one.
+    Other,
     /// More than the most bytes.
     TooLong,
 }
@@ -34,6 +38,16 @@ fn found(bytes: Vec<u8>) -> Recovered
     if bytes.len() as u64 > MOST_JOURNAL {
         return Recovered::TooLong;
     }
+    if !is_journal(bytes.as_slice()) {
+        return Recovered::Other;
+    }
+    whole_lines(bytes)
+}
+
+/// The whole lines of a journal.
+fn whole_lines(bytes: Vec<u8>) -> Recovered
+    ensures { result ≡ Found (whole_part bytes.items) (length bytes.items - length (whole_part bytes.items)) }
+{
     let mut lines = bytes;
     let kept = settled(lines.as_slice());
     let torn = lines.len() - kept;
@@ -46,7 +60,7 @@ fn found(bytes: Vec<u8>) -> Recovered
 
 /// How many bytes the whole lines have.
 #[tactic(auto, using(crate::proofs::WholeParts::cut_at, crate::proofs::WholeParts::none))]
-fn settled(bytes: &[u8]) -> usize
+pub(crate) fn settled(bytes: &[u8]) -> usize
     ensures whole { whole_part bytes.now ≡ take result bytes.now }
     ensures bound { result ≤ length bytes.now }
 {
