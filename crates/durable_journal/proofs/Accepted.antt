@@ -1,5 +1,5 @@
 -- What a crash leaves of a journal is told to be one.
-use Rattle.std.proofs.Common.{◌≡◌, ℕ, Bool, true, false, cond, ◌&&◌, ◌||◌, List, [], ◌∷◌, ◌++◌, length, drop, inl, inr, ◌⊎◌, refl, sym, ap, subst, ◌∙◌, append_assoc, append-nil}
+use Rattle.std.proofs.Common.{◌≡◌, ℕ, Bool, true, false, cond, ◌&&◌, ◌||◌, List, [], ◌∷◌, ◌++◌, length, drop, inl, inr, refl, sym, ap, subst, ◌∙◌, append_assoc}
 use Rattle.std.specs.Prelude.{codes, nat_eq}
 use Rattle.std.specs.List.{list_any, starts_with}
 use Rattle.std.proofs.lemmas.Bool.{eq-eqb}
@@ -22,7 +22,7 @@ use Rattle.durable_journal.specs.Events.{events_text}
 use Rattle.durable_journal.specs.Lines.{HasNoFeed, whole_part, with_line}
 use Rattle.durable_journal.specs.Marks.{agrees, agrees_with_event, begins_journal, bin_prices_text, collector_text, event_name_text, is_begun, is_journal_text, mark_text, torn_end}
 use Rattle.durable_journal.proofs.Beginnings.{agrees_beginning, begins_more, fed_more, has_no_zero, starts_more}
-use Rattle.durable_journal.proofs.WholeParts.{Beyond, cut, fed, keeps, none}
+use Rattle.durable_journal.proofs.WholeParts.{cut, fed, keeps, none}
 
 both : {a b : Bool} → a ≡ true → b ≡ true → (a && b) ≡ true
 both h k = rw (h, k) refl

@@ -1,5 +1,5 @@
 -- What the beginning of a file tells, and goes on telling when more is appended.
-use Rattle.std.proofs.Common.{◌≡◌, ℕ, ◌+◌, Bool, true, false, cond, not, ◌&&◌, ◌||◌, List, [], ◌∷◌, ◌++◌, length, drop, Option, Some, None, BTreeMap, String, Global, string_bytes, refl, sym, ap, ◌∙◌, append_assoc, arith, rules}
+use Rattle.std.proofs.Common.{◌≡◌, ℕ, Bool, true, false, cond, not, ◌&&◌, ◌||◌, List, [], ◌∷◌, ◌++◌, length, drop, Option, Some, None, BTreeMap, String, Global, string_bytes, refl, sym, ap, ◌∙◌, append_assoc, rules}
 use Rattle.std.specs.Prelude.{nat_eq, codes, ◌==◌}
 use Rattle.std.specs.List.{list_all, list_any, starts_with}
 use Rattle.std.specs.Option.{option_map_or}
@@ -10,7 +10,7 @@ use Rattle.std.proofs.lemmas.Slice.Eq.{starts_is}
 use Rattle.json.specs.Print.{escape_byte}
 use Rattle.serde_json.specs.Data.{Data, Members, no_members, member, null, boolean, number, string, array, object, put}
 use Rattle.serde_json.specs.View.{view, members_view}
-use Rattle.serde_json.specs.Written.{compact_text, members_text}
+use Rattle.serde_json.specs.Written.{compact_text}
 use Rattle.serde_json.specs.declared.value.Value.{Value, Object, String as StringValue, the_lemmas}
 use Rattle.serde_json.proofs.Views.{view-Object}
 use Rattle.json_values.specs.Texts.{is_line_feed}

@@ -1,5 +1,5 @@
 -- A journal's lines, and what is found of them after a crash.
-use Rattle.std.proofs.Common.{◌≡◌, ℕ, ◌+◌, Bool, true, false, cond, ◌||◌, List, [], ◌∷◌, ◌++◌, length, Option, Some, None, Ok, Err, inl, inr, ◌⊎◌, refl, sym, ap, subst, ◌∙◌, append_assoc, append-nil}
+use Rattle.std.proofs.Common.{◌≡◌, ℕ, ◌+◌, Bool, cond, List, [], ◌∷◌, ◌++◌, length, Option, Some, None, Ok, Err, inl, inr, refl, sym, ap, subst, ◌∙◌, append_assoc, append-nil}
 use Rattle.std.specs.Prelude.{◌==◌, is_some}
 use Rattle.std.specs.List.{list_any, onto_first}
 use Rattle.std.specs.Option.{option_map_or}
@@ -19,7 +19,7 @@ use Rattle.durable_journal.specs.Journals.{Accepts, Grows, IgnoresTorn, IsJourna
 use Rattle.durable_journal.specs.Lines.{HasNoFeed, whole_part, with_line}
 use Rattle.durable_journal.proofs.Accepted.{accepted}
 use Rattle.durable_journal.proofs.EventLines.{says_more}
-use Rattle.durable_journal.proofs.WholeParts.{Beyond, cut, fed, keeps, none, or_false}
+use Rattle.durable_journal.proofs.WholeParts.{cut, fed, keeps, none, or_false}
 
 -- ---- one line
 

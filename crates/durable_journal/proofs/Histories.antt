@@ -1,19 +1,15 @@
 -- A line with the history of a state: how deep it is, and what it opens.
-use Rattle.std.proofs.Common.{◌≡◌, ◌≤◌, ℕ, Bool, true, false, cond, List, length, Option, Some, None, IfSome, IfOk, String, BTreeMap, Global, Result, Ok, Ordering, Less, Equal, Greater, refl, sym, ap, subst, ◌∙◌, arith}
+use Rattle.std.proofs.Common.{◌≡◌, ◌≤◌, ℕ, true, List, length, Option, Some, None, IfSome, IfOk, String, BTreeMap, Global, Result, Ok, refl, sym, ap, subst, ◌∙◌, arith}
 use Rattle.std.specs.Prelude.{option_map, option_and_then, codes, if◌then◌else◌, unwrap_or}
-use Rattle.std.specs.Cmp.Lexicographic.{slice_cmp}
-use Rattle.std.specs.Ordering.{match_ordering, nat_cmp}
 use Rattle.std.specs.Option.{ok_or}
 use Rattle.std.specs.Result.{result_ok}
-use Rattle.std.specs.List.{list_any}
-use Rattle.serde_json.specs.Data.{Data, Members, null, boolean, number, string, array, object, no_members, member, put, depth, members_depth}
-use Rattle.serde_json.specs.Find.{get}
+use Rattle.serde_json.specs.Data.{Data, Members, null, boolean, number, string, array, object, put, depth, members_depth}
 use Rattle.serde_json.specs.Read.{max_depth}
 use Rattle.serde_json.specs.View.{view, members_view}
 use Rattle.serde_json.specs.declared.value.Value.{Value, Object}
 use Rattle.serde_json.proofs.Views.{get_member-put, get_member-put_other, view-Object}
 use Rattle.json_values.specs.Spelling.{number_data, pair_data, list_data}
-use Rattle.json_values.specs.Texts.{is_line_feed, json_of}
+use Rattle.json_values.specs.Texts.{json_of}
 use Rattle.json_values.proofs.Lists.{levels}
 use Rattle.price_certificate.proofs.DocumentForm.{levels-document_data}
 use Rattle.fleet.specs.Fleet.{FleetState}
