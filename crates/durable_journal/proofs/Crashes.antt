@@ -1,5 +1,5 @@
 -- A journal's lines, and what is found of them after a crash.
-use Rattle.std.proofs.Common.{◌≡◌, ℕ, ◌+◌, Bool, true, false, cond, ◌||◌, List, [], ◌∷◌, ◌++◌, length, Option, Some, None, Ok, Err, inl, inr, ◌⊎◌, refl, sym, ap, subst, ◌∙◌, append_assoc, append-nil}
+use Rattle.std.proofs.Common.{◌≡◌, ℕ, ◌+◌, Bool, cond, List, [], ◌∷◌, ◌++◌, length, Option, Some, None, Ok, Err, inl, inr, refl, sym, ap, subst, ◌∙◌, append_assoc, append-nil}
 use Rattle.std.specs.Prelude.{◌==◌, is_some}
 use Rattle.std.specs.List.{list_any, onto_first}
 use Rattle.std.specs.Option.{option_map_or}
@@ -15,16 +15,13 @@ use Rattle.replay_lines.specs.AsRuns.{events_of}
 use Rattle.replay_lines.specs.Replays.{lines_in}
 use Rattle.replay_lines.specs.Resumes.{damage_at, resumed, resumed_by, resumed_from, resumption_at, unread_from}
 use Rattle.durable_journal.specs.Events.{SaysEvents}
-use Rattle.durable_journal.specs.Journals.{Grows, IgnoresTorn, IsJournal, Resumes, Survives}
+use Rattle.durable_journal.specs.Journals.{Accepts, Grows, IgnoresTorn, IsJournal, Resumes, Survives}
 use Rattle.durable_journal.specs.Lines.{HasNoFeed, whole_part, with_line}
+use Rattle.durable_journal.proofs.Accepted.{accepted}
 use Rattle.durable_journal.proofs.EventLines.{says_more}
-use Rattle.durable_journal.proofs.WholeParts.{keeps, none}
+use Rattle.durable_journal.proofs.WholeParts.{cut, fed, keeps, none, or_false}
 
 -- ---- one line
-
-or_false : (a b : Bool) → (a || b) ≡ false → (a ≡ false) × (b ≡ false)
-or_false true b h = cc
-or_false false b h = (refl, h)
 
 -- it ends at its line feed
 line_ends : (line rest : List ℕ) → HasNoFeed line → lines_in (with_line line rest) ≡ line ∷ lines_in rest
@@ -104,24 +101,6 @@ kept_journal text front m events j =
 pub ignores_torn : IgnoresTorn
 ignores_torn text torn m events j absent = kept_journal text torn m events j ∙ ap (λ (t : List ℕ). text ++ t) (none torn absent) ∙ append-nil text
 
--- a beginning of a line and what follows it ends in the line, or after it
-record Beyond (line rest front lost : List ℕ) : Type 0 where
-  more : List ℕ
-  begins : front ≡ with_line line more
-  ends : rest ≡ more ++ lost
-
-cut : (line rest front lost : List ℕ) → HasNoFeed line → with_line line rest ≡ front ++ lost → HasNoFeed front ⊎ Beyond line rest front lost
-cut line rest [] lost absent e = inl refl
-cut [] rest (f ∷ front) lost absent e = inr (record { more = front; begins = cc; ends = cc })
-cut (b ∷ line) rest (f ∷ front) lost absent e =
-    let parts = or_false (b == 10) (list_any is_line_feed line) absent in
-    let heads : b ≡ f = cc in
-    let tails : with_line line rest ≡ front ++ lost = cc in
-    elim (cut line rest front lost parts.1 tails) as (λ x. HasNoFeed (f ∷ front) ⊎ Beyond (b ∷ line) rest (f ∷ front) lost) [
-      | inl none ↦ inl (rw (← heads) (rw parts.0 none))
-      | inr beyond ↦ inr (record { more = beyond.more; begins = cc; ends = beyond.ends })
-    ]
-
 -- the events of the whole lines among these
 record Begun (front : List ℕ) (events : List Event) : Type 0 where
   done : List Event
@@ -162,3 +141,7 @@ survives text front lost m events others j says =
       journal = journal;
       state = resumes (whole_part (text ++ front)) m (events ++ b.done) journal;
     }
+
+pub accepts : Accepts
+accepts text front lost m events others j begins e =
+    accepted text front lost others (ap (list_any is_line_feed) j.whole ∙ fed j.first j.lines) (kept_journal text front m events j) begins e

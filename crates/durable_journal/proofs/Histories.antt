@@ -1,19 +1,15 @@
 -- A line with the history of a state: how deep it is, and what it opens.
-use Rattle.std.proofs.Common.{◌≡◌, ◌≤◌, ℕ, Bool, true, false, cond, List, length, Option, Some, None, IfSome, String, BTreeMap, Global, Result, Ok, Ordering, Less, Equal, Greater, refl, sym, ap, subst, ◌∙◌, arith}
+use Rattle.std.proofs.Common.{◌≡◌, ◌≤◌, ℕ, true, List, length, Option, Some, None, IfSome, IfOk, String, BTreeMap, Global, Result, Ok, refl, sym, ap, subst, ◌∙◌, arith}
 use Rattle.std.specs.Prelude.{option_map, option_and_then, codes, if◌then◌else◌, unwrap_or}
-use Rattle.std.specs.Cmp.Lexicographic.{slice_cmp}
-use Rattle.std.specs.Ordering.{match_ordering, nat_cmp}
 use Rattle.std.specs.Option.{ok_or}
 use Rattle.std.specs.Result.{result_ok}
-use Rattle.std.specs.List.{list_any}
-use Rattle.serde_json.specs.Data.{Data, Members, null, boolean, number, string, array, object, no_members, member, put, depth, members_depth}
-use Rattle.serde_json.specs.Find.{get}
+use Rattle.serde_json.specs.Data.{Data, Members, null, boolean, number, string, array, object, put, depth, members_depth}
 use Rattle.serde_json.specs.Read.{max_depth}
 use Rattle.serde_json.specs.View.{view, members_view}
 use Rattle.serde_json.specs.declared.value.Value.{Value, Object}
 use Rattle.serde_json.proofs.Views.{get_member-put, get_member-put_other, view-Object}
 use Rattle.json_values.specs.Spelling.{number_data, pair_data, list_data}
-use Rattle.json_values.specs.Texts.{is_line_feed, json_of}
+use Rattle.json_values.specs.Texts.{json_of}
 use Rattle.json_values.proofs.Lists.{levels}
 use Rattle.price_certificate.proofs.DocumentForm.{levels-document_data}
 use Rattle.fleet.specs.Fleet.{FleetState}
@@ -30,7 +26,9 @@ use Rattle.sd_documents.specs.Reading.{◌>>=◌}
 use Rattle.sd_documents.specs.declared.error.SdError.TheVariants.{NotJson}
 use Rattle.replay_lines.specs.Configurations.{jobs_in, opened, opened_from, resumed_with, same_jobs, specs_of}
 use Rattle.durable_journal.specs.Configured.{OpensAgain, goes_on, with_history}
-use Rattle.durable_journal.proofs.Opening.{shallow}
+use Rattle.durable_journal.specs.Marks.{SaysMarked}
+use Rattle.durable_journal.proofs.Marked.{if_given, put_levels, says_opens}
+use Rattle.durable_journal.proofs.Opening.{opened_data, shallow}
 
 -- ---- how deep it is
 
@@ -53,19 +51,6 @@ fleet_levels fleet =
 history_levels : (m : State) → depth (history_data m) ≤ 6
 history_levels m =
     omega (arith, levels pair_data 1 (λ q. omega arith) (current_pairs m), levels-document_data m.problem m.plan.pairs m.plan.item_prices m.plan.bin_prices, fleet_levels m.fleet)
-
-put_levels_at : (o : Ordering) (n : ℕ) (k l : List ℕ) (d e : Data) (ms : Members) → depth d ≤ n → depth e ≤ n → members_depth ms ≤ n → members_depth (put k d ms) ≤ n
-    → members_depth (match_ordering o (member k d (member l e ms)) (member l d ms) (member l e (put k d ms))) ≤ n
-put_levels_at Less n k l d e ms hd he hms later = omega arith
-put_levels_at Equal n k l d e ms hd he hms later = omega arith
-put_levels_at Greater n k l d e ms hd he hms later = omega arith
-
-pub put_levels : (n : ℕ) (k : List ℕ) (d : Data) (ms : Members) → depth d ≤ n → members_depth ms ≤ n → members_depth (put k d ms) ≤ n
-put_levels n k d no_members hd hms = omega arith
-put_levels n k d (member l e ms) hd hms =
-    let he : depth e ≤ n = omega arith in
-    let rest : members_depth ms ≤ n = omega arith in
-    put_levels_at (slice_cmp nat_cmp k l) n k l d e ms hd he rest (put_levels n k d ms hd rest)
 
 renewed_levels : (m : State) (d r : Data) → depth d ≤ max_depth → with_history m d ≡ Some r → depth r ≤ max_depth
 renewed_levels m null r h e = cc
@@ -92,22 +77,23 @@ said_same : (h : Data) (ms : Members) → config_said (object (put (codes "histo
 unfolding config_said
 said_same h ms = rw (get_member-put_other (codes "scrape_configs") (codes "history") h ms (λ e. omega (arith, ap length e))) refl
 
-opened_with_history : (line document : List ℕ) (h : Data) (ms : Members) → json_of document ≡ Some (object ms) → json_of line ≡ Some (object (put (codes "history") h ms))
-    → opened line ≡ option_and_then (λ jobs. resumed_with jobs (history_in h)) (jobs_in document)
-unfolding opened
-opened_with_history line document h ms before after =
-    ap (λ (o : Option Data). option_and_then (opened_from (option_and_then (get (codes "history")) o)) (option_map specs_of (result_ok (ok_or o NotJson >>= config_said)))) after
-    ∙ ap (λ (o : Option Data). option_and_then (opened_from o) (option_map specs_of (result_ok (config_said (object (put (codes "history") h ms)))))) (get_member-put (codes "history") h ms)
+opened_with_history : (document : List ℕ) (h : Data) (ms : Members) → json_of document ≡ Some (object ms)
+    → opened_data (Some (object (put (codes "history") h ms))) ≡ option_and_then (λ jobs. resumed_with jobs (history_in h)) (jobs_in document)
+opened_with_history document h ms before =
+    ap (λ (o : Option Data). option_and_then (opened_from o) (option_map specs_of (result_ok (config_said (object (put (codes "history") h ms)))))) (get_member-put (codes "history") h ms)
     ∙ ap (λ r. option_and_then (opened_from (Some h)) (option_map specs_of (result_ok r))) (said_same h ms)
     ∙ ap (λ (o : Option Data). option_and_then (opened_from (Some h)) (option_map specs_of (result_ok (ok_or o NotJson >>= config_said)))) (sym before)
 
-renewed_opens : (line document : List ℕ) (m : State) (d r : Data) → json_of document ≡ Some d → with_history m d ≡ Some r → json_of line ≡ Some r → opened line ≡ goes_on m document
-renewed_opens line document m null r before e after = cc
-renewed_opens line document m (boolean b) r before e after = cc
-renewed_opens line document m (number n) r before e after = cc
-renewed_opens line document m (string s) r before e after = cc
-renewed_opens line document m (array ds) r before e after = cc
-renewed_opens line document m (object ms) r before e after = opened_with_history line document (history_data m) ms before (after ∙ sym e)
+opened_renewed : (document : List ℕ) (m : State) (d r : Data) → json_of document ≡ Some d → with_history m d ≡ Some r → opened_data (Some r) ≡ goes_on m document
+opened_renewed document m null r before e = cc
+opened_renewed document m (boolean b) r before e = cc
+opened_renewed document m (number n) r before e = cc
+opened_renewed document m (string s) r before e = cc
+opened_renewed document m (array ds) r before e = cc
+opened_renewed document m (object ms) r before e = ap opened_data (sym e) ∙ opened_with_history document (history_data m) ms before
+
+renewed_opens : (line document : List ℕ) (m : State) (d r : Data) → json_of document ≡ Some d → with_history m d ≡ Some r → SaysMarked r line → opened line ≡ goes_on m document
+renewed_opens line document m d r before e says = says_opens line r (renewed_levels m d r (shallow document d before) e) says ∙ opened_renewed document m d r before e
 
 again_by : (m : State) (document : List ℕ) (said : Result State HistoryError) (jobs : List JobSpec) → said ≡ Ok (restored m.fleet (current_pairs m) m.problem m.plan m.round) → jobs_in document ≡ Some jobs → same_jobs m.fleet.jobs jobs ≡ true
     → option_and_then (λ jobs. resumed_with jobs said) (jobs_in document) ≡ Some (restored m.fleet (current_pairs m) m.problem m.plan m.round)
@@ -117,17 +103,11 @@ again_by m document said jobs reads jobs_are same =
 
 -- ---- the line that is given, if one is
 
-line_by : (fed : Bool) (P : List ℕ → Type 0) (text : List ℕ) (o : Option (List ℕ)) → P text → o ≡ cond fed None (Some text) → IfSome o P
-line_by true P text o holds e = subst (λ (q : Option (List ℕ)). IfSome q P) (sym e) tt
-line_by false P text o holds e = subst (λ (q : Option (List ℕ)). IfSome q P) (sym e) holds
+pub renewed_line_opens : {E : Type 0} (document : List ℕ) (m : State) (d r : Data) (o : Result (Option (List ℕ)) E) → json_of document ≡ Some d → with_history m d ≡ Some r → IfOk o (λ l. IfSome l (SaysMarked r)) → IfOk o (λ l. IfSome l (λ line. opened line ≡ goes_on m document))
+renewed_line_opens document m d r o before e says = if_given o (SaysMarked r) (λ line. opened line ≡ goes_on m document) (λ line s. renewed_opens line document m d r before e s) says
 
-pub renewed_line_opens : (document text : List ℕ) (m : State) (d r : Data) (o : Option (List ℕ)) → json_of document ≡ Some d → with_history m d ≡ Some r → (depth r ≤ max_depth → json_of text ≡ Some r)
-    → o ≡ (if list_any is_line_feed text then None else Some text) → IfSome o (λ line. opened line ≡ goes_on m document)
-renewed_line_opens document text m d r o before e back is =
-    line_by (list_any is_line_feed text) (λ line. opened line ≡ goes_on m document) text o (renewed_opens text document m d r before e (back (renewed_levels m d r (shallow document d before) e))) is
-
-pub renewed_line_again : (document text : List ℕ) (m : State) (d r : Data) (o : Option (List ℕ)) → ReadsBack m (history_in (history_data m)) → json_of document ≡ Some d → with_history m d ≡ Some r → (depth r ≤ max_depth → json_of text ≡ Some r)
-    → o ≡ (if list_any is_line_feed text then None else Some text) → IfSome o (OpensAgain m document)
-renewed_line_again document text m d r o reads before e back is =
-    line_by (list_any is_line_feed text) (OpensAgain m document) text o
-    (λ jobs good jobs_are same. renewed_opens text document m d r before e (back (renewed_levels m d r (shallow document d before) e)) ∙ again_by m document (history_in (history_data m)) jobs (reads good) jobs_are same) is
+pub renewed_line_again : {E : Type 0} (document : List ℕ) (m : State) (d r : Data) (o : Result (Option (List ℕ)) E) → ReadsBack m (history_in (history_data m)) → json_of document ≡ Some d → with_history m d ≡ Some r → IfOk o (λ l. IfSome l (SaysMarked r))
+    → IfOk o (λ l. IfSome l (OpensAgain m document))
+renewed_line_again document m d r o reads before e says =
+    if_given o (SaysMarked r) (OpensAgain m document)
+    (λ line s jobs good jobs_are same. renewed_opens line document m d r before e s ∙ again_by m document (history_in (history_data m)) jobs (reads good) jobs_are same) says

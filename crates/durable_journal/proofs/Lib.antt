@@ -1,7 +1,9 @@
 pub mod WholeParts
 pub mod Found
 pub mod EventLines
+pub mod Beginnings
+pub mod Accepted
 pub mod Crashes
 pub mod Opening
-pub mod Marking
+pub mod Marked
 pub mod Histories

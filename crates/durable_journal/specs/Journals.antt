@@ -1,12 +1,14 @@
 -- Journals, and what of one is found again after a crash.
-use Rattle.std.specs.Prelude.{◌≡◌, ℕ, List, ◌++◌, length, Ok, Some}
+use Rattle.std.specs.Prelude.{◌≡◌, ℕ, List, [], ◌++◌, length, Ok, Some, nat_eq, true}
+use Rattle.std.specs.List.{starts_with}
 use Rattle.allocation_core.specs.State.{State}
 use Rattle.allocation_core.specs.Runs.{state_of}
 use Rattle.fleet_events.specs.declared.event.Event.{Event}
 use Rattle.replay_lines.specs.Configurations.{opened}
 use Rattle.replay_lines.specs.Resumes.{resumed, resumption_at}
-use Rattle.durable_journal.specs.Events.{SaysEvents}
+use Rattle.durable_journal.specs.Events.{SaysEvents, events_text}
 use Rattle.durable_journal.specs.Lines.{HasNoFeed, whole_part, with_line, written}
+use Rattle.durable_journal.specs.Marks.{begins_journal, is_journal_text, mark_text}
 
 -- a first line that opens the state, and then a line for each of the events
 pub record IsJournal (text : List ℕ) (m : State) (events : List Event) : Type 0 where
@@ -46,3 +48,14 @@ abbrev pub Survives : Type 0
 Survives =
     (text front lost : List ℕ) (m : State) (events others : List Event) → IsJournal text m events → SaysEvents (front ++ lost) others
     → IsFound (whole_part (text ++ front)) m events others
+
+-- What a crash leaves of an append to a journal, that begins with the mark or is told by what it has, is told to be a journal: it is found, and
+-- not refused.
+abbrev pub Accepts : Type 0
+Accepts =
+    (text front lost : List ℕ) (m : State) (events others : List Event) → IsJournal text m events → begins_journal text ≡ true → front ++ lost ≡ events_text others
+    → is_journal_text (text ++ front) ≡ true
+
+-- So is what it leaves of a first line with the mark.
+abbrev pub AcceptsFirst : Type 0
+AcceptsFirst = (line front lost : List ℕ) → HasNoFeed line → starts_with nat_eq line mark_text ≡ true → front ++ lost ≡ with_line line [] → is_journal_text front ≡ true

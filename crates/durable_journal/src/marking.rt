@@ -1,18 +1,23 @@
 //! The mark of a journal, by which its file is told from every other one.
-ghost use Rattle.std.specs.Prelude.{◌≡◌, IfOk, drop, option_map};
+ghost use Rattle.std.specs.Prelude.{◌≡◌, IfOk, nat_eq, option_map};
+ghost use Rattle.std.specs.List.{list_all};
 ghost use Rattle.serde_json.specs.View.{view};
-ghost use Rattle.durable_journal.specs.Marks.{agrees, agrees_with_event, begins_event, behind_feed, has_event, is_begun, is_journal_text, marked as with_mark, torn_end};
+ghost use Rattle.durable_journal.specs.Marks.{agrees, agrees_with_event, begins_event, begins_journal, behind_feed, has_event, has_history, is_begun, is_journal_text, marked as with_mark, torn_end};
 
 use crate::recovering::settled;
 use serde_json::{Value, put};
 use std::alloc::{AllocError, Global};
 
-/// The member with which the first line of a journal begins.
-const MARK_NAME: &str = "#";
+/// The member with which the first line of a journal begins: no name comes before the empty one.
+const MARK_NAME: &str = "";
 
 const MARK: &str = "allocd journal";
 
-const MARK_TEXT: &[u8] = b"{\"#\":\"allocd journal\"";
+/// The bytes with which the first line of a journal begins.
+pub(crate) const MARK_TEXT: &[u8] = b"{\"\":\"allocd journal\"";
+
+/// The member of the first line that a renewed allocator has.
+const HISTORY: &[u8] = b"\"history\":{\"allocation\":";
 
 /// The members with which the lines of events begin.
 const BIN_PRICES: &[u8] = b"{\"bin_prices\":";
@@ -21,30 +26,36 @@ const COLLECTOR: &[u8] = b"{\"collector\":";
 
 const EVENT: &[u8] = b"{\"event\":";
 
-/// The document of a configuration with the mark as its member.
-pub(crate) fn marked(alloc: Global, document: Value) -> Result<Value, AllocError>
-    ensures { IfOk result (λ v. view v ≡ with_mark (view document)) }
+/// The object with the mark as its member.
+pub(crate) fn marked(alloc: Global, document: Value) -> Result<Option<Value>, AllocError>
+    ensures { IfOk result (λ o. option_map view o ≡ with_mark (view document)) }
 {
     match document {
         Value::Object(mut members) => {
             let mark = Value::String(String::from_str(alloc, MARK)?);
             put(&mut members, alloc, MARK_NAME, mark)?;
-            Ok(Value::Object(members))
+            Ok(Some(Value::Object(members)))
         }
-        other => Ok(other),
+        _ => Ok(None),
     }
 }
 
 /// Whether a file of these bytes is a journal, or what a crash may have left of one: only then a torn line at its end may be cut off. A file
-/// without a byte is one that is to begin. Journals of earlier versions have no mark: they have an event.
+/// without a byte is one that is to begin. A first line that was written before there was a mark is told by an event behind it, or by a
+/// history in it.
 pub(crate) fn is_journal(bytes: &[u8]) -> bool
     ensures { result ≡ is_journal_text bytes.now }
 {
     if !bytes.contains(&b'\n') {
         return is_first_begun(bytes);
     }
-    (bytes.starts_with(MARK_TEXT) || is_followed_by_an_event(bytes))
-        && may_begin_an_event(torn(bytes))
+    begins_as_a_journal(bytes) && may_begin_an_event(torn(bytes))
+}
+
+fn begins_as_a_journal(bytes: &[u8]) -> bool
+    ensures { result ≡ begins_journal bytes.now }
+{
+    bytes.starts_with(MARK_TEXT) || is_followed_by_an_event(bytes) || goes_on(bytes)
 }
 
 /// Whether these are no byte, or a beginning of a marked line.
@@ -86,6 +97,21 @@ fn behind_first(bytes: &[u8]) -> Option<&[u8]>
     None
 }
 
+/// Whether the first line has a history.
+fn goes_on(bytes: &[u8]) -> bool
+    ensures { result ≡ has_history bytes.now }
+{
+    for place in 0..bytes.len() {
+        if bytes[place] == b'\n' {
+            return false;
+        }
+        if bytes[place..].starts_with(HISTORY) {
+            return true;
+        }
+    }
+    false
+}
+
 fn begins_with_an_event(bytes: &[u8]) -> bool
     ensures { result ≡ begins_event bytes.now }
 {
@@ -102,12 +128,25 @@ fn may_begin_an_event(bytes: &[u8]) -> bool
 fn may_begin(front: &[u8], bytes: &[u8]) -> bool
     ensures { result ≡ agrees front.now bytes.now }
 {
-    let (Some((wanted, front)), Some((found, rest))) = (front.split_first(), bytes.split_first())
-    else {
+    let Some((wanted, front)) = front.split_first() else {
+        return true;
+    };
+    let Some((found, rest)) = bytes.split_first() else {
         return true;
     };
     if *found == 0 {
-        return rest.iter().all(|byte| *byte == 0);
+        return are_zero(rest);
     }
-    wanted == found && may_begin(front, rest)
+    *wanted == *found && may_begin(front, rest)
+}
+
+fn are_zero(bytes: &[u8]) -> bool
+    ensures { result ≡ list_all (λ b. nat_eq b 0) bytes.now }
+{
+    for byte in bytes {
+        if *byte != 0 {
+            return false;
+        }
+    }
+    true
 }

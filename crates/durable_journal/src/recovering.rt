@@ -1,7 +1,7 @@
 //! Reading a journal that a crash may have left.
-ghost use Rattle.std.specs.Prelude.{◌≡◌, ◌≤◌, ◌-◌, IfOk, IfSome, length, take};
+ghost use Rattle.std.specs.Prelude.{◌≡◌, ◌≤◌, IfOk, IfSome, length, take};
 ghost use Rattle.durable_journal.specs.Lines.{whole_part};
-ghost use Rattle.durable_journal.specs.Marks.{found_in};
+ghost use Rattle.durable_journal.specs.Marks.{found_in, settled_in};
 
 use crate::marking::is_journal;
 use lists::List;
@@ -46,7 +46,7 @@ fn found(bytes: Vec<u8>) -> Recovered
 
 /// The whole lines of a journal.
 fn whole_lines(bytes: Vec<u8>) -> Recovered
-    ensures { result ≡ Found (whole_part bytes.items) (length bytes.items - length (whole_part bytes.items)) }
+    ensures { result ≡ settled_in bytes.items }
 {
     let mut lines = bytes;
     let kept = settled(lines.as_slice());

@@ -13,7 +13,7 @@ returns-clause-opens c =
     let r = view c.in-Some-2.renewed in
     let said : json_of c.args.document.now ≡ Some d = sym c.in_ok-value.ensures ∙ ap (option_map view) c.in-Some.is in
     let added : with_history c.args.core.now d ≡ Some r = sym c.in_ok-renewed.ensures.form ∙ ap (option_map view) c.in-Some-2.is in
-    renewed_line_opens c.args.document.now c.in_ok-text_of.field-0 c.args.core.now d r c.one_line.result said added c.in_ok-text_of.ensures.reads_back c.one_line.ensures
+    renewed_line_opens c.args.document.now c.args.core.now d r c.marked_line.result said added c.marked_line.ensures.says
 
 pub returns-clause-again : goal.returns-clause-again
 returns-clause-again c =
@@ -23,4 +23,4 @@ returns-clause-again c =
     let added : with_history c.args.core.now d ≡ Some r = sym c.in_ok-renewed.ensures.form ∙ ap (option_map view) c.in-Some-2.is in
     let reads : ReadsBack c.args.core.now (history_in (history_data c.args.core.now)) =
     subst (λ (o : Option Value). IfSome o (λ v. ReadsBack c.args.core.now (history_in (history_data c.args.core.now)))) c.in-Some-2.is c.in_ok-renewed.ensures.reads_back in
-    renewed_line_again c.args.document.now c.in_ok-text_of.field-0 c.args.core.now d r c.one_line.result reads said added c.in_ok-text_of.ensures.reads_back c.one_line.ensures
+    renewed_line_again c.args.document.now c.args.core.now d r c.marked_line.result reads said added c.marked_line.ensures.says
