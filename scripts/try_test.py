@@ -24,7 +24,11 @@ ROWS = (
     ("statuses", b"unreadable NotJson", b"unreadable NotJsom"),
     ("damage/nesting", b"unreadable Shape", b"unreadable Shapf"),
     ("serve/routes", b"allocd_targets", b"allocd_targett"),
+    ("serve/unknown_members_come_in_order", b"unknown member", b"unknown membes"),
     ("edge/figures", b"allocd_events_total", b"allocd_events_totam"),
+    ("supervise", b"allocd ends. Goodbye", b"allocd ends. Goodbyf"),
+    ("wrong_uses", b"unknown member", b"unknown membes"),
+    ("losses", b"no journal of allocd", b"no journal of allock"),
 )
 
 
