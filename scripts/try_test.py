@@ -28,7 +28,7 @@ ROWS = (
     ("edge/figures", b"allocd_events_total", b"allocd_events_totam"),
     ("supervise", b"allocd ends. Goodbye", b"allocd ends. Goodbyf"),
     ("wrong_uses", b"unknown member", b"unknown membes"),
-    ("losses", b"no journal of allocd", b"no journal of allock"),
+    ("losses", b"another service has this journal", b"another service had this journal"),
 )
 
 
