@@ -179,8 +179,27 @@ class Work:
             for lane in lanes:
                 lane.join()
             self.clear()
+            for _ in range(50):
+                if not end_strays(self.room):
+                    break
+                time.sleep(0.1)
             remove(self.room)
         return self.counts()
+
+
+def end_strays(room):
+    """Ends what a script has started in a session of its own, and left: it was told of this room. Says whether there was any."""
+    found = False
+    for name in filter(str.isdigit, os.listdir("/proc")):
+        try:
+            with open(f"/proc/{name}/environ", "rb") as it:
+                is_ours = f"TMPDIR={room}".encode() in it.read().split(b"\0")
+            if is_ours:
+                os.kill(int(name), signal.SIGKILL)
+                found = True
+        except OSError:
+            pass
+    return found
 
 
 def remove(folder):

@@ -21,7 +21,7 @@ import tempfile
 import threading
 import time
 
-from allocd_service import PROGRAM, ROOT, free_port
+from allocd_service import PROGRAM, ROOT, free_port, supervisor_can_ask
 from parts import run_parts, tell
 
 WORDS = sys.argv[1:]
@@ -314,6 +314,8 @@ def reloads(folder):
 
 
 def signals(folder):
+    if not supervisor_can_ask():
+        return
     config = f"{folder}/config.json"
     with open(config, "w") as it:
         json.dump(CONFIG, it)
