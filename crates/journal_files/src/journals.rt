@@ -7,7 +7,7 @@ use crate::fault::Fault;
 use crate::guarding::{check_file, goal_of};
 use durable_journal::{Archive, append};
 use std::alloc::{AllocError, AllocGlobal, Global};
-use std::fs::{File, OpenOptions};
+use std::fs::{DirEntry, File, OpenOptions};
 use std::os::unix::fs::OpenOptionsExt;
 use std::path::Path;
 use std::rt::Files;
@@ -41,8 +41,10 @@ impl<R: Files<File = File> + AllocGlobal + Clone + Drop> Journals<R> {
             return Ok(Journals::locked(rt, alloc, None, keep, None));
         };
         let path = goal_of(&rt, alloc, path)?;
-        let lock = lock_journals(&rt, alloc, path.as_str())?;
-        Ok(Journals::locked(rt, alloc, Some(path), keep, Some(lock)))
+        match lock_journals(&rt, alloc, path.as_str()) {
+            Ok(lock) => Ok(Journals::locked(rt, alloc, Some(path), keep, Some(lock))),
+            Err(fault) => Err(fault),
+        }
     }
 }
 
@@ -78,14 +80,30 @@ impl<R: Files<File = File> + AllocGlobal + Clone + Drop> Journals<R> {
     /// Begins the next journal with these bytes and puts it in the place of the last one, which is at this path.
     pub(crate) fn change(&self, path: &str, first: &[u8]) -> io::Result<File> {
         let next = next_path(self.alloc, path)?;
-        let file = begin_next(&self.rt, next.as_str(), first)?;
+        self.change_to(path, next.as_str(), first)
+    }
+
+    /// Begins the next journal at a path of its own.
+    fn change_to(&self, path: &str, next: &str, first: &[u8]) -> io::Result<File> {
+        let file = begin_next(&self.rt, next, first)?;
+        match self.put_in_place(path, next) {
+            Ok(()) => Ok(file),
+            Err(error) => Err(error),
+        }
+    }
+
+    /// Puts the next journal in the place of the last one, which becomes the newest of the old ones.
+    fn put_in_place(&self, path: &str, next: &str) -> io::Result<()> {
         let number = newest(&self.rt, path)?.saturating_add(1);
-        let old = old_path(self.alloc, path, number)?;
-        fs::rename(&self.rt, path, old.as_str())?;
-        fs::rename(&self.rt, next.as_str(), path)?;
+        self.make_old(path, number)?;
+        fs::rename(&self.rt, next, path)?;
         sync_folder(&self.rt, path)?;
-        self.forget(path, number)?;
-        Ok(file)
+        self.forget(path, number)
+    }
+
+    fn make_old(&self, path: &str, number: u32) -> io::Result<()> {
+        let old = old_path(self.alloc, path, number)?;
+        fs::rename(&self.rt, path, old.as_str())
     }
 
     /// Removes the old journals that are not kept, where this is the number of the newest.
@@ -94,13 +112,17 @@ impl<R: Files<File = File> + AllocGlobal + Clone + Drop> Journals<R> {
             return Ok(());
         };
         for number in (1..=newest.saturating_sub(keep)).rev() {
-            let path = old_path(self.alloc, path, number)?;
-            if !fs::exists(&self.rt, path.as_str())? {
+            if !self.remove_old(path, number)? {
                 return Ok(());
             }
-            fs::remove_file(&self.rt, path.as_str())?;
         }
         Ok(())
+    }
+
+    /// Removes an old journal, and says whether there was one of this number.
+    fn remove_old(&self, path: &str, number: u32) -> io::Result<bool> {
+        let old = old_path(self.alloc, path, number)?;
+        removed(&self.rt, old.as_str())
     }
 }
 
@@ -113,13 +135,30 @@ impl<R: Files<File = File> + AllocGlobal + Clone + Drop> Archive<File> for Journ
     }
 }
 
+/// Removes a file, and says whether there was one.
+fn removed<R: Files<File = File>>(rt: &R, path: &str) -> io::Result<bool> {
+    if !fs::exists(rt, path)? {
+        return Ok(false);
+    }
+    fs::remove_file(rt, path)?;
+    Ok(true)
+}
+
 /// Locks the journals at a path for whoever has the file that it gives, unless what is there is no journal.
 fn lock_journals<R: Files<File = File>>(rt: &R, alloc: Global, path: &str) -> Result<File, Fault> {
     check_file(rt, alloc, path)?;
     let lock = format!(in alloc; "{path}.lock")?;
-    let file = open_journal(rt, lock.as_str())?;
-    lock_file(alloc, path, &file)?;
-    Ok(file)
+    let file = open_journal(rt, lock.as_str());
+    locked(alloc, path, file)
+}
+
+/// The file, once it is locked.
+fn locked(alloc: Global, path: &str, file: io::Result<File>) -> Result<File, Fault> {
+    let file = file?;
+    match lock_file(alloc, path, &file) {
+        Ok(()) => Ok(file),
+        Err(fault) => Err(fault),
+    }
 }
 
 /// Locks a file of the journals at a path, or says that another service has it.
@@ -144,12 +183,19 @@ pub(crate) fn open_journal<R: Files<File = File>>(rt: &R, path: &str) -> io::Res
 /// Begins the next journal, which nobody else may have, with these bytes.
 fn begin_next<R: Files<File = File>>(rt: &R, next: &str, first: &[u8]) -> io::Result<File> {
     let mut file = open_journal(rt, next)?;
+    match fill(&mut file, first) {
+        Ok(()) => Ok(file),
+        Err(error) => Err(error),
+    }
+}
+
+/// Has a file that nobody else may have hold these bytes alone.
+fn fill(file: &mut File, bytes: &[u8]) -> io::Result<()> {
     if file.try_lock().is_err() {
         return Err(io::ErrorKind::ResourceBusy.into());
     }
     file.set_len(0)?;
-    append(&mut file, first)?;
-    Ok(file)
+    append(file, bytes)
 }
 
 /// The greatest number of an old journal of the one at a path, or 0.
@@ -162,10 +208,17 @@ fn newest<R: Files<File = File> + AllocGlobal + Clone + Drop>(
     };
     let mut newest = 0;
     for entry in fs::read_dir(rt, folder_of(path))? {
-        let entry = entry?;
-        newest = newest.max(number_of(entry.file_name(), name).unwrap_or(0));
+        newest = newest.max(number_in(entry, name)?);
     }
     Ok(newest)
+}
+
+/// The number of an entry, where it is an old journal of this one, or else 0.
+fn number_in<R: Files + Drop>(entry: io::Result<DirEntry<R>>, journal: &str) -> io::Result<u32> {
+    match entry {
+        Ok(entry) => Ok(number_of(entry.file_name(), journal).unwrap_or(0)),
+        Err(error) => Err(error),
+    }
 }
 
 /// Ends what a service began that was to take another journal and ended in the midst. The caller has the journal at the path alone, if
@@ -176,17 +229,31 @@ pub(crate) fn end_renewal<R: Files<File = File>>(
     path: &str,
 ) -> Result<(), Fault> {
     let next = next_path(alloc, path)?;
-    if !fs::exists(rt, next.as_str())? {
+    end_next(rt, alloc, path, next.as_str())
+}
+
+fn end_next<R: Files<File = File>>(
+    rt: &R,
+    alloc: Global,
+    path: &str,
+    next: &str,
+) -> Result<(), Fault> {
+    if !fs::exists(rt, next)? {
         return Ok(());
     }
-    check_file(rt, alloc, next.as_str())?;
-    if fs::exists(rt, path)? {
-        fs::remove_file(rt, next.as_str())?;
-    } else {
-        fs::rename(rt, next.as_str(), path)?;
-    }
-    sync_folder(rt, path)?;
+    check_file(rt, alloc, next)?;
+    put_or_remove(rt, path, next)?;
     Ok(())
+}
+
+/// The next journal takes the place of the last one, or goes where that is there still.
+fn put_or_remove<R: Files<File = File>>(rt: &R, path: &str, next: &str) -> io::Result<()> {
+    if fs::exists(rt, path)? {
+        fs::remove_file(rt, next)?;
+    } else {
+        fs::rename(rt, next, path)?;
+    }
+    sync_folder(rt, path)
 }
 
 fn next_path(alloc: Global, path: &str) -> Result<String, AllocError> {

@@ -46,8 +46,10 @@ fn open_at<R: Files<File = File> + AllocGlobal + Clock + Eprint + Copy + Drop>(
     jobs: &[Job],
 ) -> Result<Opened<File>, Fault> {
     let mut file = own_journal(&journals.rt, journals.alloc, path)?;
-    let start = read_journal(journals.alloc, path, &mut file, line, jobs)?;
-    begin(journals, path, file, start)
+    match read_journal(journals.alloc, path, &mut file, line, jobs) {
+        Ok(start) => begin(journals, path, file, start),
+        Err(fault) => Err(fault),
+    }
 }
 
 /// The file of the journal at a path, which no other service has.
@@ -56,8 +58,10 @@ fn own_journal<R: Files<File = File>>(rt: &R, alloc: Global, path: &str) -> Resu
         end_renewal(rt, alloc, path)?;
     }
     let file = open_journal(rt, path)?;
-    own_file(rt, alloc, path, &file)?;
-    Ok(file)
+    match own_file(rt, alloc, path, &file) {
+        Ok(()) => Ok(file),
+        Err(fault) => Err(fault),
+    }
 }
 
 fn own_file<R: Files<File = File>>(
@@ -76,13 +80,17 @@ fn begin<R: Files<File = File> + AllocGlobal + Clock + Eprint + Copy + Drop>(
     file: File,
     start: Start,
 ) -> Result<Opened<File>, Fault> {
-    let Start { core, journal } = start;
-    let file = next_file(journals, path, file, &journal)?;
-    Ok(Opened {
-        core,
-        file: Some(file),
-        bytes: journal.bytes(),
-    })
+    match next_file(journals, path, file, &start.journal) {
+        Ok(file) => {
+            let bytes = start.journal.bytes();
+            Ok(Opened {
+                core: start.core,
+                file: Some(file),
+                bytes,
+            })
+        }
+        Err(error) => Err(Fault::Machine(error)),
+    }
 }
 
 /// The file that is written from now on. The one that was read stays locked until then.
@@ -96,15 +104,30 @@ fn next_file<R: Files<File = File> + AllocGlobal + Clock + Eprint + Copy + Drop>
     match &journal.next {
         Next::Begins(first) => begun(&journals.rt, path, file, first.as_str()),
         Next::GoesOn(events) => {
-            info!(Logfmt(journals.rt); events = *events; "the journal is read");
+            log_read(&journals.rt, *events);
             Ok(file)
         }
-        Next::IsReplaced(first) => {
-            let next = journals.change(path, first.as_bytes())?;
-            info!(Logfmt(journals.rt); "the configuration has other jobs than the journal: the allocator is renewed");
-            Ok(next)
-        }
+        Next::IsReplaced(first) => replaced(journals, path, first.as_str()),
     }
+}
+
+fn log_read<R: Clock + Eprint + Copy>(rt: &R, events: u64) {
+    info!(Logfmt(*rt); events; "the journal is read");
+}
+
+/// The file of a journal that takes the place of the last one and begins with this text.
+fn replaced<R: Files<File = File> + AllocGlobal + Clock + Eprint + Copy + Drop>(
+    journals: &Journals<R>,
+    path: &str,
+    first: &str,
+) -> io::Result<File> {
+    let next = journals.change(path, first.as_bytes())?;
+    log_replaced(&journals.rt);
+    Ok(next)
+}
+
+fn log_replaced<R: Clock + Eprint + Copy>(rt: &R) {
+    info!(Logfmt(*rt); "the configuration has other jobs than the journal: the allocator is renewed");
 }
 
 /// The file of a journal that begins with this text.
@@ -114,16 +137,31 @@ fn begun<R: Files<File = File>>(
     mut file: File,
     first: &str,
 ) -> io::Result<File> {
-    append(&mut file, first.as_bytes())?;
-    sync_folder(rt, path)?;
-    Ok(file)
+    match begin_file(rt, path, &mut file, first) {
+        Ok(()) => Ok(file),
+        Err(error) => Err(error),
+    }
+}
+
+fn begin_file<R: Files<File = File>>(
+    rt: &R,
+    path: &str,
+    file: &mut File,
+    first: &str,
+) -> io::Result<()> {
+    append(file, first.as_bytes())?;
+    sync_folder(rt, path)
 }
 
 /// Cuts off the torn line at the end of a journal.
 fn cut<R: Clock + Eprint + Copy>(rt: &R, file: &File, journal: &Journal) -> io::Result<()> {
     if journal.torn > 0 {
         file.set_len(journal.whole)?;
-        warn!(Logfmt(*rt); bytes = journal.torn; "a torn line at the end of the journal is cut off");
+        log_cut(rt, journal.torn);
     }
     Ok(())
+}
+
+fn log_cut<R: Clock + Eprint + Copy>(rt: &R, bytes: usize) {
+    warn!(Logfmt(*rt); bytes; "a torn line at the end of the journal is cut off");
 }

@@ -15,7 +15,7 @@ use std::alloc::{AllocError, AllocGlobal, Global};
 use std::fs::File;
 use std::io;
 use std::io::Write;
-use std::net::{Net, TcpListener, TcpStream};
+use std::net::{Net, SocketAddr, TcpListener, TcpStream};
 use std::process::ExitCode;
 use std::random::RandomSource;
 use std::rt::Files;
@@ -48,16 +48,18 @@ where
     let done = match read_arguments(words) {
         Asked::Help => written(rt, USAGE),
         Asked::Version => written(rt, VERSION),
-        Asked::Faulty(fault) => match fault.line(rt.alloc()) {
-            Ok(line) => Err(Fault::Told(line)),
-            Err(error) => Err(error.into()),
-        },
+        Asked::Faulty(fault) => told(fault.line(rt.alloc())),
         Asked::Serve(options) => serve_by(rt, host, &options),
     };
     match done {
         Ok(()) => ExitCode::from(0),
         Err(fault) => ended(rt, fault),
     }
+}
+
+/// The fault that a line tells.
+fn told(line: Result<String, AllocError>) -> Result<(), Fault> {
+    Err(Fault::Told(line?))
 }
 
 /// Tells a fault on standard error.
@@ -69,10 +71,14 @@ fn ended<R: Eprint + Clock + Copy>(rt: &R, fault: Fault) -> ExitCode {
             ExitCode::from(2)
         }
         Fault::Machine(error) => {
-            error!(Logfmt(*rt); "the service ended: {error}");
+            log_failure(rt, &error);
             ExitCode::from(3)
         }
     }
+}
+
+fn log_failure<R: Eprint + Clock + Copy>(rt: &R, error: &io::Error) {
+    error!(Logfmt(*rt); "the service ended: {error}");
 }
 
 fn written<R: Print>(rt: &R, text: &str) -> Result<(), Fault> {
@@ -99,19 +105,115 @@ where
         + Drop,
 {
     let document = read_document(rt, rt.alloc(), options.config)?;
-    let service = service_in(rt.alloc(), options.config, document.as_slice())?;
-    let here = listen_address(rt, options, &service)?;
-    let journal = journal_of(rt.alloc(), options, &service)?;
-    check_journal(rt, options.config, &journal)?;
-    if options.check_config {
-        let valid = told_valid(rt.alloc(), options.config, document.as_slice())?;
-        return written(rt, valid.as_str());
+    match service_in(rt.alloc(), options.config, document.as_slice()) {
+        Ok(service) => serve_service(rt, host, options, document.as_slice(), service),
+        Err(fault) => Err(fault),
     }
-    warn_of(rt, rt.alloc(), document.as_slice())?;
+}
+
+/// Serves what a document asks for, or tells that it is valid.
+fn serve_service<R>(
+    rt: &R,
+    host: HostRuntime,
+    options: &ServeOptions<'_>,
+    document: &[u8],
+    service: Service,
+) -> Result<(), Fault>
+where
+    R: Wait
+        + Threads
+        + Clock
+        + Net<Listener = TcpListener, Stream = TcpStream>
+        + Files<File = File>
+        + RandomSource
+        + AllocGlobal
+        + Print
+        + Eprint
+        + Sync
+        + Send
+        + Copy
+        + Drop,
+{
+    match places_of(rt, options, &service) {
+        Ok(_) if options.check_config => tell_valid(rt, options.config, document),
+        Ok((here, journal)) => serve_at(rt, host, options, document, service, here, journal),
+        Err(fault) => Err(fault),
+    }
+}
+
+/// Where a service is to listen, and the path of its journal.
+fn places_of<R: Files<File = File> + AllocGlobal>(
+    rt: &R,
+    options: &ServeOptions<'_>,
+    service: &Service,
+) -> Result<(SocketAddr, Option<String>), Fault> {
+    let here = listen_address(rt, options, service)?;
+    let journal = journal_of(rt.alloc(), options, service)?;
+    match check_journal(rt, options.config, &journal) {
+        Ok(()) => Ok((here, journal)),
+        Err(fault) => Err(fault),
+    }
+}
+
+fn tell_valid<R: Print + AllocGlobal>(rt: &R, path: &str, document: &[u8]) -> Result<(), Fault> {
+    let valid = told_valid(rt.alloc(), path, document)?;
+    written(rt, valid.as_str())
+}
+
+/// Serves at an address.
+fn serve_at<R>(
+    rt: &R,
+    host: HostRuntime,
+    options: &ServeOptions<'_>,
+    document: &[u8],
+    service: Service,
+    here: SocketAddr,
+    journal: Option<String>,
+) -> Result<(), Fault>
+where
+    R: Wait
+        + Threads
+        + Clock
+        + Net<Listener = TcpListener, Stream = TcpStream>
+        + Files<File = File>
+        + RandomSource
+        + AllocGlobal
+        + Print
+        + Eprint
+        + Sync
+        + Send
+        + Copy
+        + Drop,
+{
+    match opened(rt, host, options, document, here) {
+        Ok((configuration, listener)) => {
+            serve_journal(rt, rt.alloc(), service, configuration, listener, journal)
+        }
+        Err(fault) => Err(fault),
+    }
+}
+
+/// The file of the configuration, as it is read again, and the listener.
+fn opened<R>(
+    rt: &R,
+    host: HostRuntime,
+    options: &ServeOptions<'_>,
+    document: &[u8],
+    here: SocketAddr,
+) -> Result<(ConfigurationFile, TcpListener), Fault>
+where
+    R: Net<Listener = TcpListener, Stream = TcpStream>
+        + Files<File = File>
+        + Clock
+        + AllocGlobal
+        + Eprint
+        + Copy,
+{
+    warn_of(rt, rt.alloc(), document)?;
     check_descriptors(rt, rt.alloc())?;
     let configuration = ConfigurationFile::new(host, rt.alloc(), options.config)?;
     let listener = listener_at(rt, here)?;
-    serve_journal(rt, rt.alloc(), service, configuration, listener, journal)
+    Ok((configuration, listener))
 }
 
 /// The path of the journal: that of the command line, or else that of the configuration.

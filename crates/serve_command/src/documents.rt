@@ -47,10 +47,18 @@ pub(crate) fn service_of_parts(
 ) -> Result<Service, Fault> {
     let config = config_in(alloc, path, document)?;
     let settings = settings_in(alloc, path, document)?;
-    let Some(line) = configuration_line(alloc, document)? else {
-        return Err(Fault::Told(format!(in alloc; "{path}: no JSON")?));
-    };
-    service_of(alloc, path, line, config, settings)
+    match line_in(alloc, path, document) {
+        Ok(line) => service_of(alloc, path, line, config, settings),
+        Err(fault) => Err(fault),
+    }
+}
+
+/// A document as one line.
+fn line_in(alloc: Global, path: &str, document: &[u8]) -> Result<Text, Fault> {
+    match configuration_line(alloc, document)? {
+        Some(line) => Ok(line),
+        None => Err(Fault::Told(format!(in alloc; "{path}: no JSON")?)),
+    }
 }
 
 fn config_in(alloc: Global, path: &str, document: &[u8]) -> Result<Config, Fault> {

@@ -5,6 +5,7 @@ use logfmt::Logfmt;
 use service_settings::{Address, ServeOptions, address_of};
 use service_tasks::Service;
 use std::alloc::AllocGlobal;
+use std::io;
 use std::net::{Ipv4Addr, Net, SocketAddr, TcpListener, TcpStream};
 use std::time::Clock;
 
@@ -38,10 +39,14 @@ where
     match TcpListener::bind(rt, here) {
         Ok(listener) => Ok(listener),
         Err(error) => {
-            error!(Logfmt(*rt); address:% = here; "nothing can listen there: {error}");
+            log_failure(rt, here, &error);
             Err(error.into())
         }
     }
+}
+
+fn log_failure<R: Clock + Eprint + Copy>(rt: &R, here: SocketAddr, error: &io::Error) {
+    error!(Logfmt(*rt); address:% = here; "nothing can listen there: {error}");
 }
 
 fn socket_of(address: Address) -> SocketAddr {

@@ -5,10 +5,10 @@ use journal_files::{Fault, Journals, Opened, open_allocator};
 use log::{error, info, warn};
 use logfmt::{Logfmt, Quoted};
 use service_tasks::{JournalFile, Service};
-use std::alloc::{AllocGlobal, Global};
+use std::alloc::{AllocError, AllocGlobal, Global};
 use std::fs::File;
 use std::io;
-use std::net::{Net, TcpListener, TcpStream};
+use std::net::{Net, SocketAddr, TcpListener, TcpStream};
 use std::random::RandomSource;
 use std::rt::Files;
 use std::sync::Wait;
@@ -39,20 +39,27 @@ where
         + Copy
         + Drop,
 {
-    let (opened, mut journals) = open_journals(rt, alloc, &service, &journal)?;
-    tell_what_is_kept(rt, &journal);
-    let core = serve_opened(
-        rt,
-        alloc,
-        service,
-        configuration,
-        listener,
-        &mut journals,
-        opened,
-    )?;
-    let samples = core.total();
+    match open_journals(rt, alloc, &service, &journal) {
+        Ok((opened, mut journals)) => {
+            tell_what_is_kept(rt, &journal);
+            let core = serve_opened(
+                rt,
+                alloc,
+                service,
+                configuration,
+                listener,
+                &mut journals,
+                opened,
+            )?;
+            log_end(rt, core.total());
+            Ok(())
+        }
+        Err(fault) => Err(fault),
+    }
+}
+
+fn log_end<R: Clock + Eprint + Copy>(rt: &R, samples: u128) {
     info!(Logfmt(*rt); samples:% = samples; "ended");
-    Ok(())
 }
 
 /// Tells where nothing is kept.
@@ -71,10 +78,14 @@ fn open_journals<R: Files<File = File> + AllocGlobal + Clock + Eprint + Copy + D
 ) -> Result<(Opened<File>, Journals<R>), Fault> {
     let opened = journals_at(rt, alloc, service, journal);
     if let (Err(Fault::Machine(error)), Some(path)) = (&opened, journal) {
-        let path = Quoted(path.as_str());
-        error!(Logfmt(*rt); journal:% = path; "the journal cannot be opened: {error}");
+        log_failure(rt, path.as_str(), error);
     }
     opened
+}
+
+fn log_failure<R: Clock + Eprint + Copy>(rt: &R, path: &str, error: &io::Error) {
+    let path = Quoted(path);
+    error!(Logfmt(*rt); journal:% = path; "the journal cannot be opened: {error}");
 }
 
 fn journals_at<R: Files<File = File> + AllocGlobal + Clock + Eprint + Copy + Drop>(
@@ -83,13 +94,19 @@ fn journals_at<R: Files<File = File> + AllocGlobal + Clock + Eprint + Copy + Dro
     service: &Service,
     journal: &Option<String>,
 ) -> Result<(Opened<File>, Journals<R>), Fault> {
-    let path = match journal {
-        Some(path) => Some(String::from_str(alloc, path.as_str())?),
-        None => None,
-    };
+    let path = copied(alloc, journal)?;
     let journals = Journals::open(*rt, alloc, path, service.keep())?;
-    let opened = open_allocator(&journals, service.line(), service.jobs())?;
-    Ok((opened, journals))
+    match open_allocator(&journals, service.line(), service.jobs()) {
+        Ok(opened) => Ok((opened, journals)),
+        Err(fault) => Err(fault),
+    }
+}
+
+fn copied(alloc: Global, path: &Option<String>) -> Result<Option<String>, AllocError> {
+    match path {
+        Some(path) => Ok(Some(String::from_str(alloc, path.as_str())?)),
+        None => Ok(None),
+    }
 }
 
 fn serve_opened<R>(
@@ -118,7 +135,7 @@ where
 {
     let Opened { core, file, bytes } = opened;
     if let Ok(here) = listener.local_addr() {
-        info!(Logfmt(*rt); address:% = here; "listening");
+        log_address(rt, here);
     }
     daemon::serve(
         rt,
@@ -130,4 +147,8 @@ where
         configuration,
         core,
     )
+}
+
+fn log_address<R: Clock + Eprint + Copy>(rt: &R, here: SocketAddr) {
+    info!(Logfmt(*rt); address:% = here; "listening");
 }

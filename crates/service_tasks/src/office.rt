@@ -7,6 +7,8 @@ use crate::scheduling::Schedule;
 use crate::service::Service;
 use crate::source::Source;
 use http_get::Scrape;
+use lists::List;
+use sd_documents::Job;
 use service_state::{ConfigPages, Kept, ServiceState};
 use std::alloc::{AllocError, Global};
 use std::io;
@@ -39,24 +41,22 @@ impl<S: Scrape + Drop, F: Drop, C: Configuration + Drop> Office<S, F, C> {
         scrape: S,
         configuration: C,
     ) -> io::Result<Office<S, F, C>> {
-        let state = ServiceState::new(
-            alloc,
-            service.settings.lifecycle,
-            service.sources.len() as u64,
-        );
-        Ok(Office {
-            listener,
-            pages: Arc::try_clone(&service.pages)?,
-            state: Arc::new(alloc, state)?,
-            schedule: Schedule::new(alloc, Instant::now(rt)?, configuration),
-            watch: Watch {
-                jobs: Arc::try_clone(&service.jobs)?,
-                scrape,
-                sources: sources_of(alloc, service)?,
-            },
-            file,
-            is_new: true,
-        })
+        match Parts::of(rt, alloc, service) {
+            Ok(parts) => Ok(Office {
+                listener,
+                pages: parts.pages,
+                state: parts.state,
+                schedule: Schedule::new(alloc, parts.now, configuration),
+                watch: Watch {
+                    jobs: parts.jobs,
+                    scrape,
+                    sources: parts.sources,
+                },
+                file,
+                is_new: true,
+            }),
+            Err(error) => Err(error),
+        }
     }
 
     /// Tells that the configuration that was read last is not followed.
@@ -98,6 +98,42 @@ impl<S: Scrape + Drop, F: Drop, C: Configuration + Drop> Office<S, F, C> {
         self.is_new = true;
         Ok(())
     }
+}
+
+/// What an office has of its service when it begins.
+#[derive(Drop)]
+struct Parts {
+    pages: Arc<ConfigPages>,
+    state: Arc<ServiceState>,
+    now: Instant,
+    jobs: Arc<List<Job>>,
+    sources: Vec<Source>,
+}
+
+impl Parts {
+    fn of<R: Clock>(rt: &R, alloc: Global, service: &Service) -> io::Result<Parts> {
+        let pages = Arc::try_clone(&service.pages)?;
+        let state = Arc::new(alloc, state_of(alloc, service))?;
+        let now = Instant::now(rt)?;
+        let jobs = Arc::try_clone(&service.jobs)?;
+        let sources = sources_of(alloc, service)?;
+        Ok(Parts {
+            pages,
+            state,
+            now,
+            jobs,
+            sources,
+        })
+    }
+}
+
+/// The state of a service that has tried none of its sources.
+fn state_of(alloc: Global, service: &Service) -> ServiceState {
+    ServiceState::new(
+        alloc,
+        service.settings.lifecycle,
+        service.sources.len() as u64,
+    )
 }
 
 impl<S, F, C> Office<S, F, C> {

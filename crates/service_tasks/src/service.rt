@@ -52,16 +52,19 @@ impl Service {
         config: Config,
         settings: Settings,
     ) -> Result<Service, ServiceError> {
-        check_rules(alloc, config.jobs.as_slice())?;
-        let sources = sources_of(alloc, &settings)?;
-        let pages = ConfigPages::of(alloc, &config)?;
-        Ok(Service {
-            line,
-            jobs: shared(alloc, config.jobs)?,
-            pages: shared(alloc, pages)?,
-            settings,
-            sources,
-        })
+        match parts_of(alloc, &config, &settings) {
+            Ok((pages, sources)) => {
+                let jobs = shared(alloc, config.jobs)?;
+                Ok(Service {
+                    line,
+                    jobs,
+                    pages,
+                    settings,
+                    sources,
+                })
+            }
+            Err(error) => Err(error),
+        }
     }
 
     /// The document of the configuration, as one line.
@@ -96,6 +99,19 @@ impl Service {
             None => None,
         }
     }
+}
+
+/// The pages of a configuration whose rules can be read, and its sources.
+fn parts_of(
+    alloc: Global,
+    config: &Config,
+    settings: &Settings,
+) -> Result<(Arc<ConfigPages>, Vec<SourceSettings>), ServiceError> {
+    check_rules(alloc, config.jobs.as_slice())?;
+    let sources = sources_of(alloc, settings)?;
+    let pages = ConfigPages::of(alloc, config)?;
+    let pages = shared(alloc, pages)?;
+    Ok((pages, sources))
 }
 
 fn shared<T: Drop>(alloc: Global, value: T) -> Result<Arc<T>, AllocError> {

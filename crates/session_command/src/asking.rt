@@ -15,13 +15,16 @@ pub(crate) fn ask_all<S: Scrape>(
 ) -> Result<Vec<u8>, AllocError> {
     let mut text = Vec::new(alloc);
     for path in paths {
-        let get = Get {
-            address: Text::from_str(alloc, address)?,
-            path: path.copy()?,
-        };
+        let get = get_of(alloc, address, path)?;
         add_answer(alloc, &device.fetch(&get), &mut text)?;
     }
     Ok(text)
+}
+
+fn get_of(alloc: Global, address: &str, path: &Text) -> Result<Get, AllocError> {
+    let address = Text::from_str(alloc, address)?;
+    let path = path.copy()?;
+    Ok(Get { address, path })
 }
 
 /// Adds the line of what came of a fetch: the answer's status and body, or the fault.

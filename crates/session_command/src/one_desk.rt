@@ -20,9 +20,9 @@ use std::random::RandomSource;
 use std::sync::atomic::{AtomicBool, Ordering};
 use std::sync::ledger::{Blank, Ledger};
 use std::sync::{Arc, Mutex, Wait};
-use std::thread;
 use std::thread::Threads;
 use std::time::Clock;
+use std::{io, thread};
 use tokio::runtime::LocalRuntime;
 
 /// How many passes a desk has beside those of the collectors: that of the refresher, and that of the server.
@@ -58,17 +58,74 @@ where
     requires calls { (calls.name ≡ L.name) × (calls.parts ≡ L.parts) × (L.parts ≡ seats) }
     requires samples { (samples.name ≡ B.name) × (samples.parts ≡ B.parts) × (B.parts ≡ seats) }
 {
-    let Ok((desk, mut passes)) = Desk::<L, B, N>::open(alloc, core, seats, calls, samples) else {
-        return Err(AllocError.into());
-    };
+    match Desk::<L, B, N>::open(alloc, core, seats, calls, samples) {
+        Ok((desk, passes)) => run_open(rt, alloc, session, desk, passes, text),
+        Err(_) => Err(AllocError.into()),
+    }
+}
+
+/// Runs a session over a desk with its passes.
+fn run_open<R, L, B, N>(
+    rt: &R,
+    alloc: Global,
+    session: &Session,
+    desk: Desk<L, B, N>,
+    mut passes: Vec<Pass<L, B, N>>,
+    text: &mut Vec<u8>,
+) -> Result<(), Halt>
+where
+    R: Wait
+        + Threads
+        + Clock
+        + Net<Listener = TcpListener, Stream = TcpStream>
+        + RandomSource
+        + AllocGlobal
+        + Sync
+        + Send
+        + Copy
+        + Drop,
+    L: Ledger + Send + Sync,
+    B: Ledger + Send + Sync,
+    N: DeskName + Send + Sync,
+{
     let (Some(asked), Some(own)) = (passes.pop(), passes.pop()) else {
         return Err(AllocError.into());
     };
-    let mut staff = Staff::muster(rt, alloc, own, passes)?;
-    let handler = handler_of(rt, alloc, session, desk, asked)?;
-    let answers = run(rt, alloc, session, &handler, &mut staff, text)?;
-    let passes = staff.dismiss(alloc)?;
-    write_end(alloc, handler, passes, answers.as_slice(), text)
+    let staff = Staff::muster(rt, alloc, own, passes)?;
+    match handler_of(rt, alloc, session, desk, asked) {
+        Ok(handler) => run_by(rt, alloc, session, handler, staff, text),
+        Err(AllocError) => Err(AllocError.into()),
+    }
+}
+
+/// Runs a session over a handler's desk.
+fn run_by<R, L, B, N>(
+    rt: &R,
+    alloc: Global,
+    session: &Session,
+    handler: Handler<R, L, B, N>,
+    mut staff: Staff<R, L, B, N>,
+    text: &mut Vec<u8>,
+) -> Result<(), Halt>
+where
+    R: Wait
+        + Threads
+        + Clock
+        + Net<Listener = TcpListener, Stream = TcpStream>
+        + RandomSource
+        + AllocGlobal
+        + Sync
+        + Send
+        + Copy
+        + Drop,
+    L: Ledger + Send + Sync,
+    B: Ledger + Send + Sync,
+    N: DeskName + Send + Sync,
+{
+    match run(rt, alloc, session, &handler, &mut staff, text) {
+        Ok(answers) => end(alloc, handler, staff, answers.as_slice(), text),
+        Err(halt) => Err(halt),
+    }
 }
 
 /// What requests are handled with.
@@ -79,16 +136,30 @@ fn handler_of<R: Copy, L: Ledger, B: Ledger, N: DeskName>(
     desk: Desk<L, B, N>,
     pass: Pass<L, B, N>,
 ) -> Result<Handler<R, L, B, N>, AllocError> {
+    let pages = pages_of(alloc, session)?;
+    let state = shared(alloc, ServiceState::new(alloc, false, 0))?;
+    let texts = shared(alloc, ListTexts::new(alloc))?;
+    let desk = shared(alloc, desk)?;
+    let pass = shared(alloc, Mutex::new(pass))?;
     Ok(Handler {
         rt: *rt,
         alloc,
-        desk: Arc::new(alloc, desk)?,
-        pass: Arc::new(alloc, Mutex::new(pass))?,
-        pages: Arc::new(alloc, ConfigPages::of(alloc, &session.config)?)?,
-        state: Arc::new(alloc, ServiceState::new(alloc, false, 0))?,
+        desk,
+        pass,
+        pages,
+        state,
         kept: None,
-        texts: Arc::new(alloc, ListTexts::new(alloc))?,
+        texts,
     })
+}
+
+fn pages_of(alloc: Global, session: &Session) -> Result<Arc<ConfigPages>, AllocError> {
+    let pages = ConfigPages::of(alloc, &session.config)?;
+    shared(alloc, pages)
+}
+
+fn shared<T: Drop>(alloc: Global, value: T) -> Result<Arc<T>, AllocError> {
+    Ok(Arc::new(alloc, value)?)
 }
 
 /// Runs the rounds and writes their lines. Gives what the allocator answered after them.
@@ -156,15 +227,49 @@ where
     let mut runtime = LocalRuntime::new(rt)?;
     let any = SocketAddr::from((Ipv4Addr::LOCALHOST, 0));
     let listener = tokio::net::TcpListener::bind(rt, any, runtime.handle().reactor())?;
+    ask_over(rt, alloc, &mut runtime, listener, handler, paths)
+}
+
+/// Asks a server of the allocator that listens here for each path.
+fn ask_over<R, L, B, N>(
+    rt: &R,
+    alloc: Global,
+    runtime: &mut LocalRuntime,
+    listener: tokio::net::TcpListener,
+    handler: &Handler<R, L, B, N>,
+    paths: &[Text],
+) -> Result<Vec<u8>, Halt>
+where
+    R: Wait
+        + Threads
+        + Clock
+        + Net<Listener = TcpListener, Stream = TcpStream>
+        + RandomSource
+        + AllocGlobal
+        + Sync
+        + Send
+        + Copy
+        + Drop,
+    L: Ledger + Send + Sync,
+    B: Ledger + Send + Sync,
+    N: DeskName + Send + Sync,
+{
     let here = listener.local_addr()?;
     let stop = AtomicBool::new(false);
     let (served, answers) = thread::join(
         rt,
-        || serve_one_by_one(rt, &mut runtime, listener, handler, &stop),
+        || serve_one_by_one(rt, runtime, listener, handler, &stop),
         || ask_then_stop(rt, alloc, here, paths, &stop),
     );
-    served?;
-    Ok(answers?)
+    answered(served, answers)
+}
+
+/// The answers, where the server ended well.
+fn answered(served: io::Result<()>, answers: Result<Vec<u8>, AllocError>) -> Result<Vec<u8>, Halt> {
+    match served {
+        Ok(()) => Ok(answers?),
+        Err(error) => Err(error.into()),
+    }
 }
 
 fn ask_then_stop<R>(
@@ -195,6 +300,20 @@ where
 {
     let address = format!(in alloc; "{here}")?;
     ask_all(alloc, &mut device(rt), address.as_str(), paths)
+}
+
+/// Ends a session whose rounds are over.
+fn end<R: Copy + Drop, L: Ledger, B: Ledger, N: DeskName>(
+    alloc: Global,
+    handler: Handler<R, L, B, N>,
+    staff: Staff<R, L, B, N>,
+    answers: &[u8],
+    text: &mut Vec<u8>,
+) -> Result<(), Halt> {
+    match staff.dismiss(alloc) {
+        Ok(passes) => write_end(alloc, handler, passes, answers, text),
+        Err(AllocError) => Err(AllocError.into()),
+    }
 }
 
 /// Closes the desk, and writes the total and the answers.

@@ -27,17 +27,7 @@ impl<R: Copy + Drop, L: Ledger, B: Ledger, N: DeskName> Staff<R, L, B, N> {
         first: Pass<L, B, N>,
         others: Vec<Pass<L, B, N>>,
     ) -> Result<Staff<R, L, B, N>, AllocError> {
-        let mut workers = Vec::with_capacity(alloc, others.len())?;
-        let mut id: CollectorId = 0;
-        for pass in others {
-            id = id.saturating_add(1);
-            workers.push(Worker {
-                pass,
-                id,
-                scrape: device(rt),
-                turn: None,
-            })?;
-        }
+        let workers = workers_of(rt, alloc, others)?;
         Ok(Staff {
             refresher: Refresher {
                 pass: first,
@@ -57,6 +47,26 @@ impl<R: Copy + Drop, L: Ledger, B: Ledger, N: DeskName> Staff<R, L, B, N> {
         }
         Ok(passes)
     }
+}
+
+/// A collector for each pass, with the numbers from 1 on, in order.
+fn workers_of<R: Copy + Drop, L: Ledger, B: Ledger, N: DeskName>(
+    rt: &R,
+    alloc: Global,
+    passes: Vec<Pass<L, B, N>>,
+) -> Result<Vec<Worker<L, B, N, HyperScrape<R>>>, AllocError> {
+    let mut workers = Vec::with_capacity(alloc, passes.len())?;
+    let mut id: CollectorId = 0;
+    for pass in passes {
+        id = id.saturating_add(1);
+        workers.push(Worker {
+            pass,
+            id,
+            scrape: device(rt),
+            turn: None,
+        })?;
+    }
+    Ok(workers)
 }
 
 /// A device with its limit of time.
