@@ -10,16 +10,24 @@ use std::sync::ledger::Ledger;
 
 /// The allocator of the job `j` with this limit.
 pub(crate) fn core_of(alloc: Global, target_limit: u32) -> Option<Core> {
-    let name = Text::from_str(alloc, "j").ok()?;
-    let jobs = vec![in alloc;
-        JobSpec {
-            name,
-            target_limit,
-            sources: 2
-        },
-    ]
-    .ok()?;
-    Core::open(alloc, jobs).ok()
+    match Text::from_str(alloc, "j") {
+        Ok(name) => opened(
+            alloc,
+            JobSpec {
+                name,
+                target_limit,
+                sources: 2,
+            },
+        ),
+        Err(_) => None,
+    }
+}
+
+fn opened(alloc: Global, job: JobSpec) -> Option<Core> {
+    match vec![in alloc; job] {
+        Ok(jobs) => Core::open(alloc, jobs).ok(),
+        Err(_) => None,
+    }
 }
 
 /// The same job as its targets are asked.
@@ -28,40 +36,73 @@ pub(crate) fn config_of(alloc: Global) -> Option<Config> {
 }
 
 /// A line by which so many targets are listed, all at one address.
-pub(crate) fn targets_line(alloc: Global, port: u16, count: usize) -> Result<String, AllocError> {
+fn targets_line(alloc: Global, port: u16, count: usize) -> Result<String, AllocError> {
     let mut line = String::from_str(
         alloc,
         r#"{"event":"discover","job":"j","source":0,"targets":["#,
     )?;
     for number in 0..count {
-        if number > 0 {
-            line.push_str(",")?;
-        }
-        let target = format!(in alloc;
-            "{{\"labels\":{{\"__scheme__\":\"http\",\"number\":\"{number}\"}},\"targets\":[\"127.0.0.1:{port}\"]}}"
-        )?;
-        line.push_str(target.as_str())?;
+        add_target(alloc, &mut line, port, number)?;
     }
     line.push_str("]}")?;
     Ok(line)
 }
 
+fn add_target(
+    alloc: Global,
+    line: &mut String,
+    port: u16,
+    number: usize,
+) -> Result<(), AllocError> {
+    let comma = if number > 0 { "," } else { "" };
+    let target = format!(in alloc;
+        "{comma}{{\"labels\":{{\"__scheme__\":\"http\",\"number\":\"{number}\"}},\"targets\":[\"127.0.0.1:{port}\"]}}"
+    );
+    match target {
+        Ok(target) => line.push_str(target.as_str()),
+        Err(error) => Err(error),
+    }
+}
+
 /// A line by which a collector of this name joins, which reaches every target.
-pub(crate) fn join_line(alloc: Global, name: &str) -> Result<String, AllocError> {
+fn join_line(alloc: Global, name: &str) -> Result<String, AllocError> {
     format!(in alloc;
         "{{\"event\":\"join\",\"name\":\"{name}\",\"reach\":[{{\"allow\":true,\"test\":\"any\"}}]}}"
     )
 }
 
 /// Submits the event of a line.
-pub(crate) fn submit_line<L: Ledger, B: Ledger, N: DeskName, R: Wait>(
+fn submit_line<L: Ledger, B: Ledger, N: DeskName, R: Wait>(
     rt: &R,
     alloc: Global,
     desk: &Desk<L, B, N>,
     pass: &mut Pass<L, B, N>,
-    line: &str,
-) -> Option<()> {
-    let event = read_event(alloc, line.as_bytes()).ok()??;
-    let _receipt = desk.submit(rt, pass, event).ok()?;
-    Some(())
+    line: Result<String, AllocError>,
+) -> bool {
+    match line {
+        Ok(line) => match read_event(alloc, line.as_bytes()) {
+            Ok(Some(event)) => desk.submit(rt, pass, event).is_ok(),
+            _ => false,
+        },
+        Err(_) => false,
+    }
+}
+
+/// Collectors of these names join and are given so many targets at a port.
+pub(crate) fn prepares<L: Ledger, B: Ledger, N: DeskName, R: Wait>(
+    rt: &R,
+    alloc: Global,
+    desk: &Desk<L, B, N>,
+    pass: &mut Pass<L, B, N>,
+    names: &[&str],
+    port: u16,
+    count: usize,
+) -> bool {
+    for name in names {
+        if !submit_line(rt, alloc, desk, pass, join_line(alloc, name)) {
+            return false;
+        }
+    }
+    submit_line(rt, alloc, desk, pass, targets_line(alloc, port, count))
+        && desk.reallocate(rt, alloc, pass, 8).is_ok()
 }

@@ -20,50 +20,74 @@ const LONG_LIMIT: u64 = 50_000;
 
 #[test]
 fn answers_are_taken_and_failures_counted(rt: HostRuntime) -> Result<(), Fail> {
-    let (wrong, failures) = fetch_rows(&rt, rt.alloc(), ROWS.as_slice(), SHORT_LIMIT).ok_or(
-        "fetches",
-    )?;
-    assert_eq!(rt; wrong, None);
-    assert_eq!(rt; failures, 7);
+    let fetched = fetch_rows(&rt, rt.alloc(), ROWS.as_slice(), SHORT_LIMIT);
+    assert!(rt; fetched.ok_or("fetches")? == (None, 7));
     Ok(())
 }
 
 #[test]
 fn the_longest_body_is_taken_and_no_longer_one(rt: HostRuntime) -> Result<(), Fail> {
-    let (wrong, failures) = fetch_rows(&rt, rt.alloc(), LONG.as_slice(), LONG_LIMIT).ok_or(
-        "fetches",
-    )?;
-    assert_eq!(rt; wrong, None);
-    assert_eq!(rt; failures, 0);
+    let fetched = fetch_rows(&rt, rt.alloc(), LONG.as_slice(), LONG_LIMIT);
+    assert!(rt; fetched.ok_or("fetches")? == (None, 0));
     Ok(())
 }
 
-// Nobody listens at port 1 of this machine.
+/// Nobody listens at port 1 of this machine.
+const NOWHERE: [&str; 6] = [
+    "127.0.0.1:1",
+    "localhost:1",
+    "h:1",
+    "127.0.0.1:65536",
+    "127.0.0.1:+1",
+    "",
+];
+
 #[test]
 fn what_cannot_be_connected_to_is_device(rt: HostRuntime) -> Result<(), Fail> {
+    let alloc = rt.alloc();
     let mut device = HyperScrape::new(rt, Duration::from_millis(LONG_LIMIT));
-    for (address, failures) in [
-        ("127.0.0.1:1", 1u64),
-        ("localhost:1", 2),
-        ("h:1", 3),
-        ("127.0.0.1:65536", 4),
-        ("127.0.0.1:+1", 5),
-        ("", 6),
-    ] {
-        let get = get_of(rt.alloc(), address, "/")?;
-        assert!(rt;
-            is_fault(&device.fetch(&get), FetchFault::Device),
-            "at {address}"
-        );
-        assert_eq!(rt; device.failures(), failures);
-    }
+    assert!(rt; fails_nowhere(alloc, &mut device).ok_or("no memory")?);
     Ok(())
+}
+
+/// Whether each fetch from nowhere is counted as a failure of the device.
+fn fails_nowhere<R>(alloc: Global, device: &mut HyperScrape<R>) -> Option<bool>
+where
+    R: Wait + Clock + Net + RandomSource + AllocGlobal + Copy + Drop,
+{
+    let mut failures = 0u64;
+    for address in NOWHERE {
+        failures = failures.saturating_add(1);
+        if !fails_at(alloc, device, address, failures)? {
+            return Some(false);
+        }
+    }
+    Some(true)
+}
+
+fn fails_at<R>(
+    alloc: Global,
+    device: &mut HyperScrape<R>,
+    address: &str,
+    failures: u64,
+) -> Option<bool>
+where
+    R: Wait + Clock + Net + RandomSource + AllocGlobal + Copy + Drop,
+{
+    match get_of(alloc, address, "/") {
+        Ok(get) => {
+            let is_device = is_fault(&device.fetch(&get), FetchFault::Device);
+            Some(is_device && device.failures() == failures)
+        }
+        Err(_) => None,
+    }
 }
 
 fn get_of(alloc: Global, address: &str, path: &str) -> Result<Get, AllocError> {
-    let address = Text::from_str(alloc, address)?;
-    let path = Text::from_str(alloc, path)?;
-    Ok(Get { address, path })
+    match (Text::from_str(alloc, address), Text::from_str(alloc, path)) {
+        (Ok(address), Ok(path)) => Ok(Get { address, path }),
+        _ => Err(AllocError),
+    }
 }
 
 /// The place of the first row that comes to something else, or none, and how many came to `Device`.
@@ -80,14 +104,25 @@ where
         + Copy
         + Drop,
 {
-    let (listener, port) = listen(rt).ok()?;
-    let (open, fetched) = thread::join(
-        rt,
-        || serve_rows(alloc, &listener, rows),
-        || first_wrong_row(rt, alloc, port, rows, limit),
-    );
-    let _open = open?;
-    fetched
+    match listen(rt) {
+        Ok((listener, port)) => {
+            let (open, fetched) = thread::join(
+                rt,
+                || serve_rows(alloc, &listener, rows),
+                || first_wrong_row(rt, alloc, port, rows, limit),
+            );
+            both(open, fetched)
+        }
+        Err(_) => None,
+    }
+}
+
+/// What the second of two threads came to, where both ended well.
+pub(crate) fn both<T: Drop, U: Drop>(first: Option<T>, second: Option<U>) -> Option<U> {
+    match first {
+        Some(_) => second,
+        None => None,
+    }
 }
 
 /// Serves a connection for each row, and gives back those that stay open.
@@ -98,11 +133,19 @@ pub(crate) fn serve_rows(
 ) -> Option<Vec<TcpStream>> {
     let mut open = Vec::new(alloc);
     for row in rows {
-        if let Some(stream) = serve_one(alloc, listener, &row.play).ok()? {
-            open.push(stream).ok()?;
+        if !serves_row(alloc, listener, row, &mut open) {
+            return None;
         }
     }
     Some(open)
+}
+
+fn serves_row(alloc: Global, listener: &TcpListener, row: &Row, open: &mut Vec<TcpStream>) -> bool {
+    match serve_one(alloc, listener, &row.play) {
+        Ok(Some(stream)) => open.push(stream).is_ok(),
+        Ok(None) => true,
+        Err(_) => false,
+    }
 }
 
 fn first_wrong_row<R>(
@@ -115,17 +158,32 @@ fn first_wrong_row<R>(
 where
     R: Wait + Clock + Net + RandomSource + AllocGlobal + Copy + Drop,
 {
-    let mut device = HyperScrape::new(*rt, Duration::from_millis(limit));
-    let address = format!(in alloc; "127.0.0.1:{port}").ok()?;
-    let get = get_of(alloc, address.as_str(), "/m").ok()?;
+    match get_at(alloc, port) {
+        Ok(get) => {
+            let mut device = HyperScrape::new(*rt, Duration::from_millis(limit));
+            let wrong = first_unexpected(&mut device, &get, rows);
+            Some((wrong, device.failures()))
+        }
+        Err(_) => None,
+    }
+}
+
+fn get_at(alloc: Global, port: u16) -> Result<Get, AllocError> {
+    match format!(in alloc; "127.0.0.1:{port}") {
+        Ok(address) => get_of(alloc, address.as_str(), "/m"),
+        Err(error) => Err(error),
+    }
+}
+
+/// Fetches once for each row.
+fn first_unexpected<S: Scrape>(device: &mut S, get: &Get, rows: &[Row]) -> Option<usize> {
     let mut wrong = None;
     for (place, row) in rows.iter().enumerate() {
-        let fetched = device.fetch(&get);
-        if wrong.is_none() && !is_as_expected(&fetched, row.came) {
+        if !is_as_expected(&device.fetch(get), row.came) && wrong.is_none() {
             wrong = Some(place);
         }
     }
-    Some((wrong, device.failures()))
+    wrong
 }
 
 fn is_as_expected(fetched: &Result<Reply, FetchFault>, came: Came) -> bool {

@@ -1,7 +1,7 @@
 //! Two collectors of one round, whose fetches overlap.
 ghost use Rattle.std.specs.Prelude.{◌≡◌};
 
-use crate::desks::{config_of, core_of, join_line, submit_line, targets_line};
+use crate::desks::{config_of, core_of, prepares};
 use crate::server::{Play, Then, hear, listen, say};
 use alloc_desk::{Desk, DeskName, Pass};
 use allocation_core::Core;
@@ -26,25 +26,40 @@ const ANSWER: Play = Play {
     then: Then::Closes,
 };
 
+/// The turns of both collectors.
+type Turns = [Option<Turn>; 2];
+
 #[test]
 fn no_fetch_is_answered_before_the_other_begins(rt: HostRuntime) -> Result<(), Fail> {
     let core = core_of(rt.alloc(), 1).ok_or("opens")?;
-    let turns = round_of_two::<Brand, Brand, Brand, HostRuntime>(
-        &rt,
-        rt.alloc(),
-        core,
-        Blank::new(3),
-        Blank::new(3),
-    ).ok_or("a round")?;
-    let complete = Turn {
-        number: 1,
-        booked: 1,
-        refused: 0,
-        samples: 1,
-        end: TurnEnd::Complete,
-    };
-    assert!(rt; turns == [Some(complete), Some(complete)]);
+    let turns = round_over(&rt, rt.alloc(), core);
+    assert!(rt; turns.ok_or("a round")? == [Some(COMPLETE), Some(COMPLETE)]);
     Ok(())
+}
+
+/// A turn in which one target is booked.
+const COMPLETE: Turn = Turn {
+    number: 1,
+    booked: 1,
+    refused: 0,
+    samples: 1,
+    end: TurnEnd::Complete,
+};
+
+fn round_over<R>(rt: &R, alloc: Global, core: Core) -> Option<Turns>
+where
+    R: Wait
+        + Threads
+        + Clock
+        + Net<Listener = TcpListener, Stream = TcpStream>
+        + RandomSource
+        + AllocGlobal
+        + Sync
+        + Send
+        + Copy
+        + Drop,
+{
+    round_of_two::<Brand, Brand, Brand, R>(rt, alloc, core, Blank::new(3), Blank::new(3))
 }
 
 fn round_of_two<L: Ledger + Send + Sync, B: Ledger + Send + Sync, N: DeskName + Send + Sync, R>(
@@ -53,7 +68,7 @@ fn round_of_two<L: Ledger + Send + Sync, B: Ledger + Send + Sync, N: DeskName + 
     core: Core,
     calls: Blank,
     samples: Blank,
-) -> Option<[Option<Turn>; 2]>
+) -> Option<Turns>
 where
     R: Wait
         + Threads
@@ -69,52 +84,18 @@ where
     requires calls { (calls.name ≡ L.name) × (calls.parts ≡ L.parts) × (L.parts ≡ 3) }
     requires samples { (samples.name ≡ B.name) × (samples.parts ≡ B.parts) × (B.parts ≡ 3) }
 {
-    let (desk, mut passes) = Desk::<L, B, N>::open(alloc, core, 3, calls, samples).ok()?;
-    let mut workers = workers_of(rt, alloc, &mut passes)?;
-    served_round(
-        rt,
-        alloc,
-        &desk,
-        passes.first_mut()?,
-        workers.as_mut_slice(),
-    )?;
-    match workers.as_slice() {
-        [first, second] => Some([first.turn, second.turn]),
-        _ => None,
+    match Desk::<L, B, N>::open(alloc, core, 3, calls, samples) {
+        Ok((desk, passes)) => round_at(rt, alloc, &desk, passes),
+        Err(_) => None,
     }
 }
 
-/// Collectors 1 and 2, with the last two passes.
-fn workers_of<L: Ledger, B: Ledger, N: DeskName, R: Copy>(
-    rt: &R,
-    alloc: Global,
-    passes: &mut Vec<Pass<L, B, N>>,
-) -> Option<Vec<Worker<L, B, N, HyperScrape<R>>>>
-where
-    R: Drop,
-{
-    let mut workers = Vec::new(alloc);
-    for id in 1u32..3 {
-        let pass = passes.pop()?;
-        workers
-            .push(Worker {
-                pass,
-                id,
-                scrape: HyperScrape::new(*rt, Duration::from_millis(LIMIT)),
-                turn: None,
-            })
-            .ok()?;
-    }
-    Some(workers)
-}
-
-fn served_round<L: Ledger + Send + Sync, B: Ledger + Send + Sync, N: DeskName + Send + Sync, R>(
+fn round_at<L: Ledger + Send + Sync, B: Ledger + Send + Sync, N: DeskName + Send + Sync, R>(
     rt: &R,
     alloc: Global,
     desk: &Desk<L, B, N>,
-    pass: &mut Pass<L, B, N>,
-    workers: &mut [Worker<L, B, N, HyperScrape<R>>],
-) -> Option<()>
+    passes: Vec<Pass<L, B, N>>,
+) -> Option<Turns>
 where
     R: Wait
         + Threads
@@ -127,42 +108,127 @@ where
         + Copy
         + Drop,
 {
-    let (listener, port) = listen(rt).ok()?;
-    prepare(rt, alloc, desk, pass, port)?;
-    let config = config_of(alloc)?;
-    let jobs = config.jobs.as_slice();
-    let (answered, _) = thread::join(
-        rt,
-        || answer_two_at_once(alloc, &listener),
-        || run_round(desk, rt, alloc, jobs, workers, &Open),
-    );
-    answered.ok()
+    let mut passes = passes;
+    match (listen(rt), passes.pop()) {
+        (Ok((listener, port)), Some(mut pass)) => {
+            if !prepares(rt, alloc, desk, &mut pass, &["a", "b"], port, 2) {
+                return None;
+            }
+            round_by(rt, alloc, desk, &listener, passes)
+        }
+        _ => None,
+    }
 }
 
-/// Each of two collectors holds one of two targets.
-fn prepare<L: Ledger, B: Ledger, N: DeskName, R: Wait>(
+fn round_by<L: Ledger + Send + Sync, B: Ledger + Send + Sync, N: DeskName + Send + Sync, R>(
     rt: &R,
     alloc: Global,
     desk: &Desk<L, B, N>,
-    pass: &mut Pass<L, B, N>,
-    port: u16,
-) -> Option<()> {
-    for name in ["a", "b"] {
-        let join = join_line(alloc, name).ok()?;
-        submit_line(rt, alloc, desk, pass, join.as_str())?;
+    listener: &TcpListener,
+    passes: Vec<Pass<L, B, N>>,
+) -> Option<Turns>
+where
+    R: Wait
+        + Threads
+        + Clock
+        + Net<Listener = TcpListener, Stream = TcpStream>
+        + RandomSource
+        + AllocGlobal
+        + Sync
+        + Send
+        + Copy
+        + Drop,
+{
+    match workers_of(rt, alloc, passes) {
+        Some(mut workers) => {
+            if !serves_round(rt, alloc, desk, listener, workers.as_mut_slice()) {
+                return None;
+            }
+            turns_of(workers.as_slice())
+        }
+        None => None,
     }
-    let targets = targets_line(alloc, port, 2).ok()?;
-    submit_line(rt, alloc, desk, pass, targets.as_str())?;
-    let _published = desk.reallocate(rt, alloc, pass, 8).ok()?;
-    Some(())
+}
+
+fn turns_of<L: Ledger, B: Ledger, N: DeskName, R>(
+    workers: &[Worker<L, B, N, HyperScrape<R>>],
+) -> Option<Turns> {
+    match workers {
+        [first, second] => Some([first.turn, second.turn]),
+        _ => None,
+    }
+}
+
+/// Collectors 1 and 2, each with a pass.
+fn workers_of<L: Ledger, B: Ledger, N: DeskName, R: Copy>(
+    rt: &R,
+    alloc: Global,
+    passes: Vec<Pass<L, B, N>>,
+) -> Option<Vec<Worker<L, B, N, HyperScrape<R>>>>
+where
+    R: Drop,
+{
+    let mut workers = Vec::new(alloc);
+    let mut id = 0u32;
+    for pass in passes {
+        id = id.saturating_add(1);
+        let worker = Worker {
+            pass,
+            id,
+            scrape: HyperScrape::new(*rt, Duration::from_millis(LIMIT)),
+            turn: None,
+        };
+        if workers.push(worker).is_err() {
+            return None;
+        }
+    }
+    Some(workers)
+}
+
+fn serves_round<L: Ledger + Send + Sync, B: Ledger + Send + Sync, N: DeskName + Send + Sync, R>(
+    rt: &R,
+    alloc: Global,
+    desk: &Desk<L, B, N>,
+    listener: &TcpListener,
+    workers: &mut [Worker<L, B, N, HyperScrape<R>>],
+) -> bool
+where
+    R: Wait
+        + Threads
+        + Clock
+        + Net<Listener = TcpListener, Stream = TcpStream>
+        + RandomSource
+        + AllocGlobal
+        + Sync
+        + Send
+        + Copy
+        + Drop,
+{
+    match config_of(alloc) {
+        Some(config) => {
+            let jobs = config.jobs.as_slice();
+            let (answered, _) = thread::join(
+                rt,
+                || answer_two_at_once(alloc, listener),
+                || run_round(desk, rt, alloc, jobs, workers, &Open),
+            );
+            answered.is_ok()
+        }
+        None => false,
+    }
 }
 
 /// Reads both requests, and only then answers them.
 fn answer_two_at_once(alloc: Global, listener: &TcpListener) -> io::Result<()> {
-    let (mut first, _) = listener.accept()?;
-    let (mut second, _) = listener.accept()?;
-    hear(alloc, &mut first, ANSWER.then)?;
-    hear(alloc, &mut second, ANSWER.then)?;
-    say(alloc, &mut first, &ANSWER)?;
-    say(alloc, &mut second, &ANSWER)
+    match (listener.accept(), listener.accept()) {
+        (Ok((mut first, _)), Ok((mut second, _))) => { answer_both(alloc, &mut first, &mut second) }
+        (Err(error), _) | (_, Err(error)) => Err(error),
+    }
+}
+
+fn answer_both(alloc: Global, first: &mut TcpStream, second: &mut TcpStream) -> io::Result<()> {
+    hear(alloc, first, ANSWER.then)?;
+    hear(alloc, second, ANSWER.then)?;
+    say(alloc, first, &ANSWER)?;
+    say(alloc, second, &ANSWER)
 }

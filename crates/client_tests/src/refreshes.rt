@@ -1,12 +1,13 @@
 //! A source over loopback that fails and then answers.
 use crate::desks::core_of;
+use crate::fetches::both;
 use crate::server::{Play, Then, listen, serve_one};
 use allocation_core::{Core, Event};
 use http_get::{RefreshError, Scrape, refresh};
 use relabel::Rules;
 use scrape_client::HyperScrape;
-use sd_documents::{Job, read_config};
-use std::alloc::{AllocGlobal, Global};
+use sd_documents::{Config, Job, SdError, read_config};
+use std::alloc::{AllocError, AllocGlobal, Global};
 use std::net::{Net, TcpListener, TcpStream};
 use std::random::RandomSource;
 use std::sync::Wait;
@@ -71,8 +72,8 @@ const ANSWERS: [(Play, &str); 6] = [
 
 #[test]
 fn a_list_stays_where_its_source_fails(rt: HostRuntime) -> Result<(), Fail> {
-    let wrong = first_wrong_refresh(&rt, rt.alloc()).ok_or("refreshes")?;
-    assert_eq!(rt; wrong, None);
+    let wrong = first_wrong_refresh(&rt, rt.alloc());
+    assert!(rt; wrong.ok_or("refreshes")?.is_none());
     Ok(())
 }
 
@@ -90,19 +91,24 @@ where
         + Copy
         + Drop,
 {
-    let (listener, port) = listen(rt).ok()?;
-    let (served, wrong) = thread::join(
-        rt,
-        || serve_answers(alloc, &listener),
-        || refresh_all(rt, alloc, port),
-    );
-    served?;
-    wrong
+    match listen(rt) {
+        Ok((listener, port)) => {
+            let (served, wrong) = thread::join(
+                rt,
+                || serve_answers(alloc, &listener),
+                || refresh_all(rt, alloc, port),
+            );
+            both(served, wrong)
+        }
+        Err(_) => None,
+    }
 }
 
 fn serve_answers(alloc: Global, listener: &TcpListener) -> Option<()> {
     for (answer, _) in ANSWERS.iter() {
-        serve_one(alloc, listener, answer).ok()?;
+        if serve_one(alloc, listener, answer).is_err() {
+            return None;
+        }
     }
     Some(())
 }
@@ -111,19 +117,34 @@ fn refresh_all<R>(rt: &R, alloc: Global, port: u16) -> Option<Option<usize>>
 where
     R: Wait + Clock + Net + RandomSource + AllocGlobal + Copy + Drop,
 {
+    match config_at(alloc, port) {
+        Ok(config) => match config.jobs.as_slice().first() {
+            Some(job) => refresh_job(rt, alloc, job),
+            None => None,
+        },
+        Err(_) => None,
+    }
+}
+
+/// The configuration of a job whose source is at a port.
+fn config_at(alloc: Global, port: u16) -> Result<Config, SdError> {
     let document = format!(in alloc;
         "{{\"scrape_configs\":[{{\"job_name\":\"j\",\"http_sd_configs\":[{{\"url\":\"http://127.0.0.1:{port}/sd\"}}]}}]}}"
-    ).ok()?;
-    let config = read_config(alloc, document.as_bytes()).ok()?;
-    refresh_job(rt, alloc, config.jobs.as_slice().first()?)
+    );
+    match document {
+        Ok(document) => read_config(alloc, document.as_bytes()),
+        Err(_) => Err(SdError::Memory),
+    }
 }
 
 fn refresh_job<R>(rt: &R, alloc: Global, job: &Job) -> Option<Option<usize>>
 where
     R: Wait + Clock + Net + RandomSource + AllocGlobal + Copy + Drop,
 {
-    let rules = Rules::read(alloc, job.rules.as_slice()).ok()?;
-    refresh_into(rt, alloc, job, &rules)
+    match Rules::read(alloc, job.rules.as_slice()) {
+        Ok(rules) => refresh_into(rt, alloc, job, &rules),
+        Err(_) => None,
+    }
 }
 
 /// Refreshes what an allocator's job lists.
@@ -131,9 +152,13 @@ fn refresh_into<R>(rt: &R, alloc: Global, job: &Job, rules: &Rules) -> Option<Op
 where
     R: Wait + Clock + Net + RandomSource + AllocGlobal + Copy + Drop,
 {
-    let mut core = core_of(alloc, 0)?;
-    let mut device = HyperScrape::new(*rt, Duration::from_millis(LIMIT));
-    refresh_in_turn(alloc, job, rules, &mut device, &mut core)
+    match core_of(alloc, 0) {
+        Some(mut core) => {
+            let mut device = HyperScrape::new(*rt, Duration::from_millis(LIMIT));
+            Some(refresh_in_turn(alloc, job, rules, &mut device, &mut core))
+        }
+        None => None,
+    }
 }
 
 fn refresh_in_turn<S: Scrape>(
@@ -142,26 +167,36 @@ fn refresh_in_turn<S: Scrape>(
     rules: &Rules,
     device: &mut S,
     core: &mut Core,
-) -> Option<Option<usize>> {
+) -> Option<usize> {
     let mut wrong = None;
     for (place, (_, expected)) in ANSWERS.iter().enumerate() {
         let refreshed = refresh(alloc, job, rules, 1, device);
-        let said = said_to(alloc, core, refreshed)?;
-        if wrong.is_none() && said.as_str() != *expected {
+        if !leads_to(alloc, core, refreshed, expected) && wrong.is_none() {
             wrong = Some(place);
         }
     }
-    Some(wrong)
+    wrong
 }
 
-/// The answer to what was found, or the refusal's name.
-fn said_to(
+/// Whether the answer to what was found is this, or the refusal's name.
+fn leads_to(
     alloc: Global,
     core: &mut Core,
     refreshed: Result<Event, RefreshError>,
-) -> Option<String> {
+    expected: &str,
+) -> bool {
     match refreshed {
-        Ok(event) => core.apply(event).ok()?.line(alloc).ok(),
-        Err(refusal) => String::from_str(alloc, refusal.name()).ok(),
+        Ok(event) => match core.apply(event) {
+            Ok(answer) => is_line(answer.line(alloc), expected),
+            Err(_) => false,
+        },
+        Err(refusal) => refusal.name() == expected,
+    }
+}
+
+fn is_line(line: Result<String, AllocError>, expected: &str) -> bool {
+    match line {
+        Ok(line) => line.as_str() == expected,
+        Err(_) => false,
     }
 }

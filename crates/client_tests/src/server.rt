@@ -30,9 +30,13 @@ pub(crate) enum Then {
 pub(crate) fn listen<R: Net<Listener = TcpListener, Stream = TcpStream>>(
     rt: &R,
 ) -> io::Result<(TcpListener, u16)> {
-    let listener = TcpListener::bind(rt, SocketAddr::from((Ipv4Addr::LOCALHOST, 0)))?;
-    let port = listener.local_addr()?.port();
-    Ok((listener, port))
+    match TcpListener::bind(rt, SocketAddr::from((Ipv4Addr::LOCALHOST, 0))) {
+        Ok(listener) => {
+            let port = listener.local_addr()?.port();
+            Ok((listener, port))
+        }
+        Err(error) => Err(error),
+    }
 }
 
 /// Takes the next connection, and gives it back where it is to stay open.
@@ -41,13 +45,19 @@ pub(crate) fn serve_one(
     listener: &TcpListener,
     play: &Play,
 ) -> io::Result<Option<TcpStream>> {
-    let (mut stream, _) = listener.accept()?;
-    hear(alloc, &mut stream, play.then)?;
-    say(alloc, &mut stream, play)?;
-    match play.then {
-        Then::Closes | Then::Resets => Ok(None),
-        Then::Waits => Ok(Some(stream)),
+    match listener.accept() {
+        Ok((mut stream, _)) => match answer(alloc, &mut stream, play) {
+            Ok(()) if play.then == Then::Waits => Ok(Some(stream)),
+            Ok(()) => Ok(None),
+            Err(error) => Err(error),
+        },
+        Err(error) => Err(error),
     }
+}
+
+fn answer(alloc: Global, stream: &mut TcpStream, play: &Play) -> io::Result<()> {
+    hear(alloc, stream, play.then)?;
+    say(alloc, stream, play)
 }
 
 /// Reads the request, or only waits for it where the connection is to be reset.

@@ -1,8 +1,8 @@
 //! Turns of a collector over loopback.
 ghost use Rattle.std.specs.Prelude.{◌≡◌};
 
-use crate::desks::{config_of, core_of, join_line, submit_line, targets_line};
-use crate::fetches::serve_rows;
+use crate::desks::{config_of, core_of, prepares};
+use crate::fetches::{both, serve_rows};
 use crate::rows::{LONG, ROWS, Row};
 use crate::server::listen;
 use alloc_desk::{Desk, DeskName, Entry, Pass};
@@ -31,37 +31,33 @@ type Seen = (Turn, Option<usize>);
 #[test]
 fn a_turn_goes_on_behind_targets_that_fail(rt: HostRuntime) -> Result<(), Fail> {
     let core = core_of(rt.alloc(), 0).ok_or("opens")?;
-    let (turn, wrong) = turn_alone::<Brand, Brand, Brand, HostRuntime>(
-        &rt,
-        rt.alloc(),
-        core,
-        Blank::new(1),
-        Blank::new(1),
-        ROWS.as_slice(),
-        SHORT_LIMIT,
-    )
-    .ok_or("a turn")?;
-    assert_eq!(rt; wrong, None);
-    assert!(rt; turn == complete(13, 10));
+    let seen = turn_over(&rt, rt.alloc(), core, ROWS.as_slice(), SHORT_LIMIT);
+    assert!(rt; seen.ok_or("a turn")? == (complete(13, 10), None));
     Ok(())
 }
 
 #[test]
 fn the_longest_body_is_up_and_longer_ones_are_down(rt: HostRuntime) -> Result<(), Fail> {
     let core = core_of(rt.alloc(), 0).ok_or("opens")?;
-    let (turn, wrong) = turn_alone::<Brand, Brand, Brand, HostRuntime>(
-        &rt,
-        rt.alloc(),
-        core,
-        Blank::new(1),
-        Blank::new(1),
-        LONG.as_slice(),
-        LONG_LIMIT,
-    )
-    .ok_or("a turn")?;
-    assert_eq!(rt; wrong, None);
-    assert!(rt; turn == complete(4, 4));
+    let seen = turn_over(&rt, rt.alloc(), core, LONG.as_slice(), LONG_LIMIT);
+    assert!(rt; seen.ok_or("a turn")? == (complete(4, 4), None));
     Ok(())
+}
+
+fn turn_over<R>(rt: &R, alloc: Global, core: Core, rows: &[Row], limit: u64) -> Option<Seen>
+where
+    R: Wait
+        + Threads
+        + Clock
+        + Net<Listener = TcpListener, Stream = TcpStream>
+        + RandomSource
+        + AllocGlobal
+        + Sync
+        + Send
+        + Copy
+        + Drop,
+{
+    turn_alone::<Brand, Brand, Brand, R>(rt, alloc, core, Blank::new(1), Blank::new(1), rows, limit)
 }
 
 fn complete(booked: u32, samples: u64) -> Turn {
@@ -99,26 +95,49 @@ where
     requires calls { (calls.name ≡ L.name) × (calls.parts ≡ L.parts) × (L.parts ≡ 1) }
     requires samples { (samples.name ≡ B.name) × (samples.parts ≡ B.parts) × (B.parts ≡ 1) }
 {
-    let (desk, mut passes) = Desk::<L, B, N>::open(alloc, core, 1, calls, samples).ok()?;
-    let turn = served_turn(rt, alloc, &desk, passes.first_mut()?, rows, limit)?;
-    seen_of(desk, passes, turn, rows)
+    match Desk::<L, B, N>::open(alloc, core, 1, calls, samples) {
+        Ok((desk, passes)) => turn_at(rt, alloc, desk, passes, rows, limit),
+        Err(_) => None,
+    }
 }
 
-fn seen_of<L: Ledger, B: Ledger, N: DeskName>(
+fn turn_at<L: Ledger + Send + Sync, B: Ledger + Send + Sync, N: DeskName + Send + Sync, R>(
+    rt: &R,
+    alloc: Global,
     desk: Desk<L, B, N>,
     passes: Vec<Pass<L, B, N>>,
-    turn: Turn,
     rows: &[Row],
-) -> Option<Seen> {
-    let closed = desk.close(passes).ok()?;
-    Some((turn, first_other(closed.journal(), rows)))
+    limit: u64,
+) -> Option<Seen>
+where
+    R: Wait
+        + Threads
+        + Clock
+        + Net<Listener = TcpListener, Stream = TcpStream>
+        + RandomSource
+        + AllocGlobal
+        + Sync
+        + Send
+        + Copy
+        + Drop,
+{
+    let mut passes = passes;
+    let turn = first_turn(rt, alloc, &desk, passes.as_mut_slice(), rows, limit);
+    match desk.close(passes) {
+        Ok(closed) => seen_of(turn, closed.journal(), rows),
+        Err(_) => None,
+    }
 }
 
-fn served_turn<L: Ledger + Send + Sync, B: Ledger + Send + Sync, N: DeskName + Send + Sync, R>(
+fn seen_of(turn: Option<Turn>, journal: &[Entry], rows: &[Row]) -> Option<Seen> {
+    Some((turn?, first_other(journal, rows)))
+}
+
+fn first_turn<L: Ledger + Send + Sync, B: Ledger + Send + Sync, N: DeskName + Send + Sync, R>(
     rt: &R,
     alloc: Global,
     desk: &Desk<L, B, N>,
-    pass: &mut Pass<L, B, N>,
+    passes: &mut [Pass<L, B, N>],
     rows: &[Row],
     limit: u64,
 ) -> Option<Turn>
@@ -134,32 +153,44 @@ where
         + Copy
         + Drop,
 {
-    let (listener, port) = listen(rt).ok()?;
-    prepare(rt, alloc, desk, pass, port, rows.len())?;
-    let (open, turn) = thread::join(
-        rt,
-        || serve_rows(alloc, &listener, rows),
-        || turn_of(rt, alloc, desk, pass, limit),
-    );
-    let _open = open?;
-    turn
+    match (listen(rt), passes.first_mut()) {
+        (Ok((listener, port)), Some(pass)) => {
+            if !prepares(rt, alloc, desk, pass, &["a"], port, rows.len()) {
+                return None;
+            }
+            served_turn(rt, alloc, desk, pass, &listener, rows, limit)
+        }
+        _ => None,
+    }
 }
 
-/// Collector 1 holds so many targets.
-fn prepare<L: Ledger, B: Ledger, N: DeskName, R: Wait>(
+fn served_turn<L: Ledger + Send + Sync, B: Ledger + Send + Sync, N: DeskName + Send + Sync, R>(
     rt: &R,
     alloc: Global,
     desk: &Desk<L, B, N>,
     pass: &mut Pass<L, B, N>,
-    port: u16,
-    count: usize,
-) -> Option<()> {
-    let join = join_line(alloc, "a").ok()?;
-    submit_line(rt, alloc, desk, pass, join.as_str())?;
-    let targets = targets_line(alloc, port, count).ok()?;
-    submit_line(rt, alloc, desk, pass, targets.as_str())?;
-    let _published = desk.reallocate(rt, alloc, pass, 8).ok()?;
-    Some(())
+    listener: &TcpListener,
+    rows: &[Row],
+    limit: u64,
+) -> Option<Turn>
+where
+    R: Wait
+        + Threads
+        + Clock
+        + Net<Listener = TcpListener, Stream = TcpStream>
+        + RandomSource
+        + AllocGlobal
+        + Sync
+        + Send
+        + Copy
+        + Drop,
+{
+    let (open, turn) = thread::join(
+        rt,
+        || serve_rows(alloc, listener, rows),
+        || turn_of(rt, alloc, desk, pass, limit),
+    );
+    both(open, turn)
 }
 
 fn turn_of<L: Ledger, B: Ledger, N: DeskName, R>(
@@ -172,10 +203,14 @@ fn turn_of<L: Ledger, B: Ledger, N: DeskName, R>(
 where
     R: Wait + Clock + Net + RandomSource + AllocGlobal + Copy + Drop,
 {
-    let config = config_of(alloc)?;
-    let mut device = HyperScrape::new(*rt, Duration::from_millis(limit));
-    let jobs = config.jobs.as_slice();
-    Some(collector_turn(desk, rt, alloc, pass, jobs, 1, &mut device, &Open))
+    match config_of(alloc) {
+        Some(config) => {
+            let mut device = HyperScrape::new(*rt, Duration::from_millis(limit));
+            let jobs = config.jobs.as_slice();
+            Some(collector_turn(desk, rt, alloc, pass, jobs, 1, &mut device, &Open))
+        }
+        None => None,
+    }
 }
 
 /// The place of the first row that is not reported as it says, or none.

@@ -1,36 +1,35 @@
 //! Events are entered until the journal is full.
+use crate::opening::core_of;
 use alloc_desk::{EnterError, MOST_ENTRIES, Record};
-use allocation_core::{Core, Event, JobSpec};
-use lists::Text;
-use std::alloc::Global;
+use allocation_core::Event;
 use std::test::Fail;
-
-/// The record of an allocator with one job.
-fn opened(alloc: Global) -> Result<Record, Fail> {
-    let name = Text::from_str(alloc, "j")?;
-    let jobs = vec![in alloc;
-        JobSpec {
-            name,
-            target_limit: 1,
-            sources: 1
-        },
-    ]?;
-    Ok(Record::open(alloc, Core::open(alloc, jobs)?))
-}
 
 #[test]
 fn a_full_journal_takes_no_more(rt: HostRuntime) -> Result<(), Fail> {
-    let mut record = opened(rt.alloc())?;
+    match core_of(rt.alloc(), "j", 1) {
+        Some(core) => {
+            let mut record = Record::open(rt.alloc(), core);
+            assert!(rt; fills(&mut record) && is_full(&mut record));
+            Ok(())
+        }
+        None => Err("no memory".into()),
+    }
+}
+
+/// Enters as many events as there may be.
+fn fills(record: &mut Record) -> bool {
     for _ in 0..MOST_ENTRIES {
         if record.enter(0, Event::NextRound).is_err() {
-            return Err("no memory".into());
+            return false;
         }
     }
-    assert_eq!(rt; record.journal().len(), MOST_ENTRIES);
-    assert_eq!(rt;
-        record.enter(0, Event::NextRound).err(),
-        Some(EnterError::JournalFull)
-    );
-    assert_eq!(rt; record.core().round(), 1_048_577);
-    Ok(())
+    true
+}
+
+fn is_full(record: &mut Record) -> bool {
+    let refused = match record.enter(0, Event::NextRound) {
+        Err(error) => error == EnterError::JournalFull,
+        Ok(_) => false,
+    };
+    refused && record.journal().len() == MOST_ENTRIES && record.core().round() == 1_048_577
 }

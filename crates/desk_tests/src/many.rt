@@ -1,14 +1,14 @@
 //! Eight threads do everything at once; the receipts agree, and the journal is replayed on a second allocator.
 ghost use Rattle.std.specs.Prelude.{◌≡◌};
 
-use crate::opening::{core_of, submitted};
+use crate::opening::{add_all, core_of, submit_copy, submitted};
 use alloc_desk::{Closed, Desk, DeskName, Entry, Pass, Receipt};
 use allocation_core::{Core, Event};
 use assign_engine::solve;
 use lists::Plain;
+use price_certificate::{Instance, Plan};
 use std::alloc::{AllocError, Global};
 use std::marker::Brand;
-use std::process::Abort;
 use std::sync::Wait;
 use std::sync::ledger::{Blank, Ledger};
 use std::test::*;
@@ -18,11 +18,14 @@ const THREADS: u32 = 8;
 
 const STEPS: u32 = 1_250;
 
+/// What passes were told.
+type Told = Vec<(Event, Receipt)>;
+
 /// A thread's pass, and what it was told.
 #[derive(Drop)]
 struct Worker<L: Ledger, B: Ledger, N: DeskName> {
     pass: Pass<L, B, N>,
-    told: Vec<(Event, Receipt)>,
+    told: Told,
     done: bool,
 }
 
@@ -60,8 +63,10 @@ fn step_of<L: Ledger, B: Ledger, N: DeskName, R: Wait>(
     if step % 50 == 49 {
         return installed(rt, alloc, desk, pass);
     }
-    let line = line_of(alloc, pass.seat(), step).ok()?;
-    submitted(rt, alloc, desk, pass, line.as_str())
+    match line_of(alloc, pass.seat(), step) {
+        Ok(line) => submitted(rt, alloc, desk, pass, line.as_str()),
+        Err(_) => None,
+    }
 }
 
 fn installed<L: Ledger, B: Ledger, N: DeskName, R: Wait>(
@@ -70,11 +75,26 @@ fn installed<L: Ledger, B: Ledger, N: DeskName, R: Wait>(
     desk: &Desk<L, B, N>,
     pass: &mut Pass<L, B, N>,
 ) -> Option<(Event, Receipt)> {
-    let instance = desk.instance(rt, pass).ok()?;
-    let (plan, _work) = solve(alloc, &instance).ok()?;
-    let copy = plan.copy().ok()?;
-    let receipt = desk.submit(rt, pass, Event::Install(copy)).ok()?;
-    Some((Event::Install(plan), receipt))
+    match desk.instance(rt, pass) {
+        Ok(instance) => match plans(alloc, &instance) {
+            Some((plan, copy)) => {
+                submit_copy(rt, desk, pass, Event::Install(plan), Event::Install(copy))
+            }
+            None => None,
+        },
+        Err(_) => None,
+    }
+}
+
+/// The engine's plan and its copy.
+fn plans(alloc: Global, instance: &Instance) -> Option<(Plan, Plan)> {
+    match solve(alloc, instance) {
+        Ok((plan, _work)) => match plan.copy() {
+            Ok(copy) => Some((plan, copy)),
+            Err(_) => None,
+        },
+        Err(_) => None,
+    }
 }
 
 fn work<L: Ledger, B: Ledger, N: DeskName, R: Wait>(
@@ -97,54 +117,92 @@ fn work<L: Ledger, B: Ledger, N: DeskName, R: Wait>(
 /// Whether the entries, applied to another allocator, are answered as they were.
 fn replays(core: &mut Core, entries: &[Entry]) -> bool {
     for entry in entries {
-        let Ok(event) = entry.event.copy() else {
-            return false;
-        };
-        let Ok(answer) = core.apply(event) else {
-            return false;
-        };
-        if !answer.same(&entry.answer) {
+        if !replays_one(core, entry) {
             return false;
         }
     }
     true
 }
 
+fn replays_one(core: &mut Core, entry: &Entry) -> bool {
+    match entry.event.copy() {
+        Ok(event) => match core.apply(event) {
+            Ok(answer) => answer.same(&entry.answer),
+            Err(_) => false,
+        },
+        Err(_) => false,
+    }
+}
+
 #[test]
 fn receipts_of_eight_threads_agree(rt: HostRuntime) -> Result<(), Fail> {
     let core = core_of(rt.alloc(), "j", 100).ok_or("opens")?;
-    all_at_once::<Brand, Brand, Brand, HostRuntime>(
+    let agree = all_at_once::<Brand, Brand, Brand, HostRuntime>(
         &rt,
         rt.alloc(),
         core,
         Blank::new(8),
         Blank::new(8),
-    )
+    );
+    assert!(rt; agree.ok_or("no memory")?);
+    Ok(())
 }
 
 fn all_at_once<
     L: Ledger + Send + Sync,
     B: Ledger + Send + Sync,
     N: DeskName + Send + Sync,
-    R: Threads + Wait + Abort + Sync,
->(rt: &R, alloc: Global, core: Core, calls: Blank, samples: Blank) -> Result<(), Fail>
+    R: Threads + Wait + Sync,
+>(rt: &R, alloc: Global, core: Core, calls: Blank, samples: Blank) -> Option<bool>
     requires core { (core ≡ N.opening) × (N.seats ≡ 8) }
     requires calls { (calls.name ≡ L.name) × (calls.parts ≡ L.parts) × (L.parts ≡ 8) }
     requires samples { (samples.name ≡ B.name) × (samples.parts ≡ B.parts) × (B.parts ≡ 8) }
 {
-    let (desk, passes) = Desk::<L, B, N>::open(alloc, core, THREADS, calls, samples)
-        .ok()
-        .ok_or("opens")?;
-    let mut workers = workers_of(alloc, passes).ok_or("memory")?;
-    for_each_mut(
-        rt,
-        workers.as_mut_slice(),
-        8,
-        &|_, worker| { work(rt, alloc, &desk, worker) },
-    );
-    let (passes, told) = gathered(alloc, workers).ok_or("all end")?;
-    let closed = desk.close(passes).ok().ok_or("closes")?;
-    compared(rt, alloc, &closed, told)
+    match Desk::<L, B, N>::open(alloc, core, THREADS, calls, samples) {
+        Ok((desk, passes)) => worked(rt, alloc, desk, passes),
+        Err(_) => None,
+    }
+}
+
+/// All threads work at a desk, which is then closed and replayed.
+fn worked<
+    L: Ledger + Send + Sync,
+    B: Ledger + Send + Sync,
+    N: DeskName + Send + Sync,
+    R: Threads + Wait + Sync,
+>(rt: &R, alloc: Global, desk: Desk<L, B, N>, passes: Vec<Pass<L, B, N>>) -> Option<bool> {
+    match workers_at(rt, alloc, &desk, passes) {
+        Some((passes, told)) => match desk.close(passes) {
+            Ok(closed) => compared(alloc, &closed, told),
+            Err(_) => None,
+        },
+        None => None,
+    }
+}
+
+fn workers_at<
+    L: Ledger + Send + Sync,
+    B: Ledger + Send + Sync,
+    N: DeskName + Send + Sync,
+    R: Threads + Wait + Sync,
+>(
+    rt: &R,
+    alloc: Global,
+    desk: &Desk<L, B, N>,
+    passes: Vec<Pass<L, B, N>>,
+) -> Option<(Vec<Pass<L, B, N>>, Told)> {
+    match workers_of(alloc, passes) {
+        Some(mut workers) => {
+            for_each_mut(
+                rt,
+                workers.as_mut_slice(),
+                8,
+                &|_, worker| { work(rt, alloc, desk, worker) },
+            );
+            gathered(alloc, workers)
+        }
+        None => None,
+    }
 }
 
 fn workers_of<L: Ledger, B: Ledger, N: DeskName>(
@@ -153,13 +211,14 @@ fn workers_of<L: Ledger, B: Ledger, N: DeskName>(
 ) -> Option<Vec<Worker<L, B, N>>> {
     let mut workers = Vec::new(alloc);
     for pass in passes {
-        workers
-            .push(Worker {
-                pass,
-                told: Vec::new(alloc),
-                done: false,
-            })
-            .ok()?;
+        let worker = Worker {
+            pass,
+            told: Vec::new(alloc),
+            done: false,
+        };
+        if workers.push(worker).is_err() {
+            return None;
+        }
     }
     Some(workers)
 }
@@ -167,39 +226,45 @@ fn workers_of<L: Ledger, B: Ledger, N: DeskName>(
 fn gathered<L: Ledger, B: Ledger, N: DeskName>(
     alloc: Global,
     workers: Vec<Worker<L, B, N>>,
-) -> Option<(Vec<Pass<L, B, N>>, Vec<(Event, Receipt)>)> {
+) -> Option<(Vec<Pass<L, B, N>>, Told)> {
     let mut passes = Vec::new(alloc);
     let mut all = Vec::new(alloc);
     for worker in workers {
-        if !worker.done {
-            return None;
-        }
-        passes.push(worker.pass).ok()?;
-        add_all(&mut all, worker.told)?;
+        add_worker(&mut passes, &mut all, worker)?;
     }
     Some((passes, all))
 }
 
-fn add_all(all: &mut Vec<(Event, Receipt)>, others: Vec<(Event, Receipt)>) -> Option<()> {
-    for told in others {
-        all.push(told).ok()?;
+fn add_worker<L: Ledger, B: Ledger, N: DeskName>(
+    passes: &mut Vec<Pass<L, B, N>>,
+    all: &mut Told,
+    worker: Worker<L, B, N>,
+) -> Option<()> {
+    let Worker { pass, told, done } = worker;
+    if !done || passes.push(pass).is_err() {
+        return None;
     }
-    Some(())
+    add_all(all, told)
 }
 
-fn compared<N: DeskName, R: Abort>(
-    rt: &R,
-    alloc: Global,
-    closed: &Closed<N>,
-    told: Vec<(Event, Receipt)>,
-) -> Result<(), Fail> {
+fn compared<N: DeskName>(alloc: Global, closed: &Closed<N>, told: Told) -> Option<bool> {
     let mut told = told;
-    assert_eq!(rt; told.len(), 10_000);
-    told.sort_by_key(|one| one.1.position)?;
-    assert!(rt; closed.agrees(told.as_slice()));
-    let mut again = core_of(alloc, "j", 100).ok_or("opens")?;
-    assert!(rt; replays(&mut again, closed.journal()));
-    assert_eq!(rt; again.total(), closed.core().total());
-    assert_eq!(rt; again.round(), closed.core().round());
-    Ok(())
+    match told.sort_by_key(|one| one.1.position) {
+        Ok(()) => match core_of(alloc, "j", 100) {
+            Some(mut again) => Some(
+                told.len() == 10_000
+                    && closed.agrees(told.as_slice())
+                    && is_replayed(closed, &mut again),
+            ),
+            None => None,
+        },
+        Err(_) => None,
+    }
+}
+
+fn is_replayed<N: DeskName>(closed: &Closed<N>, again: &mut Core) -> bool {
+    let core = closed.core();
+    replays(again, closed.journal())
+        && again.total() == core.total()
+        && again.round() == core.round()
 }

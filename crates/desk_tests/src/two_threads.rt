@@ -1,92 +1,168 @@
 //! Two threads open rounds.
 ghost use Rattle.std.specs.Prelude.{◌≡◌};
 
-use crate::opening::core_of;
-use alloc_desk::{Closed, Desk, DeskName, Pass, Receipt};
+use crate::opening::{add_all, core_of};
+use alloc_desk::{Closed, Desk, DeskName, Pass, PassMissing, Receipt};
 use allocation_core::{Answer, Core, Event};
 use std::alloc::Global;
 use std::marker::Brand;
-use std::process::Abort;
 use std::sync::Wait;
 use std::sync::ledger::{Blank, Ledger};
 use std::test::*;
 use std::thread::{Threads, join};
 
+/// What a pass was told.
+type Told = Vec<(Event, Receipt)>;
+
 #[test]
 fn receipts_of_two_threads_agree(rt: HostRuntime) -> Result<(), Fail> {
     let core = core_of(rt.alloc(), "j", 1).ok_or("opens")?;
-    rounds_of_two::<Brand, Brand, Brand, HostRuntime>(
+    let agree = rounds_of_two::<Brand, Brand, Brand, HostRuntime>(
         &rt,
         rt.alloc(),
         core,
         Blank::new(2),
         Blank::new(2),
-    )
+    );
+    assert!(rt; agree.ok_or("no memory")?);
+    Ok(())
 }
 
 fn rounds_of_two<
     L: Ledger + Send + Sync,
     B: Ledger + Send + Sync,
     N: DeskName + Send + Sync,
-    R: Threads + Wait + Abort + Sync,
->(rt: &R, alloc: Global, core: Core, calls: Blank, samples: Blank) -> Result<(), Fail>
+    R: Threads + Wait + Sync,
+>(rt: &R, alloc: Global, core: Core, calls: Blank, samples: Blank) -> Option<bool>
     requires core { (core ≡ N.opening) × (N.seats ≡ 2) }
     requires calls { (calls.name ≡ L.name) × (calls.parts ≡ L.parts) × (L.parts ≡ 2) }
     requires samples { (samples.name ≡ B.name) × (samples.parts ≡ B.parts) × (B.parts ≡ 2) }
 {
-    let (desk, mut passes) = Desk::<L, B, N>::open(alloc, core, 2, calls, samples)
-        .ok()
-        .ok_or("opens")?;
-    let one = passes.pop().ok_or("a pass")?;
-    let two = passes.pop().ok_or("another pass")?;
-    let shared = &desk;
-    let (a, b) = join(
-        rt,
-        move || open_rounds(rt, alloc, shared, one),
-        move || open_rounds(rt, alloc, shared, two),
-    );
-    let (one, mut all) = a.ok_or("one ends")?;
-    let (two, others) = b.ok_or("two ends")?;
-    add_all(&mut all, others).ok_or("memory")?;
-    let closed = closed_in_two_steps(rt, alloc, desk, one, two)?;
-    agreeing(rt, &closed, all)
+    match Desk::<L, B, N>::open(alloc, core, 2, calls, samples) {
+        Ok((desk, passes)) => rounds_at(rt, alloc, desk, passes),
+        Err(_) => None,
+    }
+}
+
+fn rounds_at<
+    L: Ledger + Send + Sync,
+    B: Ledger + Send + Sync,
+    N: DeskName + Send + Sync,
+    R: Threads + Wait + Sync,
+>(rt: &R, alloc: Global, desk: Desk<L, B, N>, passes: Vec<Pass<L, B, N>>) -> Option<bool> {
+    let mut passes = passes;
+    let told = both_open(rt, alloc, &desk, passes.as_mut_slice())?;
+    match closed_in_two_steps(desk, passes) {
+        Some(closed) => agree(&closed, told),
+        None => None,
+    }
+}
+
+/// Two threads open rounds, each with a pass: what both were told.
+fn both_open<
+    L: Ledger + Send + Sync,
+    B: Ledger + Send + Sync,
+    N: DeskName + Send + Sync,
+    R: Threads + Wait + Sync,
+>(rt: &R, alloc: Global, desk: &Desk<L, B, N>, passes: &mut [Pass<L, B, N>]) -> Option<Told> {
+    match passes {
+        [one, two] => {
+            let (all, others) = join(
+                rt,
+                move || open_rounds(rt, alloc, desk, one),
+                move || open_rounds(rt, alloc, desk, two),
+            );
+            together(all, others)
+        }
+        _ => None,
+    }
+}
+
+fn together(all: Option<Told>, others: Option<Told>) -> Option<Told> {
+    match (all, others) {
+        (Some(mut all), Some(others)) => match add_all(&mut all, others) {
+            Some(()) => Some(all),
+            None => None,
+        },
+        _ => None,
+    }
+}
+
+fn open_rounds<L: Ledger, B: Ledger, N: DeskName, R: Wait>(
+    rt: &R,
+    alloc: Global,
+    desk: &Desk<L, B, N>,
+    pass: &mut Pass<L, B, N>,
+) -> Option<Told> {
+    let mut all = Vec::new(alloc);
+    for _ in 0..500 {
+        if !opens_round(rt, desk, pass, &mut all) {
+            return None;
+        }
+    }
+    Some(all)
+}
+
+fn opens_round<L: Ledger, B: Ledger, N: DeskName, R: Wait>(
+    rt: &R,
+    desk: &Desk<L, B, N>,
+    pass: &mut Pass<L, B, N>,
+    all: &mut Told,
+) -> bool {
+    match desk.submit(rt, pass, Event::NextRound) {
+        Ok(receipt) => all.push((Event::NextRound, receipt)).is_ok(),
+        Err(_) => false,
+    }
 }
 
 /// One pass is missing, and then none.
-fn closed_in_two_steps<L: Ledger, B: Ledger, N: DeskName, R: Abort>(
-    rt: &R,
-    alloc: Global,
+fn closed_in_two_steps<L: Ledger, B: Ledger, N: DeskName>(
     desk: Desk<L, B, N>,
-    one: Pass<L, B, N>,
-    two: Pass<L, B, N>,
-) -> Result<Closed<N>, Fail> {
-    let mut passes = Vec::new(alloc);
-    passes.push(one).ok().ok_or("memory")?;
-    let Err(missing) = desk.close(passes) else {
-        return Err("one pass is missing".into());
-    };
-    let mut both = missing.passes;
-    assert_eq!(rt; both.len(), 1);
-    both.push(two).ok().ok_or("memory")?;
-    Ok(missing.desk.close(both).ok().ok_or("closes")?)
+    passes: Vec<Pass<L, B, N>>,
+) -> Option<Closed<N>> {
+    let mut passes = passes;
+    match passes.pop() {
+        Some(last) => match desk.close(passes) {
+            Ok(_) => None,
+            Err(missing) => closed_with(missing, last),
+        },
+        None => None,
+    }
 }
 
-fn agreeing<N: DeskName, R: Abort>(
-    rt: &R,
-    closed: &Closed<N>,
-    all: Vec<(Event, Receipt)>,
-) -> Result<(), Fail> {
+fn closed_with<L: Ledger, B: Ledger, N: DeskName>(
+    missing: PassMissing<L, B, N>,
+    last: Pass<L, B, N>,
+) -> Option<Closed<N>> {
+    let PassMissing { desk, mut passes } = missing;
+    if passes.len() != 1 || passes.push(last).is_err() {
+        return None;
+    }
+    desk.close(passes).ok()
+}
+
+fn agree<N: DeskName>(closed: &Closed<N>, all: Told) -> Option<bool> {
     let mut all = all;
-    assert_eq!(rt; closed.journal().len(), 1000);
-    assert_eq!(rt; closed.core().round(), 1001);
-    assert_eq!(rt; closed.core().total(), 0);
-    all.sort_by_key(|told| told.1.position)?;
-    assert!(rt; closed.agrees(all.as_slice()));
-    assert!(rt; are_rounds(all.as_slice()));
-    assert_eq!(rt; all.len(), 1000);
+    match all.sort_by_key(|told| told.1.position) {
+        Ok(()) => Some(is_as_told(closed, &mut all)),
+        Err(_) => None,
+    }
+}
+
+fn is_as_told<N: DeskName>(closed: &Closed<N>, all: &mut Told) -> bool {
+    if !has_thousand(closed) || !is_told(closed, all.as_slice()) || all.len() != 1000 {
+        return false;
+    }
     all.swap(0, 1);
-    assert!(rt; !closed.agrees(all.as_slice()));
-    Ok(())
+    !closed.agrees(all.as_slice())
+}
+
+fn has_thousand<N: DeskName>(closed: &Closed<N>) -> bool {
+    closed.journal().len() == 1000 && closed.core().round() == 1001 && closed.core().total() == 0
+}
+
+fn is_told<N: DeskName>(closed: &Closed<N>, all: &[(Event, Receipt)]) -> bool {
+    closed.agrees(all) && are_rounds(all)
 }
 
 /// Whether the receipt at each place opened the round of two more.
@@ -102,26 +178,4 @@ fn is_round(answer: &Answer, place: usize) -> bool {
         Answer::RoundOpen(round) => *round as usize == place.saturating_add(2),
         _ => false,
     }
-}
-
-fn add_all(all: &mut Vec<(Event, Receipt)>, others: Vec<(Event, Receipt)>) -> Option<()> {
-    for told in others {
-        all.push(told).ok()?;
-    }
-    Some(())
-}
-
-fn open_rounds<L: Ledger, B: Ledger, N: DeskName, R: Wait>(
-    rt: &R,
-    alloc: Global,
-    desk: &Desk<L, B, N>,
-    pass: Pass<L, B, N>,
-) -> Option<(Pass<L, B, N>, Vec<(Event, Receipt)>)> {
-    let mut pass = pass;
-    let mut all = Vec::new(alloc);
-    for _ in 0..500 {
-        let receipt = desk.submit(rt, &mut pass, Event::NextRound).ok()?;
-        all.push((Event::NextRound, receipt)).ok()?;
-    }
-    Some((pass, all))
 }

@@ -1,170 +1,128 @@
 //! A fleet at its limits, and collectors that come, drain and go.
-mod own_limits;
-mod reached;
-
+use crate::steps::{Came, Job, Step, fleet_after, plays};
 use fleet::{
-    DrainRefusal, Draining, Fleet, JobSpec, JoinRefusal, Joining, ListRefusal, Listing,
-    MOST_LIVE_TARGETS,
+    DrainRefusal, Draining, Fleet, JoinRefusal, Joining, ListRefusal, Listing, MOST_LIVE_TARGETS,
 };
-use label_sets::{Finished, Labels, Target, finish};
-use lists::{List, Text};
-use reach_rules::{CollectorName, OwnLimits, Reach};
-use std::alloc::Global;
-use std::collections::BTreeMap;
+use std::alloc::AllocError;
 use std::test::Fail;
 
-fn open(alloc: Global) -> Result<Fleet, Fail> {
-    let job = JobSpec {
-        name: Text::from_str(alloc, "j")?,
-        target_limit: 0,
-        sources: 2,
-    };
-    Ok(Fleet::open(alloc, vec![in alloc; job]?)?)
-}
+/// One job with two sources.
+const JOBS: [Job; 1] = [("j", 0, 2)];
 
-fn push_target(alloc: Global, targets: &mut List<Target>, number: usize) -> Result<(), Fail> {
-    let address = format!(in alloc; "h:{number}")?;
-    let mut labels = Labels::new(alloc);
-    labels.set("__address__", address.as_str())?;
-    if let Finished::Target(target) = finish(alloc, &labels)? {
-        targets.push(target)?;
-    }
-    Ok(())
-}
+const JOINED: Came = Came::Joined(Joining::Joined(1));
 
-fn targets(alloc: Global, first: usize, count: usize) -> Result<List<Target>, Fail> {
-    let mut targets = List::new(alloc);
-    for more in 0..count {
-        push_target(alloc, &mut targets, first.saturating_add(more))?;
-    }
-    Ok(targets)
-}
+const ALSO_JOINED: Came = Came::Joined(Joining::Joined(2));
 
-fn everything(alloc: Global) -> Result<Reach, Fail> {
-    any_target(alloc, true)
-}
+const DRAINS: Came = Came::Drains(Draining::Drains);
 
-/// The one rule that any target is reached, or that none is.
-fn any_target(alloc: Global, allow: bool) -> Result<Reach, Fail> {
-    let mut rule = BTreeMap::new(alloc);
-    let any = String::from_str(alloc, "any")?;
-    drop(rule.insert(String::from_str(alloc, "allow")?, allow.into())?);
-    drop(rule.insert(String::from_str(alloc, "test")?, any.into())?);
-    let rules = vec![in alloc; rule.into()]?;
-    Ok(Reach::read(alloc, &rules.into())?)
-}
+const STRANGER: Came = Came::Drains(Draining::Refused(DrainRefusal::UnknownCollector));
 
-fn join(alloc: Global, fleet: &mut Fleet, name: &str) -> Result<Joining, Fail> {
-    join_with(alloc, fleet, name, OwnLimits::none(alloc))
-}
+const FULL: Step = Step::List("j", 0, 0, MOST_LIVE_TARGETS);
 
-fn join_with(
-    alloc: Global,
-    fleet: &mut Fleet,
-    name: &str,
-    limits: OwnLimits,
-) -> Result<Joining, Fail> {
-    let reach = everything(alloc)?;
-    Ok(fleet.join(CollectorName::read(alloc, name)?, reach, limits)?)
-}
+const ONE_MORE: Step = Step::List("j", 1, MOST_LIVE_TARGETS, 1);
 
 #[test]
 fn as_many_targets_are_listed_as_may_live(rt: HostRuntime) -> Result<(), Fail> {
-    let alloc = rt.alloc();
-    let mut fleet = open(alloc)?;
-    let full = targets(alloc, 0, MOST_LIVE_TARGETS)?;
-    let listing = fleet.list("j", 0, full)?;
-    let changed = Listing::Changed {
+    let all = Listing::Changed {
         added: MOST_LIVE_TARGETS as u32,
         removed: 0,
     };
-    assert_eq!(rt; listing, changed);
-    let one_more = targets(alloc, MOST_LIVE_TARGETS, 1)?;
-    let refused = fleet.list("j", 1, one_more)?;
-    assert_eq!(rt; refused, Listing::Refused(ListRefusal::TooManyLive));
-    assert_eq!(rt; fleet.known().len(), MOST_LIVE_TARGETS);
-    assert_eq!(rt; fleet.live()?.len(), MOST_LIVE_TARGETS);
-    assert!(rt; fleet.target(16_383).is_some());
-    Ok(())
+    let steps = [
+        (FULL, Came::Listed(all)),
+        (
+            ONE_MORE,
+            Came::Listed(Listing::Refused(ListRefusal::TooManyLive)),
+        ),
+    ];
+    assert!(rt; plays(rt.alloc(), JOBS.as_slice(), steps.as_slice())?);
+    match fleet_after(rt.alloc(), JOBS.as_slice(), &[FULL, ONE_MORE]) {
+        Ok(fleet) => {
+            assert!(rt; is_full(&fleet)?);
+            Ok(())
+        }
+        Err(_) => Err("no memory".into()),
+    }
+}
+
+fn is_full(fleet: &Fleet) -> Result<bool, AllocError> {
+    let live = fleet.live()?.len();
+    let known = fleet.known().len();
+    Ok(live == MOST_LIVE_TARGETS && known == MOST_LIVE_TARGETS && fleet.target(16_383).is_some())
 }
 
 #[test]
 fn collectors_come_and_go(rt: HostRuntime) -> Result<(), Fail> {
-    let alloc = rt.alloc();
-    let mut fleet = open(alloc)?;
-    assert_eq!(rt; join(alloc, &mut fleet, "a")?, Joining::Joined(1));
-    let twice = join(alloc, &mut fleet, "a")?;
-    assert_eq!(rt; twice, Joining::Refused(JoinRefusal::AlreadyJoined(1)));
-    assert_eq!(rt; fleet.id_named("a"), Some(1));
-    assert!(rt; fleet.leave(1));
-    assert!(rt; !fleet.leave(1));
-    assert_eq!(rt; join(alloc, &mut fleet, "a")?, Joining::Joined(2));
-    assert!(rt; fleet.is_joined(2));
-    assert_eq!(rt; fleet.jobs().len(), 1);
-    assert_eq!(rt; fleet.collectors().len(), 1);
+    let steps = [
+        (Step::Join("a"), JOINED),
+        (
+            Step::Join("a"),
+            Came::Joined(Joining::Refused(JoinRefusal::AlreadyJoined(1))),
+        ),
+        (Step::Named("a"), Came::Number(Some(1))),
+        (Step::Leave(1), Came::Is(true)),
+        (Step::Leave(1), Came::Is(false)),
+        (Step::Join("a"), ALSO_JOINED),
+        (Step::IsJoined(2), Came::Is(true)),
+        (Step::Counts, Came::Counts(1, 1)),
+    ];
+    assert!(rt; plays(rt.alloc(), JOBS.as_slice(), steps.as_slice())?);
     Ok(())
-}
-
-/// Whether the collector of a number drains.
-fn drains(fleet: &Fleet, id: u32) -> Option<bool> {
-    for collector in fleet.collectors() {
-        if collector.id == id {
-            return Some(collector.draining);
-        }
-    }
-    None
 }
 
 #[test]
 fn a_collector_drains_once(rt: HostRuntime) -> Result<(), Fail> {
-    let alloc = rt.alloc();
-    let mut fleet = open(alloc)?;
-    join(alloc, &mut fleet, "a")?;
-    join(alloc, &mut fleet, "b")?;
-    assert_eq!(rt; fleet.drain(2), Draining::Drains);
-    assert_eq!(rt; drains(&fleet, 2), Some(true));
-    let twice = fleet.drain(2);
-    assert_eq!(rt; twice, Draining::Refused(DrainRefusal::AlreadyDraining));
-    assert_eq!(rt; drains(&fleet, 2), Some(true));
-    assert_eq!(rt; drains(&fleet, 1), Some(false));
+    let steps = [
+        (Step::Join("a"), JOINED),
+        (Step::Join("b"), ALSO_JOINED),
+        (Step::Drain(2), DRAINS),
+        (Step::Drains(2), Came::MayBe(Some(true))),
+        (
+            Step::Drain(2),
+            Came::Drains(Draining::Refused(DrainRefusal::AlreadyDraining)),
+        ),
+        (Step::Drains(2), Came::MayBe(Some(true))),
+        (Step::Drains(1), Came::MayBe(Some(false))),
+    ];
+    assert!(rt; plays(rt.alloc(), JOBS.as_slice(), steps.as_slice())?);
     Ok(())
 }
 
 #[test]
 fn a_collector_that_drains_leaves_the_others_be(rt: HostRuntime) -> Result<(), Fail> {
-    let alloc = rt.alloc();
-    let mut fleet = open(alloc)?;
-    join(alloc, &mut fleet, "a")?;
-    join(alloc, &mut fleet, "b")?;
-    assert_eq!(rt; fleet.drain(1), Draining::Drains);
-    assert_eq!(rt; fleet.drain(2), Draining::Drains);
-    assert_eq!(rt; fleet.collectors().len(), 2);
+    let steps = [
+        (Step::Join("a"), JOINED),
+        (Step::Join("b"), ALSO_JOINED),
+        (Step::Drain(1), DRAINS),
+        (Step::Drain(2), DRAINS),
+        (Step::Counts, Came::Counts(1, 2)),
+    ];
+    assert!(rt; plays(rt.alloc(), JOBS.as_slice(), steps.as_slice())?);
     Ok(())
 }
 
 #[test]
 fn nobody_drains_for_a_stranger(rt: HostRuntime) -> Result<(), Fail> {
-    let alloc = rt.alloc();
-    let mut fleet = open(alloc)?;
-    join(alloc, &mut fleet, "a")?;
-    let refused = fleet.drain(2);
-    assert_eq!(rt; refused, Draining::Refused(DrainRefusal::UnknownCollector));
-    assert_eq!(rt; drains(&fleet, 1), Some(false));
-    assert_eq!(rt; drains(&fleet, 2), None);
+    let steps = [
+        (Step::Join("a"), JOINED),
+        (Step::Drain(2), STRANGER),
+        (Step::Drains(1), Came::MayBe(Some(false))),
+        (Step::Drains(2), Came::MayBe(None)),
+    ];
+    assert!(rt; plays(rt.alloc(), JOBS.as_slice(), steps.as_slice())?);
     Ok(())
 }
 
 #[test]
 fn a_collector_that_joins_again_does_not_drain(rt: HostRuntime) -> Result<(), Fail> {
-    let alloc = rt.alloc();
-    let mut fleet = open(alloc)?;
-    join(alloc, &mut fleet, "a")?;
-    assert_eq!(rt; fleet.drain(1), Draining::Drains);
-    assert!(rt; fleet.leave(1));
-    let left = fleet.drain(1);
-    assert_eq!(rt; left, Draining::Refused(DrainRefusal::UnknownCollector));
-    assert_eq!(rt; join(alloc, &mut fleet, "a")?, Joining::Joined(2));
-    assert_eq!(rt; drains(&fleet, 2), Some(false));
-    assert_eq!(rt; fleet.drain(2), Draining::Drains);
+    let steps = [
+        (Step::Join("a"), JOINED),
+        (Step::Drain(1), DRAINS),
+        (Step::Leave(1), Came::Is(true)),
+        (Step::Drain(1), STRANGER),
+        (Step::Join("a"), ALSO_JOINED),
+        (Step::Drains(2), Came::MayBe(Some(false))),
+        (Step::Drain(2), DRAINS),
+    ];
+    assert!(rt; plays(rt.alloc(), JOBS.as_slice(), steps.as_slice())?);
     Ok(())
 }

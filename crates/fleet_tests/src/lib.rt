@@ -1,5 +1,5 @@
 //! Tests of the fleet's crates up to the allocator. They stand apart from them, since a crate with tests is proved once more with
-//! them.
+//! them. What events are read from and written to is told by rows (`history_rows`).
 #![tactic(auto)]
 
 #[cfg(test)]
@@ -11,4 +11,12 @@ mod events;
 #[cfg(test)]
 mod fleets;
 #[cfg(test)]
+mod memory;
+#[cfg(test)]
+mod own_limits;
+#[cfg(test)]
+mod reached;
+#[cfg(test)]
 mod renewals;
+#[cfg(test)]
+mod steps;

@@ -1,4 +1,4 @@
-use Rattle.desk_tests.proofs.reopening.three_desks_are_opened_over_one_allocator.Given as goal
+use Rattle.desk_tests.proofs.reopening.next_core.Given as goal
 
 -- the ledgers of the blanks, and a desk of one pass over this allocator
 abbrev pub ghosts-one_desk-L-Ledger : goal.ghosts-one_desk-L-Ledger

@@ -1,4 +1,4 @@
-use Rattle.client_tests.proofs.overlapping.no_fetch_is_answered_before_the_other_begins.Given as goal
+use Rattle.client_tests.proofs.overlapping.round_over.Given as goal
 
 -- the ledgers of the blanks, and a desk over this allocator
 abbrev pub ghosts-round_of_two-L-Ledger : goal.ghosts-round_of_two-L-Ledger

@@ -1,4 +1,4 @@
-use Rattle.client_tests.proofs.turns.a_turn_goes_on_behind_targets_that_fail.Given as goal
+use Rattle.client_tests.proofs.turns.turn_over.Given as goal
 
 -- the ledgers of the blanks, and a desk of one pass over this allocator
 abbrev pub ghosts-turn_alone-L-Ledger : goal.ghosts-turn_alone-L-Ledger
