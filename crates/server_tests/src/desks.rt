@@ -41,8 +41,16 @@ const HELD: [&str; 3] = [
 /// An allocator whose one target is held.
 pub(crate) fn held_core_of(alloc: Global) -> Option<Core> {
     match core_of(alloc) {
-        Some(mut core) if comes_to_be_held(alloc, &mut core) => Some(core),
-        _ => None,
+        Some(core) => held(alloc, core),
+        None => None,
+    }
+}
+
+fn held(alloc: Global, mut core: Core) -> Option<Core> {
+    if comes_to_be_held(alloc, &mut core) {
+        Some(core)
+    } else {
+        None
     }
 }
 

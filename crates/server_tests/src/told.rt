@@ -4,7 +4,7 @@ ghost use Rattle.std.specs.Prelude.{◌≡◌};
 use crate::client::Row;
 use crate::desks::{core_of, handler_of, held_core_of};
 use crate::rows::{HELD_ROWS, ROWS};
-use alloc_desk::{DeskName, MOST_ENTRIES};
+use alloc_desk::{DeskName, MOST_ENTRIES, Pass};
 use allocation_core::{Core, Event};
 use bytes::Bytes;
 use http::{Method, Uri};
@@ -105,23 +105,22 @@ fn opens_rounds<L: Ledger, B: Ledger, N: DeskName, R: Wait>(
     handler: &Handler<R, L, B, N>,
     rounds: usize,
 ) -> bool {
+    let mut pass = handler.pass.lock(rt);
+    are_opened(rt, handler, &mut *pass, rounds)
+}
+
+fn are_opened<L: Ledger, B: Ledger, N: DeskName, R: Wait>(
+    rt: &R,
+    handler: &Handler<R, L, B, N>,
+    pass: &mut Pass<L, B, N>,
+    rounds: usize,
+) -> bool {
     for _ in 0..rounds {
-        if !opens_round(rt, handler) {
+        if handler.desk.submit(rt, pass, Event::NextRound).is_err() {
             return false;
         }
     }
     true
-}
-
-fn opens_round<L: Ledger, B: Ledger, N: DeskName, R: Wait>(
-    rt: &R,
-    handler: &Handler<R, L, B, N>,
-) -> bool {
-    let mut pass = handler.pass.lock(rt);
-    handler
-        .desk
-        .submit(rt, &mut *pass, Event::NextRound)
-        .is_ok()
 }
 
 fn by_routes<L: Ledger, B: Ledger, N: DeskName, R: Wait + Clock + Copy>(

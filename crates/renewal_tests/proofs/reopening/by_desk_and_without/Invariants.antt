@@ -1,4 +1,4 @@
-use Rattle.renewal_tests.proofs.reopening.a_desk_is_renewed_and_reopened_five_times.Given as goal
+use Rattle.renewal_tests.proofs.reopening.by_desk_and_without.Given as goal
 
 -- the ledgers of the blanks, and a desk of one pass over this allocator
 abbrev pub ghosts-one_desk-L-Ledger : goal.ghosts-one_desk-L-Ledger

@@ -1,4 +1,4 @@
-use Rattle.session_tests.proofs.rounds.a_session_writes_its_lines.Given as goal
+use Rattle.session_tests.proofs.rounds.is_written.Given as goal
 
 -- the ledgers of the blanks, and a desk over this allocator
 abbrev pub ghosts-text_of-L-Ledger : goal.ghosts-text_of-L-Ledger

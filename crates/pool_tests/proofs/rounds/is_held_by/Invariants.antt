@@ -1,4 +1,4 @@
-use Rattle.pool_tests.proofs.rounds.gate_holds_one_scrape.Given as goal
+use Rattle.pool_tests.proofs.rounds.is_held_by.Given as goal
 
 -- the ledgers of the blanks, and a desk over this allocator
 abbrev pub ghosts-held_round-L-Ledger : goal.ghosts-held_round-L-Ledger

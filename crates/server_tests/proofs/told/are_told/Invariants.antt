@@ -1,0 +1,11 @@
+use Rattle.server_tests.proofs.told.are_told.Given as goal
+
+-- the ledgers of the blanks, and a desk of one pass over this allocator
+abbrev pub ghosts-over_desk-L-Ledger : goal.ghosts-over_desk-L-Ledger
+ghosts-over_desk-L-Ledger g a = record { name = a.calls.name; parts = a.calls.parts }
+
+abbrev pub ghosts-over_desk-B-Ledger : goal.ghosts-over_desk-B-Ledger
+ghosts-over_desk-B-Ledger g a = record { name = a.samples.name; parts = a.samples.parts }
+
+abbrev pub ghosts-over_desk-N-DeskName : goal.ghosts-over_desk-N-DeskName
+ghosts-over_desk-N-DeskName g a = record { «opening» = a.core; seats = 1 }
