@@ -2,6 +2,7 @@
 # The released program: dist/allocd, and dist/RELEASE, which says what it was made from (three lines: the sha256 of the program,
 # one hash over its sources, the toolchain).
 # usage: scripts/release.sh                proves and builds the program and writes both
+#        scripts/release.sh --gate         the same by the gate: `rt ci` has to pass, and the program is the one that it built
 #        scripts/release.sh --is-current   ends with 0 where dist/allocd is the program of RELEASE and these are its sources, else 1
 #        scripts/release.sh --check        proves and builds it from nothing in a fresh copy, and compares it byte by byte
 set -u
@@ -26,6 +27,15 @@ write_release() {
     cp "$own" "$released.part" && chmod 755 "$released.part" && mv "$released.part" "$released" && cp "$own.made" "$record"
 }
 
+# The gate leaves the program where a build does.
+write_by_gate() {
+    local sources
+    sources=$(sources_hash "$root" allocd)
+    (cd "$root" && rt ci) || return 1
+    [ "$sources" = "$(sources_hash "$root" allocd)" ] || { echo "release: the sources have changed meanwhile: once more, please" >&2 && return 1; }
+    write_record "$own" "$sources" "$own.made" && write_release
+}
+
 # Nothing but the sources goes into the copy, so nothing that was proved before.
 check_release() {
     local copy
@@ -41,6 +51,10 @@ case ${1:-} in
         write_release || exit 1
         cat "$record"
         ;;
+    --gate)
+        write_by_gate || exit 1
+        cat "$record"
+        ;;
     --is-current)
         is_made "$root" "$released" "$record"
         ;;
@@ -53,7 +67,7 @@ case ${1:-} in
         echo "release: built again, the same byte for byte"
         ;;
     *)
-        sed -n '2,6s/^# //p' "$0" >&2
+        sed -n '2,7s/^# //p' "$0" >&2
         exit 2
         ;;
 esac
