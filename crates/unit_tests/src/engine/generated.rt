@@ -129,14 +129,15 @@ impl Small {
 
     /// The instance of version 2.
     fn second(&self, alloc: Global) -> Result<Instance, InstanceError> {
-        let lists = (
-            self.limits(alloc),
-            self.draining(alloc),
-            self.rows(alloc),
-            self.before(alloc),
-        );
-        match lists {
-            (Ok(limits), Ok(draining), Ok(rows), Ok(before)) => {
+        match self.draining(alloc) {
+            Ok(draining) => self.with_draining(alloc, draining),
+            Err(_) => Err(InstanceError::Memory),
+        }
+    }
+
+    fn with_draining(&self, alloc: Global, draining: List<u32>) -> Result<Instance, InstanceError> {
+        match (self.limits(alloc), self.rows(alloc), self.before(alloc)) {
+            (Ok(limits), Ok(rows), Ok(before)) => {
                 Instance::new2(alloc, limits, draining, rows, before)
             }
             _ => Err(InstanceError::Memory),
