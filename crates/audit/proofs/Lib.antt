@@ -5,3 +5,4 @@ mod Tallying
 mod Opened
 mod Telling
 mod InRow
+mod Results

@@ -22,6 +22,7 @@ use Rattle.replay_lines.specs.Resumes.{damage_at, resumed, resumed_by, resumed_f
 use Rattle.replay_lines.specs.declared.resuming.Resumption.{Resumption}
 use Rattle.audit.specs.Checks.{first_line}
 use Rattle.audit.specs.Laws.{IsWhole, OpenedAreWhole}
+use Rattle.audit.proofs.Results.{no_err, no_none, ok_same, some_same}
 
 -- ---- a state that a history says
 
@@ -42,19 +43,19 @@ record Passes (b : Bool) (m n : State) : Type 0 where
   same : m ≡ n
 
 passes : (b c : Bool) (m n : State) → ◌≡◌ {A = Result State HistoryError} (cond (not b) (Err BadAllocation) (cond c (Err BadRound) (Ok m))) (Ok n) → Passes b m n
-passes true true m n e = absurd (cc)
-passes true false m n e = record { good = refl; same = cc }
-passes false c m n e = absurd (cc)
+passes true true m n e = absurd (no_err BadRound n e)
+passes true false m n e = record { good = refl; same = ok_same m n e }
+passes false c m n e = absurd (no_err BadAllocation n e)
 
 whole_by : (fault : Option PartsError) (h : _) (n : State) → by_fault fault h ≡ Ok n → IsWhole n
-whole_by (Some fault) h n e = absurd (cc)
+whole_by (Some fault) h n e = absurd (no_err _ n e)
 whole_by None h n e =
     let p = passes (is_allocation (fleet_of h.fleet) h.allocation) (h.round == 0) (state_of h) n e in
     subst IsWhole p.same (restored_whole (fleet_of h.fleet) h.allocation h.certificate.instance h.certificate.plan h.round p.good)
 
 history_whole : (h : _) (n : State) → checked_in h ≡ Ok n → IsWhole n
 unfolding checked
-history_whole None n e = absurd (cc)
+history_whole None n e = absurd (no_err _ n e)
 history_whole (Some h) n e = whole_by (parts_fault (fleet_of h.fleet)) h n e
 
 said_whole : (d : Data) (n : State) → history_in d ≡ Ok n → IsWhole n
@@ -67,11 +68,11 @@ first_whole : (jobs : List JobSpec) → IsWhole (first_state jobs)
 first_whole jobs = record { allocation = refl; is = refl }
 
 some_by : (b : Bool) (m n : State) → cond b (Some m) None ≡ Some n → m ≡ n
-some_by true m n e = cc
-some_by false m n e = absurd (cc)
+some_by true m n e = some_same m n e
+some_by false m n e = absurd (no_none n e)
 
 resumed_whole : (jobs : List JobSpec) (said : Result State HistoryError) (n : State) → ((m : State) → said ≡ Ok m → IsWhole m) → resumed_with jobs said ≡ Some n → IsWhole n
-resumed_whole jobs (Err fault) n whole e = absurd (cc)
+resumed_whole jobs (Err fault) n whole e = absurd (no_none n e)
 resumed_whole jobs (Ok m) n whole e = subst IsWhole (some_by (same_jobs m.fleet.jobs jobs) m n e) (whole m refl)
 
 from_whole : (history : Option Data) (jobs : List JobSpec) (n : State) → opened_from history jobs ≡ Some n → IsWhole n
@@ -79,7 +80,7 @@ from_whole None jobs n e = subst IsWhole (some_by (are_jobs jobs) (first_state j
 from_whole (Some d) jobs n e = resumed_whole jobs (history_in d) n (said_whole d) e
 
 whole_in : (history : Option Data) (jobs : Option (List JobSpec)) (n : State) → option_and_then (opened_from history) jobs ≡ Some n → IsWhole n
-whole_in history None n e = absurd (cc)
+whole_in history None n e = absurd (no_none n e)
 whole_in history (Some jobs) n e = from_whole history jobs n e
 
 pub opened_whole : OpenedAreWhole
@@ -98,9 +99,9 @@ one_line (b ∷ bs) = one_by (b == 10) b (first_line bs) refl (one_line bs)
 
 opened_by : (m : Option State) (start : Resumption) → option_map_or (λ (m : State). resumed_from m []) m (Err (damage_at 1)) ≡ Ok start → m ≡ Some start.core
 unfolding unread_from events_of
-opened_by None start e = absurd (cc)
+opened_by None start e = absurd (no_err _ start e)
 opened_by (Some m) start e =
-    let same : resumption_at m 0 ≡ start = cc in
+    let same : resumption_at m 0 ≡ start = ok_same (resumption_at m 0) start e in
     ap (λ (r : Resumption). (let o : Option State = Some r.core in o)) same
 
 -- what it leads to is what it opens

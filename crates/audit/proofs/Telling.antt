@@ -17,14 +17,14 @@ use Rattle.audit.specs.Laws.{HistoriesTell, IsWhole, ReadAlike}
 use Rattle.audit.specs.Renewals.{BeginsWithRenewal, IsRenewalOf}
 use Rattle.audit.specs.declared.fault.Fault.{Fault}
 use Rattle.audit.specs.declared.fault.Why.{Why}
+use Rattle.audit.proofs.Results.{ok_same}
 
 pub told : RenewedReadBack → HistoriesTell
 told back m n jobs ascending whole alike =
     let said : Result State HistoryError = history_said alike.text in
     let one : said ≡ Ok (renewed m jobs) = back m jobs said ascending alike.one in
     let other : said ≡ Ok n = alike.other whole.allocation ∙ ap (λ (s : State). (let r : Result State HistoryError = Ok s in r)) whole.is in
-    let same : ◌≡◌ {A = Result State HistoryError} (Ok n) (Ok (renewed m jobs)) = sym other ∙ one in
-    cc
+    ok_same n (renewed m jobs) (sym other ∙ one)
 
 -- of two texts that are compared
 pub alike_by : (m n : State) (text other : List ℕ) → bytes_eq text other ≡ true → ReadsBack m (history_said text) → ReadsBack n (history_said other) → ReadAlike m n
