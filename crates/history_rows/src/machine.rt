@@ -1,63 +1,61 @@
 //! The allocator of the rows.
 use crate::jobs::{jobs_of, many_jobs, number};
 use crate::outline::outline;
-use crate::readers::{READ, fault, history};
+use crate::readers::{READ, fault, history, some};
 use alloc_desk::reallocate;
-use allocation_core::{Answer, Core, JobSpec, NotRenewed, OpenError, RenewalError};
+use allocation_core::{Answer, Core, Event, JobSpec, NotRenewed, OpenError, RenewalError};
 use core_history::{read_history, write_history};
 use fleet_events::read_event;
 use lists::List;
 use price_certificate::{Instance, Plan, write_document};
 use std::alloc::{AllocError, Global};
 
-const NO_ALLOCATOR: &str = "no allocator";
-
 const NO_PART: &str = "no such part";
 
-/// The allocator, and one that was read from its history.
-#[derive(Drop)]
-pub(crate) struct Machine {
-    core: Option<Core>,
-    twin: Option<Core>,
-}
+/// The allocator.
+pub(crate) type Slot = Option<Core>;
 
-impl Machine {
-    pub(crate) fn new() -> Machine {
-        Machine {
-            core: None,
-            twin: None,
-        }
-    }
-
-    /// From now on this is the allocator.
-    fn begin(&mut self, core: Core) {
-        self.core = Some(core);
-        self.twin = None;
-    }
-}
-
-/// What a step comes to.
+/// What a step comes to. A twin is read from the allocator's history.
 pub(crate) fn stepped(
     alloc: Global,
-    machine: &mut Machine,
+    slot: &mut Slot,
+    twin: &mut Slot,
     step: &str,
     text: &str,
 ) -> Result<String, AllocError> {
     match step {
-        "open" => open(alloc, machine, jobs_of(alloc, text)?),
-        "renew" => renew(alloc, machine, jobs_of(alloc, text)?),
-        "renew_many" => renew(alloc, machine, many_jobs(alloc, number(text))?),
-        "read_changed" => read_changed(alloc, machine, text),
-        "twin" => twin(alloc, machine),
-        "compare" => compare(alloc, machine),
-        _ => told_by_all(alloc, machine, step, text),
+        "open" => {
+            *twin = None;
+            open(alloc, slot, jobs_of(alloc, text))
+        }
+        "renew" => renew(alloc, slot, jobs_of(alloc, text)),
+        "renew_many" => renew(alloc, slot, many_jobs(alloc, number(text))),
+        "read_changed" => read_changed(alloc, slot, text),
+        "twin" => read_twin(alloc, slot, twin),
+        "compare" => compare(alloc, slot, twin),
+        _ => told_by_all(alloc, slot, twin, step, text),
     }
 }
 
-fn open(alloc: Global, machine: &mut Machine, jobs: Vec<JobSpec>) -> Result<String, AllocError> {
-    match Core::open(alloc, jobs) {
+fn open(
+    alloc: Global,
+    slot: &mut Slot,
+    jobs: Result<Vec<JobSpec>, AllocError>,
+) -> Result<String, AllocError> {
+    match jobs {
+        Ok(jobs) => opened(alloc, slot, Core::open(alloc, jobs)),
+        Err(error) => Err(error),
+    }
+}
+
+fn opened(
+    alloc: Global,
+    slot: &mut Slot,
+    core: Result<Core, OpenError>,
+) -> Result<String, AllocError> {
+    match core {
         Ok(core) => {
-            machine.begin(core);
+            *slot = Some(core);
             String::from_str(alloc, "opened")
         }
         Err(error) => not_opened(alloc, error),
@@ -68,22 +66,36 @@ fn not_opened(alloc: Global, error: OpenError) -> Result<String, AllocError> {
     format!(in alloc; "{error:?}")
 }
 
-fn renew(alloc: Global, machine: &mut Machine, jobs: Vec<JobSpec>) -> Result<String, AllocError> {
-    match machine.core.take() {
-        Some(core) => {
-            let (core, refusal) = renewed(core, jobs);
-            machine.begin(core);
-            told_of_renewal(alloc, refusal)
-        }
-        None => String::from_str(alloc, NO_ALLOCATOR),
+fn renew(
+    alloc: Global,
+    slot: &mut Slot,
+    jobs: Result<Vec<JobSpec>, AllocError>,
+) -> Result<String, AllocError> {
+    match jobs {
+        Ok(jobs) => told_of_renewal(alloc, renew_under(slot, jobs)),
+        Err(error) => Err(error),
     }
 }
 
-/// The allocator under these jobs, or as it was.
-fn renewed(core: Core, jobs: Vec<JobSpec>) -> (Core, Option<RenewalError>) {
-    match core.renew(jobs) {
-        Ok(core) => (core, None),
-        Err(NotRenewed { core, why }) => (core, Some(why)),
+/// Why a renewal is refused. None where it is not.
+fn renew_under(slot: &mut Slot, jobs: Vec<JobSpec>) -> Option<RenewalError> {
+    match slot.take() {
+        Some(core) => put(slot, core.renew(jobs)),
+        None => None,
+    }
+}
+
+/// The allocator under other jobs, or as it was.
+fn put(slot: &mut Slot, renewed: Result<Core, NotRenewed>) -> Option<RenewalError> {
+    match renewed {
+        Ok(core) => {
+            *slot = Some(core);
+            None
+        }
+        Err(NotRenewed { core, why }) => {
+            *slot = Some(core);
+            Some(why)
+        }
     }
 }
 
@@ -97,33 +109,36 @@ fn told_of_renewal(alloc: Global, refusal: Option<RenewalError>) -> Result<Strin
 /// What the allocator says, and its twin where there is one.
 fn told_by_all(
     alloc: Global,
-    machine: &mut Machine,
+    slot: &mut Slot,
+    twin: &mut Slot,
     step: &str,
     text: &str,
 ) -> Result<String, AllocError> {
-    match (machine.core.as_mut(), machine.twin.as_mut()) {
-        (Some(core), Some(twin)) => told_by_both(alloc, core, twin, step, text),
-        (Some(core), None) => told(alloc, core, step, text),
-        _ => String::from_str(alloc, NO_ALLOCATOR),
+    match told_by(alloc, slot, step, text) {
+        Ok(one) => with_other(alloc, one, told_by(alloc, twin, step, text)),
+        Err(error) => Err(error),
     }
 }
 
-fn told_by_both(
-    alloc: Global,
-    core: &mut Core,
-    twin: &mut Core,
-    step: &str,
-    text: &str,
-) -> Result<String, AllocError> {
-    let one = told(alloc, core, step, text)?;
-    with_other(alloc, one.as_str(), told(alloc, twin, step, text)?)
+/// Empty where there is no allocator.
+fn told_by(alloc: Global, slot: &mut Slot, step: &str, text: &str) -> Result<String, AllocError> {
+    match slot {
+        Some(core) => told(alloc, core, step, text),
+        None => Ok(String::new(alloc)),
+    }
 }
 
-fn with_other(alloc: Global, one: &str, other: String) -> Result<String, AllocError> {
-    if one == other.as_str() {
-        Ok(other)
-    } else {
-        format!(in alloc; "{one}, but {other}")
+fn with_other(
+    alloc: Global,
+    one: String,
+    other: Result<String, AllocError>,
+) -> Result<String, AllocError> {
+    match other {
+        Ok(other) if !other.is_empty() && other.as_str() != one.as_str() => {
+            format!(in alloc; "{one}, but {other}")
+        }
+        Ok(_) => Ok(one),
+        Err(error) => Err(error),
     }
 }
 
@@ -131,13 +146,41 @@ fn told(alloc: Global, core: &mut Core, step: &str, text: &str) -> Result<String
     match step {
         "apply" => applied(alloc, core, text),
         "join_many" => join_many(alloc, core, number(text)),
-        "reallocate" => line_of(alloc, reallocate(alloc, core)?),
+        "reallocate" => reallocated(alloc, core),
         "outline" => outline(alloc, core),
         "sizes" => sizes(alloc, core),
-        "instance" => document_of(alloc, &core.instance()?),
-        "write" => Ok(write_history(alloc, core)?.into_string()),
-        "changed" => changed(alloc, write_history(alloc, core)?.as_str(), text),
+        "instance" => instance(alloc, core),
+        "write" => written(alloc, core),
+        "changed" => changed(alloc, core, text),
         _ => String::from_str(alloc, "no reader"),
+    }
+}
+
+fn reallocated(alloc: Global, core: &mut Core) -> Result<String, AllocError> {
+    match reallocate(alloc, core) {
+        Ok(answer) => line_of(alloc, answer),
+        Err(error) => Err(error),
+    }
+}
+
+fn instance(alloc: Global, core: &Core) -> Result<String, AllocError> {
+    match core.instance() {
+        Ok(instance) => document_of(alloc, &instance),
+        Err(error) => Err(error),
+    }
+}
+
+fn written(alloc: Global, core: &Core) -> Result<String, AllocError> {
+    match write_history(alloc, core) {
+        Ok(line) => Ok(line.into_string()),
+        Err(error) => Err(error),
+    }
+}
+
+fn changed(alloc: Global, core: &Core, text: &str) -> Result<String, AllocError> {
+    match written(alloc, core) {
+        Ok(line) => changed_in(alloc, line.as_str(), text),
+        Err(error) => Err(error),
     }
 }
 
@@ -146,9 +189,17 @@ fn line_of(alloc: Global, answer: Answer) -> Result<String, AllocError> {
 }
 
 fn applied(alloc: Global, core: &mut Core, text: &str) -> Result<String, AllocError> {
-    match read_event(alloc, text.as_bytes())? {
-        Some(event) => line_of(alloc, core.apply(event)?),
-        None => String::from_str(alloc, "no event"),
+    match read_event(alloc, text.as_bytes()) {
+        Ok(Some(event)) => answered(alloc, core, event),
+        Ok(None) => String::from_str(alloc, "no event"),
+        Err(error) => Err(error),
+    }
+}
+
+fn answered(alloc: Global, core: &mut Core, event: Event) -> Result<String, AllocError> {
+    match core.apply(event) {
+        Ok(answer) => line_of(alloc, answer),
+        Err(error) => Err(error),
     }
 }
 
@@ -173,8 +224,10 @@ fn push_join(
 }
 
 fn joined(alloc: Global, core: &mut Core, number: usize) -> Result<String, AllocError> {
-    let line = format!(in alloc; "{{\"event\":\"join\",\"name\":\"n{number}\",\"reach\":[]}}")?;
-    applied(alloc, core, line.as_str())
+    match format!(in alloc; "{{\"event\":\"join\",\"name\":\"n{number}\",\"reach\":[]}}") {
+        Ok(line) => applied(alloc, core, line.as_str()),
+        Err(error) => Err(error),
+    }
 }
 
 fn sizes(alloc: Global, core: &Core) -> Result<String, AllocError> {
@@ -190,102 +243,106 @@ fn document_of(alloc: Global, instance: &Instance) -> Result<String, AllocError>
         item_prices: List::new(alloc),
         bin_prices: List::new(alloc),
     };
-    text_of(alloc, write_document(alloc, instance, &nothing)?)
+    text_of(alloc, write_document(alloc, instance, &nothing))
 }
 
-fn text_of(alloc: Global, bytes: Vec<u8>) -> Result<String, AllocError> {
-    match String::from_utf8(bytes) {
-        Ok(text) => Ok(text),
-        Err(_) => String::from_str(alloc, "no text"),
+fn text_of(alloc: Global, bytes: Result<Vec<u8>, AllocError>) -> Result<String, AllocError> {
+    match bytes {
+        Ok(bytes) => match String::from_utf8(bytes) {
+            Ok(text) => Ok(text),
+            Err(_) => String::from_str(alloc, "no text"),
+        },
+        Err(error) => Err(error),
     }
 }
 
 /// Whether a history is read with one part changed, or two.
-fn changed(alloc: Global, line: &str, text: &str) -> Result<String, AllocError> {
+fn changed_in(alloc: Global, line: &str, text: &str) -> Result<String, AllocError> {
     match text.split_once(" and ") {
-        Some((change, other)) => match exchanged(alloc, line, change)? {
-            Some(line) => changed_once(alloc, line.as_str(), other),
-            None => String::from_str(alloc, NO_PART),
-        },
+        Some((change, other)) => changed_twice(alloc, exchanged(alloc, line, change), other),
         None => changed_once(alloc, line, text),
     }
 }
 
+fn changed_twice(
+    alloc: Global,
+    line: Result<Option<String>, AllocError>,
+    change: &str,
+) -> Result<String, AllocError> {
+    match line {
+        Ok(Some(line)) => changed_once(alloc, line.as_str(), change),
+        Ok(None) => String::from_str(alloc, NO_PART),
+        Err(error) => Err(error),
+    }
+}
+
 fn changed_once(alloc: Global, line: &str, change: &str) -> Result<String, AllocError> {
-    match exchanged(alloc, line, change)? {
-        Some(line) => history(alloc, line.as_bytes()),
-        None => String::from_str(alloc, NO_PART),
+    match exchanged(alloc, line, change) {
+        Ok(Some(line)) => history(alloc, line.as_bytes()),
+        Ok(None) => String::from_str(alloc, NO_PART),
+        Err(error) => Err(error),
     }
 }
 
 /// The line with another part in place of the first such. None where there is none.
 fn exchanged(alloc: Global, line: &str, change: &str) -> Result<Option<String>, AllocError> {
     match change.split_once(" => ") {
-        Some((part, other)) if line.contains(part) => {
-            Ok(Some(line.replacen(alloc, part, other, 1)?))
-        }
+        Some((part, other)) if line.contains(part) => some(line.replacen(alloc, part, other, 1)),
         _ => Ok(None),
     }
 }
 
-fn read_changed(alloc: Global, machine: &mut Machine, change: &str) -> Result<String, AllocError> {
-    match changed_history(alloc, machine, change)? {
-        Some(line) => go_on_from(alloc, machine, line.as_str()),
-        None => String::from_str(alloc, NO_PART),
+fn read_changed(alloc: Global, slot: &mut Slot, change: &str) -> Result<String, AllocError> {
+    match changed_history(alloc, slot, change) {
+        Ok(Some(line)) => read_into(alloc, slot, line.as_str()),
+        Ok(None) => String::from_str(alloc, NO_PART),
+        Err(error) => Err(error),
     }
 }
 
-fn changed_history(
-    alloc: Global,
-    machine: &Machine,
-    change: &str,
-) -> Result<Option<String>, AllocError> {
-    match machine.core.as_ref() {
-        Some(core) => exchanged(alloc, write_history(alloc, core)?.as_str(), change),
-        None => Ok(None),
+fn changed_history(alloc: Global, slot: &Slot, change: &str) -> Result<Option<String>, AllocError> {
+    match history_of(alloc, slot) {
+        Ok(line) => exchanged(alloc, line.as_str(), change),
+        Err(error) => Err(error),
     }
 }
 
-fn go_on_from(alloc: Global, machine: &mut Machine, line: &str) -> Result<String, AllocError> {
+/// Empty where there is no allocator.
+fn history_of(alloc: Global, slot: &Slot) -> Result<String, AllocError> {
+    match slot {
+        Some(core) => written(alloc, core),
+        None => Ok(String::new(alloc)),
+    }
+}
+
+fn outline_of(alloc: Global, slot: &Slot) -> Result<String, AllocError> {
+    match slot {
+        Some(core) => outline(alloc, core),
+        None => Ok(String::new(alloc)),
+    }
+}
+
+/// From now on the allocator is that of the line.
+fn read_into(alloc: Global, slot: &mut Slot, line: &str) -> Result<String, AllocError> {
     match read_history(alloc, line.as_bytes()) {
         Ok(core) => {
-            machine.begin(core);
+            *slot = Some(core);
             String::from_str(alloc, READ)
         }
         Err(error) => fault(alloc, error),
     }
 }
 
-fn twin(alloc: Global, machine: &mut Machine) -> Result<String, AllocError> {
-    match machine.core.as_ref() {
-        Some(core) => {
-            let line = write_history(alloc, core)?;
-            read_twin(alloc, &mut machine.twin, line.as_str())
-        }
-        None => String::from_str(alloc, NO_ALLOCATOR),
+fn read_twin(alloc: Global, slot: &Slot, twin: &mut Slot) -> Result<String, AllocError> {
+    match history_of(alloc, slot) {
+        Ok(line) => read_into(alloc, twin, line.as_str()),
+        Err(error) => Err(error),
     }
 }
 
-fn read_twin(alloc: Global, twin: &mut Option<Core>, line: &str) -> Result<String, AllocError> {
-    match read_history(alloc, line.as_bytes()) {
-        Ok(core) => {
-            *twin = Some(core);
-            String::from_str(alloc, READ)
-        }
-        Err(error) => fault(alloc, error),
-    }
-}
-
-fn compare(alloc: Global, machine: &Machine) -> Result<String, AllocError> {
-    match (machine.core.as_ref(), machine.twin.as_ref()) {
-        (Some(core), Some(twin)) => compared(alloc, core, twin),
-        _ => String::from_str(alloc, NO_ALLOCATOR),
-    }
-}
-
-fn compared(alloc: Global, core: &Core, twin: &Core) -> Result<String, AllocError> {
-    let outlines = is_outlined(alloc, twin, outline(alloc, core)?)?;
-    let histories = is_written(alloc, twin, write_history(alloc, core)?.into_string())?;
+fn compare(alloc: Global, slot: &Slot, twin: &Slot) -> Result<String, AllocError> {
+    let outlines = are_same(outline_of(alloc, slot), outline_of(alloc, twin));
+    let histories = are_same(history_of(alloc, slot), history_of(alloc, twin));
     String::from_str(
         alloc,
         match (outlines, histories) {
@@ -297,10 +354,9 @@ fn compared(alloc: Global, core: &Core, twin: &Core) -> Result<String, AllocErro
     )
 }
 
-fn is_outlined(alloc: Global, core: &Core, wanted: String) -> Result<bool, AllocError> {
-    Ok(outline(alloc, core)?.as_str() == wanted.as_str())
-}
-
-fn is_written(alloc: Global, core: &Core, wanted: String) -> Result<bool, AllocError> {
-    Ok(write_history(alloc, core)?.as_str() == wanted.as_str())
+fn are_same(one: Result<String, AllocError>, other: Result<String, AllocError>) -> bool {
+    match (one, other) {
+        (Ok(one), Ok(other)) => one.as_str() == other.as_str(),
+        _ => false,
+    }
 }

@@ -19,7 +19,7 @@ mod machine;
 mod outline;
 mod readers;
 
-use machine::{Machine, stepped};
+use machine::{Slot, stepped};
 use readers::said;
 use std::alloc::{AllocError, Global};
 use std::io::Read;
@@ -53,45 +53,58 @@ fn written(alloc: Global, name: Option<&str>, bytes: &[u8]) -> Result<Option<Str
 
 /// The rows with their answers.
 fn table(alloc: Global, rows: &str) -> Result<String, AllocError> {
+    let mut slot = None;
+    let mut twin = None;
+    filled(alloc, &mut slot, &mut twin, rows)
+}
+
+fn filled(
+    alloc: Global,
+    slot: &mut Slot,
+    twin: &mut Slot,
+    rows: &str,
+) -> Result<String, AllocError> {
     let mut table = String::new(alloc);
-    let mut machine = Machine::new();
     for row in rows.lines() {
-        push_row(alloc, &mut table, &mut machine, row)?;
+        push_row(&mut table, row)?;
+        if is_asked(row) {
+            push_answer(&mut table, answer_to(alloc, slot, twin, row))?;
+        }
     }
     Ok(table)
 }
 
-fn push_row(
-    alloc: Global,
-    table: &mut String,
-    machine: &mut Machine,
-    row: &str,
-) -> Result<(), AllocError> {
+fn push_row(table: &mut String, row: &str) -> Result<(), AllocError> {
     if !table.is_empty() {
         table.push_str("\n")?;
     }
-    table.push_str(row)?;
-    if row.is_empty() || row.starts_with('#') {
-        return Ok(());
+    table.push_str(row)
+}
+
+fn is_asked(row: &str) -> bool {
+    !row.is_empty() && !row.starts_with('#')
+}
+
+fn push_answer(table: &mut String, answer: Result<String, AllocError>) -> Result<(), AllocError> {
+    match answer {
+        Ok(answer) => {
+            table.push_str(" = ")?;
+            table.push_str(answer.as_str())
+        }
+        Err(error) => Err(error),
     }
-    table.push_str(" = ")?;
-    push_answer(alloc, table, machine, row)
 }
 
-fn push_answer(
+fn answer_to(
     alloc: Global,
-    table: &mut String,
-    machine: &mut Machine,
+    slot: &mut Slot,
+    twin: &mut Slot,
     row: &str,
-) -> Result<(), AllocError> {
-    let answer = answer_to(alloc, machine, row)?;
-    table.push_str(answer.as_str())
-}
-
-fn answer_to(alloc: Global, machine: &mut Machine, row: &str) -> Result<String, AllocError> {
+) -> Result<String, AllocError> {
     let (reader, text) = row.split_once(' ').unwrap_or((row, ""));
-    match said(alloc, reader, text.as_bytes())? {
-        Some(answer) => Ok(answer),
-        None => stepped(alloc, machine, reader, text),
+    match said(alloc, reader, text.as_bytes()) {
+        Ok(Some(answer)) => Ok(answer),
+        Ok(None) => stepped(alloc, slot, twin, reader, text),
+        Err(error) => Err(error),
     }
 }

@@ -1,6 +1,7 @@
 //! Readers of events, histories and journals.
 use core_history::{HistoryError, read_history};
 use fleet_events::read_event;
+use lists::Text;
 use replay_lines::{Ended, replay, resume};
 use std::alloc::{AllocError, Global};
 
@@ -8,21 +9,35 @@ pub(crate) const READ: &str = "read";
 
 /// What the reader of a name says of the bytes. None where there is no such reader.
 pub(crate) fn said(alloc: Global, name: &str, bytes: &[u8]) -> Result<Option<String>, AllocError> {
-    let line = match name {
-        "event" => event(alloc, bytes),
-        "history" => history(alloc, bytes),
-        "journal" => journal(alloc, bytes),
-        "replay" => replayed(alloc, bytes),
-        _ => return Ok(None),
-    };
-    Ok(Some(line?))
+    match name {
+        "event" => some(event(alloc, bytes)),
+        "history" => some(history(alloc, bytes)),
+        "journal" => some(journal(alloc, bytes)),
+        "replay" => some(replayed(alloc, bytes)),
+        _ => Ok(None),
+    }
+}
+
+pub(crate) fn some(line: Result<String, AllocError>) -> Result<Option<String>, AllocError> {
+    match line {
+        Ok(line) => Ok(Some(line)),
+        Err(error) => Err(error),
+    }
 }
 
 /// An event in its written form.
 fn event(alloc: Global, bytes: &[u8]) -> Result<String, AllocError> {
-    match read_event(alloc, bytes)? {
-        Some(event) => Ok(event.to_json(alloc)?.into_string()),
-        None => String::from_str(alloc, "no event"),
+    match read_event(alloc, bytes) {
+        Ok(Some(event)) => text_of(event.to_json(alloc)),
+        Ok(None) => String::from_str(alloc, "no event"),
+        Err(error) => Err(error),
+    }
+}
+
+fn text_of(line: Result<Text, AllocError>) -> Result<String, AllocError> {
+    match line {
+        Ok(line) => Ok(line.into_string()),
+        Err(error) => Err(error),
     }
 }
 
@@ -43,23 +58,28 @@ pub(crate) fn fault(alloc: Global, error: HistoryError) -> Result<String, AllocE
 
 /// How many events the allocator took that a journal leads to.
 fn journal(alloc: Global, bytes: &[u8]) -> Result<String, AllocError> {
-    match resume(alloc, bytes)? {
-        Ok(resumed) => {
-            let events = resumed.events;
-            format!(in alloc; "read {events}")
-        }
-        Err(damage) => {
-            let line = damage.line;
-            format!(in alloc; "damaged at {line}")
-        }
+    match events_in(alloc, bytes) {
+        Ok(Ok(events)) => format!(in alloc; "read {events}"),
+        Ok(Err(line)) => format!(in alloc; "damaged at {line}"),
+        Err(error) => Err(error),
+    }
+}
+
+/// How many events, or the damaged line.
+fn events_in(alloc: Global, bytes: &[u8]) -> Result<Result<u64, u64>, AllocError> {
+    match resume(alloc, bytes) {
+        Ok(Ok(resumed)) => Ok(Ok(resumed.events)),
+        Ok(Err(damage)) => Ok(Err(damage.line)),
+        Err(error) => Err(error),
     }
 }
 
 /// Whether all events of a journal are answered.
 fn replayed(alloc: Global, bytes: &[u8]) -> Result<String, AllocError> {
     let mut text = Vec::new(alloc);
-    match replay(alloc, bytes, &mut text)? {
-        Ended::Done => String::from_str(alloc, READ),
-        Ended::Unreadable => String::from_str(alloc, "unreadable"),
+    match replay(alloc, bytes, &mut text) {
+        Ok(Ended::Done) => String::from_str(alloc, READ),
+        Ok(Ended::Unreadable) => String::from_str(alloc, "unreadable"),
+        Err(_) => Err(AllocError),
     }
 }
