@@ -58,12 +58,8 @@ fn opened(
             *slot = Some(core);
             String::from_str(alloc, "opened")
         }
-        Err(error) => not_opened(alloc, error),
+        Err(_) => String::from_str(alloc, "not opened"),
     }
-}
-
-fn not_opened(alloc: Global, error: OpenError) -> Result<String, AllocError> {
-    format!(in alloc; "{error:?}")
 }
 
 fn renew(
@@ -100,10 +96,14 @@ fn put(slot: &mut Slot, renewed: Result<Core, NotRenewed>) -> Option<RenewalErro
 }
 
 fn told_of_renewal(alloc: Global, refusal: Option<RenewalError>) -> Result<String, AllocError> {
-    match refusal {
-        Some(why) => format!(in alloc; "{why:?}"),
-        None => String::from_str(alloc, "renewed"),
-    }
+    let told = match refusal {
+        Some(RenewalError::BadJobs) => "BadJobs",
+        Some(RenewalError::TooManyBins) => "TooManyBins",
+        Some(RenewalError::RoundsSpent) => "RoundsSpent",
+        Some(RenewalError::Memory) => return Err(AllocError),
+        None => "renewed",
+    };
+    String::from_str(alloc, told)
 }
 
 /// What the allocator says, and its twin where there is one.

@@ -50,10 +50,18 @@ pub(crate) fn history(alloc: Global, bytes: &[u8]) -> Result<String, AllocError>
 
 /// The name of what is said against a history.
 pub(crate) fn fault(alloc: Global, error: HistoryError) -> Result<String, AllocError> {
-    match error {
-        HistoryError::Memory => Err(AllocError),
-        fault => format!(in alloc; "{fault:?}"),
-    }
+    let name = match error {
+        HistoryError::Shape => "Shape",
+        HistoryError::BadJobs => "BadJobs",
+        HistoryError::BadTargets => "BadTargets",
+        HistoryError::BadLists => "BadLists",
+        HistoryError::BadCollectors => "BadCollectors",
+        HistoryError::RepeatedTarget => "RepeatedTarget",
+        HistoryError::BadAllocation => "BadAllocation",
+        HistoryError::BadRound => "BadRound",
+        HistoryError::Memory => return Err(AllocError),
+    };
+    String::from_str(alloc, name)
 }
 
 /// How many events the allocator took that a journal leads to.
