@@ -8,6 +8,7 @@ use alloc_desk::{Desk, DeskName, Pass, Reallocated, reallocate};
 use allocation_core::{Answer, Core, Event, Refusal};
 use core_history::{read_history, write_history};
 use fleet_events::read_event;
+use lists::Text;
 use std::alloc::{AllocError, Global};
 use std::marker::Brand;
 use std::sync::Wait;
@@ -62,14 +63,14 @@ reallocate
 reallocate"#;
 
 /// So many of the lines, in some order.
-fn picked(alloc: Global, random: &mut Random) -> Result<String, AllocError> {
+fn picked(alloc: Global, random: &mut Random) -> Result<Text, AllocError> {
     let count = LINES.lines().count() as u32;
     let mut text = String::new(alloc);
     for _ in 0..EVENTS {
         let place = random.below(count) as usize;
         push_line(&mut text, LINES.lines().nth(place).unwrap_or(""))?;
     }
-    Ok(text)
+    Ok(Text::from_string(text))
 }
 
 fn push_line(text: &mut String, line: &str) -> Result<(), AllocError> {
@@ -102,7 +103,7 @@ fn next<R: Wait>(
     random: &mut Random,
 ) -> Option<Core> {
     match (core, picked(alloc, random)) {
-        (Some(core), Ok(lines)) => over_lines(rt, alloc, core, jobs, lines.as_str()),
+        (Some(core), Ok(lines)) => over_lines(rt, alloc, core, jobs, &lines),
         _ => None,
     }
 }
@@ -112,7 +113,7 @@ fn over_lines<R: Wait>(
     alloc: Global,
     core: Core,
     jobs: &[Job],
-    lines: &str,
+    lines: &Text,
 ) -> Option<Core> {
     match renewed(alloc, core, jobs) {
         Some(core) => by_desk_and_without(rt, alloc, core, lines),
@@ -120,7 +121,7 @@ fn over_lines<R: Wait>(
     }
 }
 
-fn by_desk_and_without<R: Wait>(rt: &R, alloc: Global, core: Core, lines: &str) -> Option<Core> {
+fn by_desk_and_without<R: Wait>(rt: &R, alloc: Global, core: Core, lines: &Text) -> Option<Core> {
     let history = write_history(alloc, &core);
     let ended = one_desk::<Brand, Brand, Brand, R>(
         rt,
@@ -132,7 +133,7 @@ fn by_desk_and_without<R: Wait>(rt: &R, alloc: Global, core: Core, lines: &str) 
     );
     match (ended, history) {
         (Some((core, said)), Ok(history)) => {
-            is_as_without(alloc, core, history.as_str(), lines, said.as_str())
+            is_as_without(alloc, core, history.as_str(), lines.as_str(), said.as_str())
         }
         _ => None,
     }
@@ -214,7 +215,7 @@ fn one_desk<L: Ledger, B: Ledger, N: DeskName, R: Wait>(
     rt: &R,
     alloc: Global,
     core: Core,
-    lines: &str,
+    lines: &Text,
     calls: Blank,
     samples: Blank,
 ) -> Option<(Core, String)>
@@ -223,7 +224,7 @@ fn one_desk<L: Ledger, B: Ledger, N: DeskName, R: Wait>(
     requires samples { (samples.name ≡ B.name) × (samples.parts ≡ B.parts) × (B.parts ≡ 1) }
 {
     match Desk::<L, B, N>::open(alloc, core, 1, calls, samples) {
-        Ok((desk, passes)) => over_desk(rt, alloc, desk, passes, lines),
+        Ok((desk, passes)) => over_desk(rt, alloc, desk, passes, lines.as_str()),
         Err(_) => None,
     }
 }
