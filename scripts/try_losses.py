@@ -156,7 +156,7 @@ for name, text in (
     ("a note without a line feed", b"the journal is on the other volume"),
     ("a note", b"the journal is on the other volume\nask Ann\n"),
 ):
-    @row(f"--journal on {name}: refused by name, and nothing is touched", later=True, text=text)
+    @row(f"--journal on {name}: refused by name, and nothing is touched", text=text)
     def on_another(folder, text):
         write(f"{folder}/c.json", GOOD)
         write(f"{folder}/precious", text)
@@ -170,12 +170,12 @@ def same_file(folder, make, inside=False):
     return ends_with(folder, words, 2, "same[\\s\\S]*configuration|configuration[\\s\\S]*same")
 
 
-row("configuration and journal one file, by a symbolic link: refused by name", later=True, make=lambda at, link: os.symlink("c.json", link))(same_file)
-row("configuration and journal one file, by a hard link: refused by name", later=True, make=os.link)(same_file)
-row("configuration and journal one file, by the settings and a link: refused by name", later=True, make=os.link, inside=True)(same_file)
+row("configuration and journal one file, by a symbolic link: refused by name", make=lambda at, link: os.symlink("c.json", link))(same_file)
+row("configuration and journal one file, by a hard link: refused by name", make=os.link)(same_file)
+row("configuration and journal one file, by the settings and a link: refused by name", make=os.link, inside=True)(same_file)
 
 
-@row("configuration and journal one file, by one name: refused by name", later=True)
+@row("configuration and journal one file, by one name: refused by name")
 def one_name(folder):
     write(f"{folder}/c.json", GOOD)
     return ends_with(folder, words_of(folder, "./c.json", free_port()), 2, "c\\.json")
@@ -285,7 +285,7 @@ def audited(folder):
     return run(["audit", *(f"{folder}/{one}" for one in [*old, "journal"])])
 
 
-@row("a write fails while a reload waits for a source: nothing is begun behind it, and the files are audited well after a start", later=True)
+@row("a write fails while a reload waits for a source: nothing is begun behind it, and the files are audited well after a start")
 def broken_reload(folder):
     source = Source()
     document = source.config()
@@ -346,7 +346,7 @@ def gives_up(folder):
         return (lives, status) == (503, 3), f"/livez {lives}, status {status}"
 
 
-@row("a journal that is deleted while it runs: nothing is answered as done", later=True)
+@row("a journal that is deleted while it runs: nothing is answered as done")
 def deleted(folder):
     with served(folder) as it:
         it.published()
@@ -356,7 +356,7 @@ def deleted(folder):
         return said[0] != 200, said
 
 
-@row("a journal behind a symbolic link: a renewal's files are beside its goal, and the link stays", later=True)
+@row("a journal behind a symbolic link: a renewal's files are beside its goal, and the link stays")
 def linked(folder):
     os.mkdir(f"{folder}/volume")
     os.symlink("volume/journal", f"{folder}/journal")
@@ -369,21 +369,21 @@ def linked(folder):
         return os.path.islink(f"{folder}/journal") and {"journal", "journal.1"} <= set(found), f"link {os.path.islink(it.journal)}, on the volume {found}"
 
 
-@row("a FIFO as the journal: refused by name", later=True)
+@row("a FIFO as the journal: refused by name")
 def fifo(folder):
     write(f"{folder}/c.json", GOOD)
     os.mkfifo(f"{folder}/pipe")
     return ends_with(folder, words_of(folder, "pipe", free_port()), 2, "pipe")
 
 
-@row("a folder as the journal: refused by name, and nothing is made", later=True)
+@row("a folder as the journal: refused by name, and nothing is made")
 def a_folder(folder):
     write(f"{folder}/c.json", GOOD)
     os.mkdir(f"{folder}/volume")
     return ends_with(folder, words_of(folder, "volume", free_port()), 2, "volume")
 
 
-@row("journal and lock may be read by their owner alone", later=True)
+@row("journal and lock may be read by their owner alone")
 def modes(folder):
     with served(folder, prepare=lambda: os.umask(0o022)) as it:
         found = {one: oct(os.stat(f"{folder}/{one}").st_mode & 0o777) for one in ("journal", "journal.lock")}
@@ -400,7 +400,7 @@ def refused(folder):
         return said[0] in (400, 409) and os.path.getsize(it.journal) == size, f"{said}, {os.path.getsize(it.journal) - size} bytes"
 
 
-@row("a second start enters no static group again that is what the history has", later=True)
+@row("a second start enters no static group again that is what the history has")
 def again(folder):
     found = []
     for _ in range(2):
@@ -456,7 +456,7 @@ def hanging(folder):
 # Ready.
 
 
-@row("it is not ready while the first source has not answered", later=True)
+@row("it is not ready while the first source has not answered")
 def ready_early(folder):
     source = Source()
     source.goes_on.clear()
@@ -470,7 +470,7 @@ def ready_early(folder):
         return set(found) == {503} and comes(lambda: it.ask("GET", "/-/ready")[0] == 200, 5), found
 
 
-@row("the first list of one that waited for it to be ready is not empty", later=True)
+@row("the first list of one that waited for it to be ready is not empty")
 def ready_empty(folder):
     source = Source()
     with served(folder, source.config(settle="500ms"), up=False) as it:
@@ -697,7 +697,7 @@ def unread_stderr(folder):
         os.close(written)
 
 
-@row("too few descriptors: said at the start, or refused", later=True)
+@row("too few descriptors: said at the start, or refused")
 def few_descriptors(folder):
     def few():
         resource.setrlimit(resource.RLIMIT_NOFILE, (200, 200))
