@@ -911,7 +911,7 @@ def slow_source(folder):
     service = Service(folder, config=config)
     service.is_up()
     tell("a source that trickles fails after fetch_timeout", waits_for(service.port, 'allocd_refresh_failures_total{source="slow/1"} 1'))
-    tell("others go on", ask(service.port, "GET", "/-/ready")[0] == 200 and waits_for(service.port, "allocd_allocation 1"))
+    tell("others go on", waits_for(service.port, "allocd_allocation 1") and comes(lambda: ask(service.port, "GET", "/-/ready")[0] == 200))
     tell("ends", service.quit() == (200, 0))
     source.shutdown()
 
