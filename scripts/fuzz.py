@@ -129,7 +129,7 @@ def main():
             found += bool(why)
             if why:
                 keep(name, f"seed{number}", text, why)
-    for program in READERS:
+    for program in sorted({PROGRAMS[name] for name in names}):
         if run(program, "none", b"")[0] != "status 2":
             found += 1
             print(f"NOT: {program}: an unknown name has another status than 2")
