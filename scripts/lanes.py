@@ -49,9 +49,18 @@ class ScriptJob:
         return self
 
     def run(self, work):
+        """Tries it, and once more where something failed: a busy machine may hold a service up. What fails twice has failed."""
+        found = self.outcomes(work)
+        if any(faults for _, faults in found) and not work.is_over:
+            found = self.outcomes(work)
+        for name, faults in found:
+            work.tell(self.group, name, faults)
+
+    def outcomes(self, work):
+        """What was tried, each with what is wrong with it, or None."""
         environment = {**os.environ, "ALLOCD_PROGRAM": work.program, "TMPDIR": work.room, "PYTHONDONTWRITEBYTECODE": "1"}
         how = {"env": environment, "stdin": subprocess.DEVNULL, "stdout": subprocess.PIPE, "stderr": subprocess.STDOUT}
-        more, failed = [], 0
+        more, found = [], []
         with work.started(self.words, SCRIPT_SECONDS, **how) as it:
             for line in it.stdout:
                 line = line.decode(errors="replace").rstrip("\n")
@@ -59,11 +68,11 @@ class ScriptJob:
                 if kind not in ("ok", "NOT", "WRONG"):
                     more = [*more[-7:], line]
                     continue
-                failed += kind != "ok"
-                work.tell(self.group, f"{self.name}: {what}", None if kind == "ok" else more)
+                found.append((f"{self.name}: {what}", None if kind == "ok" else more or ["it does not hold"]))
                 more = []
-        if it.returncode and not failed and not work.is_over:
-            work.tell(self.group, self.name, [*more, f"ended with status {it.returncode}"])
+        if it.returncode and not any(faults for _, faults in found):
+            found.append((self.name, [*more, f"ended with status {it.returncode}"]))
+        return found
 
 
 class Started:
