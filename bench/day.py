@@ -80,12 +80,12 @@ def is_whole(data):
 
 
 def take(name):
-    return f"GET /jobs/node/targets?collector_id={name} HTTP/1.1\r\nhost: a\r\n\r\n".encode()
+    return f"GET /jobs/node/targets?collector_id={name} HTTP/1.1\r\nhost: localhost\r\n\r\n".encode()
 
 
 def report(collector, number, target, round_):
     body = f'{{"collector":{collector},"number":{number},"target":{target},"round":{round_},"up":true,"samples":900}}'
-    return f"POST /reports HTTP/1.1\r\nhost: a\r\ncontent-type: application/json\r\ncontent-length: {len(body)}\r\n\r\n{body}".encode()
+    return f"POST /reports HTTP/1.1\r\nhost: localhost\r\ncontent-type: application/json\r\ncontent-length: {len(body)}\r\n\r\n{body}".encode()
 
 
 def round_of(port, ids, done, lock):

@@ -3,6 +3,7 @@
 
 It needs the program (ALLOCD_PROGRAM, or dist/allocd)."""
 
+import hashlib
 import http.client
 import http.server
 import json
@@ -66,6 +67,19 @@ CONFIG = {
 }
 
 
+def sealed(lines):
+    """The lines with their digests, each of the digest before it and of the line."""
+    digest = b"0" * 16
+    for line in lines:
+        digest = hashlib.sha256(digest + line).hexdigest()[:16].encode()
+        yield line + b' "' + digest + b'"\n'
+
+
+def plain(file):
+    """A file's lines without their digests."""
+    return [line.rpartition(b' "')[0] for line in file.read().splitlines()]
+
+
 def long_journals(folder):
     """Journals as the service writes them, of takes and of reports: its own beginning, and behind it so many lines more."""
     journal = f"{folder}/journal"
@@ -75,18 +89,18 @@ def long_journals(folder):
     it.kill()
     it.wait()
     with open(journal, "rb") as file:
-        front = file.read()
-    take = b'{"event":"take","collector":1}\n'
-    report = '{{"event":"report","collector":1,"number":1,"target":{},"round":{},"up":true,"samples":900}}\n'
+        front = plain(file)
+    take = b'{"event":"take","collector":1}'
+    report = '{{"event":"report","collector":1,"number":1,"target":{},"round":{},"up":true,"samples":900}}'
     lines = [take]
     for i in range(EVENTS):
         if i % 65 == 64:
-            lines.append(b'{"event":"round"}\n')
+            lines.append(b'{"event":"round"}')
         else:
             lines.append(report.format(i % 65, i // 65 + 1).encode())
-    for name, text in (("takes", take * EVENTS), ("a round of reports, and the next round", b"".join(lines))):
+    for name, more in (("takes", [take] * EVENTS), ("a round of reports, and the next round", lines)):
         with open(journal, "wb") as file:
-            file.write(front + text)
+            file.writelines(sealed(front + more))
         it, port, seconds = started(folder, CONFIG, journal)
         total = next(line for line in get(port, "/metrics").split("\n") if line.startswith("allocd_samples_booked_total"))
         print(f"| {name} | {os.path.getsize(journal) / 1e6:.0f} | {seconds:.2f} | {EVENTS / seconds / 1e6:.2f} | {megabytes(it)} | {total.split()[1]} |", flush=True)

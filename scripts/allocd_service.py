@@ -51,7 +51,8 @@ def ask(port, method, path, body=None, seconds=60):
     """The status and the text of an answer, or CLOSED."""
     it = http.client.HTTPConnection("127.0.0.1", port, timeout=seconds)
     try:
-        it.request(method, path, body=json.dumps(body) if isinstance(body, (dict, list)) else body)
+        headers = {} if body is None else {"content-type": "application/json"}
+        it.request(method, path, body=json.dumps(body) if isinstance(body, (dict, list)) else body, headers=headers)
         said = it.getresponse()
         return said.status, said.read().decode()
     except (http.client.HTTPException, ConnectionError):
@@ -92,13 +93,17 @@ def lines_of(journal):
     return text[: text.rfind(b"\n") + 1]
 
 
+def events_in(lines):
+    """The events of a journal's lines, behind which digests may stand."""
+    return [json.JSONDecoder().raw_decode(line.decode())[0] for line in lines.split(b"\n")[1:] if line]
+
+
 def replayed(journal):
     """The status of a replay of a journal, and each event beside its answer."""
     lines = lines_of(journal)
     status, out = run(["replay"], lines)
     answers = out.decode().split("\n")[:-1]
-    events = [json.loads(line) for line in lines.split(b"\n")[1:] if line]
-    return status, list(zip(events, answers)), answers[-1] if answers else ""
+    return status, list(zip(events_in(lines), answers)), answers[-1] if answers else ""
 
 
 class Service:

@@ -139,7 +139,7 @@ class Book:
             self.kinds[(key[0], status)] += 1
             if status is None:
                 self.unanswered.append(key)
-            elif status in (200, 404, 409):
+            elif status == 200:  # what was refused has no line in a journal
                 self.answers.append((key, line_of(text)))
 
 
@@ -267,11 +267,11 @@ class Stranger(threading.Thread):
                 pass
 
     def half_open(self):
-        it = self.sent(self.dice.choice((b"", b"GET /jobs HTT", b"POST /reports HTTP/1.1\r\nhost: h\r\ncontent-length: 90\r\n\r\n{")))
+        it = self.sent(self.dice.choice((b"", b"GET /jobs HTT", b"POST /reports HTTP/1.1\r\nhost: localhost\r\ncontent-type: application/json\r\ncontent-length: 90\r\n\r\n{")))
         threading.Timer(self.dice.uniform(0.5, 8), it.close).start()
 
     def reset(self):
-        it = self.sent(b"POST /reports HTTP/1.1\r\nhost: h\r\ncontent-length: 900000\r\n\r\n" + b"x" * self.dice.randrange(200000))
+        it = self.sent(b"POST /reports HTTP/1.1\r\nhost: localhost\r\ncontent-type: application/json\r\ncontent-length: 900000\r\n\r\n" + b"x" * self.dice.randrange(200000))
         it.setsockopt(socket.SOL_SOCKET, socket.SO_LINGER, struct.pack("ii", 1, 0))
         it.close()
 

@@ -62,7 +62,9 @@ def is_cut_replay(text, at, whole):
     front, _, last = out[:-1].rpartition(b"\n")
     if status == 0:
         return last.startswith(b"total ") and whole.startswith(front)
-    return status == 2 and last == b"unreadable %d" % len(lines) and whole.startswith(front)
+    # a first line that ends with a quotation mark is to have a digest
+    why = b" WrongDigest" if lines[0].endswith(b'"') else b""
+    return status == 2 and last == b"unreadable %d%s" % (len(lines), why) and whole.startswith(front)
 
 
 def is_cut_audit(file, text, at):
@@ -223,9 +225,9 @@ def devices(folder):
     with open(journal, "wb") as it:
         it.write(lines)
     calls = [(["check"], example("one-of-two.json")), (["plan"], large), (["relabel"], example("relabel.json"))]
-    calls += [(["replay"], lines), (["audit", journal], b""), ([], b"")]
+    calls += [(["replay"], lines), (["audit", journal], b""), (["--help"], b"")]
     for words, text in calls:
-        name = words[0] if words else "no command"
+        name = words[0]
         whole = run(words, text)[1]
         with open("/dev/full", "wb") as full:
             done = subprocess.run([PROGRAM, *words], input=text, stdout=full, stderr=subprocess.PIPE)
@@ -236,7 +238,7 @@ def devices(folder):
         if len(whole) > 1024:
             status, out = to_device(words, text, 1)
             tell(f"{name}: a device that takes 1,024 of {len(whole):,} bytes", status == 3 and out == whole[:1024], f"status {status}, {len(out):,} bytes")
-        if words and words[0] != "audit":
+        if name not in ("audit", "--help"):
             done = subprocess.run([PROGRAM, *words], stdin=os.open(ROOT, os.O_RDONLY), capture_output=True)
             tell(f"{name}: a read that fails", (done.returncode, done.stdout) == (3, b"device\n"))
     for missing in (f"{folder}/none", folder):
@@ -323,7 +325,7 @@ def bodies(folder):
         tell(f"a report cut at each of {len(report)} bytes is 400", True)
     tell("a target of nearly 64 KiB", service.ask("GET", "/jobs/" + "x" * 65_000 + "/targets")[0] in (404, 414))
     tell("a head that is longer", service.ask("GET", "/jobs/" + "x" * 70_000 + "/targets")[0] in (414, 431))
-    ends(service, journal, "of all that none is entered but the reports", lambda pairs: [it[0]["event"] for it in pairs].count("report") == 2)
+    ends(service, journal, "of all that none is in the journal, nor the reports, which were refused", lambda pairs: "report" not in [it[0]["event"] for it in pairs])
 
 
 def ends(service, journal, name, holds):
@@ -409,13 +411,13 @@ def clients(folder):
     service.is_up()
     comes(lambda: service.figure("allocd_allocation") == 1)
     body = json.dumps({"name": "never", "reach": []}).encode()
-    head = b"POST /collectors HTTP/1.1\r\nhost: h\r\ncontent-length: %d\r\n\r\n" % len(body)
+    head = b"POST /collectors HTTP/1.1\r\nhost: localhost\r\ncontent-type: application/json\r\ncontent-length: %d\r\n\r\n" % len(body)
     whole = head + body
     for how in ("reset", "close"):
         for at in range(1, len(whole)):
             cut_off(service, whole[:at], how)
         tell(f"a client that ends by a {how} behind each of {len(whole)} bytes: the next is answered", service.ask("GET", "/-/healthy")[0] == 200)
-    held = b"POST /reports HTTP/1.1\r\nhost: h\r\ncontent-length: 1000000\r\n\r\n" + b"x" * 500_000
+    held = b"POST /reports HTTP/1.1\r\nhost: localhost\r\ncontent-type: application/json\r\ncontent-length: 1000000\r\n\r\n" + b"x" * 500_000
     for _ in range(100):
         cut_off(service, held, "reset")
     tell("100 resets in the midst of a long body", service.ask("GET", "/-/healthy")[0] == 200)

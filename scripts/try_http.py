@@ -31,14 +31,14 @@ def exchanges():
 
 def said(port, words):
     """What curl would print of a request, in lines."""
-    method, body, url = "GET", None, words[-1]
+    method, body, url, headers = "GET", None, words[-1], {}
     for option, value in zip(words, words[1:]):
         if option == "-X":
             method = value
-        elif option == "-d":
-            method, body = "POST" if method == "GET" else method, value
+        elif option == "--json":
+            method, body, headers = "POST" if method == "GET" else method, value, {"content-type": "application/json"}
     it = http.client.HTTPConnection("127.0.0.1", port, timeout=30)
-    it.request(method, url[url.index("/") :], body=body)
+    it.request(method, url[url.index("/") :], body=body, headers=headers)
     answer = it.getresponse()
     head = [f"HTTP/1.1 {answer.status} {answer.reason}", *(f"{name}: {value}" for name, value in answer.getheaders()), ""] if "-si" in words else []
     text = answer.read().decode()

@@ -239,7 +239,7 @@ def second(folder):
         return holds and it.is_up(2), found
 
 
-@row("a number of a report that was changed in the file: refused with its line", later=True)
+@row("a number of a report that was changed in the file: refused with its line")
 def changed_number(folder):
     with served(folder) as it:
         it.published()
@@ -253,7 +253,7 @@ def changed_number(folder):
     return ends_with(folder, words_of(folder, "journal", it.port), 2, "line \\d+ is damaged")
 
 
-@row("a line that was left out of the file: refused with its line", later=True)
+@row("a line that was left out of the file: refused with its line")
 def left_out(folder):
     with served(folder) as it:
         it.published()
@@ -335,7 +335,7 @@ def broken(folder):
     return holds, f"{kept}, {lost}, {after}, ready {ready}, {there}, {audit}"
 
 
-@row("a journal that broke: /livez says 503, and the service ends with status 3 after give_up", later=True)
+@row("a journal that broke: /livez says 503, and the service ends with status 3 after give_up")
 def gives_up(folder):
     with served(folder, settings(give_up="1s"), prepare=mind_no_size) as it:
         it.published()
@@ -390,7 +390,7 @@ def modes(folder):
         return set(found.values()) == {"0o600"}, found
 
 
-@row("a refused join adds nothing to the file", later=True)
+@row("a refused join adds nothing to the file")
 def refused(folder):
     with served(folder) as it:
         it.published()
@@ -411,7 +411,7 @@ def again(folder):
     return found == [1, 1], found
 
 
-@row("of old journals 16 are kept where keep says nothing", later=True)
+@row("of old journals 16 are kept where keep says nothing")
 def kept(folder):
     with served(folder) as it:
         for turn in range(18):
@@ -432,7 +432,7 @@ int fdatasync(int file) {
 """
 
 
-@row("a device that hangs: a line and 503 of /-/ready after 3 seconds, and /-/healthy does not wait", later=True)
+@row("a device that hangs: a line and 503 of /-/ready after 3 seconds, and /-/healthy does not wait")
 def hanging(folder):
     with open(f"{folder}/hangs.c", "w") as it:
         it.write(HANGS)
@@ -508,32 +508,32 @@ def reloaded(folder, document, then, first=GOOD):
         return then(it, said)
 
 
-@row("a reload of a document without jobs: refused, and the jobs stay", later=True)
+@row("a reload of a document without jobs: refused, and the jobs stay")
 def no_jobs(folder):
     return reloaded(folder, {"allocator": {"lifecycle": True}}, lambda it, said: (
         said[0] == 500 and "scrape_configs" in said[1] and it.jobs() == ["node"] and it.figure("allocd_config_last_reload_successful") == 0, f"{said}, {it.jobs()}"))
 
 
-@row("no jobs are taken where allow_no_jobs says so", later=True)
+@row("no jobs are taken where allow_no_jobs says so")
 def allowed_no_jobs(folder):
     return reloaded(folder, {"allocator": {"lifecycle": True, "allow_no_jobs": True}}, lambda it, said: (said[0] == 200 and it.jobs() == [], f"{said}, {it.jobs()}"))
 
 
-@row("a good reload says what it changes", later=True)
+@row("a good reload says what it changes")
 def changed(folder):
     document = {**settings(collectors=[*GOOD["allocator"]["collectors"], {"name": "b", "reach": ANY}]), "scrape_configs": [*GOOD["scrape_configs"], {"job_name": "web"}]}
     return reloaded(folder, document, lambda it, said: (said[0] == 200 and re.search("jobs 1 -> 2, added web; collectors \\+1", said[1]), said))
 
 
-@row("a reload with other limits of a collector sets them", later=True)
+@row("a reload with other limits of a collector sets them")
 def other_limits(folder):
     document = settings(collectors=[{"name": "a", "reach": ANY, "limits": {"node": 1}}])
     name = 'allocd_collector_targets{collector="a"}'
     return reloaded(folder, document, lambda it, said: (comes(lambda: it.figure(name) == 1, 2), f"it holds {it.figure(name)}"))
 
 
-@row("a reload with another reach of a collector: it leaves and joins under its name, and holds what it reaches now", later=True, now=False)
-@row("and where reach_changes is now, at once", later=True, now=True)
+@row("a reload with another reach of a collector: it leaves and joins under its name, and holds what it reaches now", now=False)
+@row("and where reach_changes is now, at once", now=True)
 def other_reach(folder, now):
     reach = [{"allow": True, "test": "equals", "label": "instance", "value": "127.0.0.1:9102"}]
     document = settings(collectors=[{"name": "a", "reach": reach}], **({"reach_changes": "now"} if now else {}))
@@ -541,7 +541,7 @@ def other_reach(folder, now):
     return reloaded(folder, document, lambda it, said: (said[0] == 200 and comes(lambda: it.figure(name) == 1, 3), f"{said}, it holds {it.figure(name)}"))
 
 
-@row("a reload without a collector of the list: it is drained and leaves, and one that joined over HTTP stays", later=True)
+@row("a reload without a collector of the list: it is drained and leaves, and one that joined over HTTP stays")
 def taken_out(folder):
     with served(folder, settings(collectors=[*GOOD["allocator"]["collectors"], {"name": "b", "reach": ANY}])) as it:
         it.published()
@@ -563,14 +563,14 @@ def strange(folder, method, path, body, status, headers):
 
 
 GHOST = {"name": "ghost", "reach": ANY}
-row("a join of a page of another site (origin): 403", True, method="POST", path="/collectors", body=GHOST, status=(403,), headers={"origin": "http://evil.example"})(strange)
-row("a drain of a page of another site (sec-fetch-site): 403", True, method="POST", path="/collectors/1/drain", body=None, status=(403,),
+row("a join of a page of another site (origin): 403", method="POST", path="/collectors", body=GHOST, status=(403,), headers={"origin": "http://evil.example"})(strange)
+row("a drain of a page of another site (sec-fetch-site): 403", method="POST", path="/collectors/1/drain", body=None, status=(403,),
     headers={"sec_fetch_site": "cross-site"})(strange)
-row("a join under a name that was rebound (host): refused", True, method="POST", path="/collectors", body=GHOST, status=(400, 403, 421), headers={"host": "evil.example"})(strange)
-row("a list under a name that was rebound (host): refused", True, method="GET", path="/jobs", body=None, status=(400, 403, 421), headers={"host": "evil.example"})(strange)
+row("a join under a name that was rebound (host): refused", method="POST", path="/collectors", body=GHOST, status=(400, 403, 421), headers={"host": "evil.example"})(strange)
+row("a list under a name that was rebound (host): refused", method="GET", path="/jobs", body=None, status=(400, 403, 421), headers={"host": "evil.example"})(strange)
 
 
-@row("a join, limits, a drain and a leave over HTTP are a log line each, with the peer's address", later=True)
+@row("a join, limits, a drain and a leave over HTTP are a log line each, with the peer's address")
 def event_lines(folder):
     with served(folder) as it:
         it.send("POST", "/collectors", GHOST)
@@ -588,7 +588,7 @@ def tokens_at(folder, mode=0o600):
     return settings(tokens={"admin": f"{folder}/admin", "collectors": f"{folder}/collectors"})
 
 
-@row("with tokens: who shows none, or another's, is 401 with www-authenticate, and who shows his own is answered", later=True)
+@row("with tokens: who shows none, or another's, is 401 with www-authenticate, and who shows his own is answered")
 def with_tokens(folder):
     def asked(it, method, path, body, token):
         one = http.client.HTTPConnection("127.0.0.1", it.port, timeout=3)
@@ -604,7 +604,7 @@ def with_tokens(folder):
         return [one[0] for one in found] in ([401, 401, 200, 401, 200], [401, 403, 200, 401, 200]) and found[0][1], found
 
 
-@row("a file of tokens that others may read: refused by name", later=True)
+@row("a file of tokens that others may read: refused by name")
 def open_tokens(folder):
     write(f"{folder}/c.json", tokens_at(folder, 0o644))
     return ends_with(folder, words_of(folder, "journal", free_port()), 2, "/admin")
@@ -613,14 +613,14 @@ def open_tokens(folder):
 SECRET = {**GOOD, "scrape_configs": [{**GOOD["scrape_configs"][0], "basic_auth": {"username": "u", "password": "hunter2"}}]}
 
 
-@row("passwords of a scrape config are <secret> in /scrape_configs", later=True)
+@row("passwords of a scrape config are <secret> in /scrape_configs")
 def secrets(folder):
     with served(folder, SECRET) as it:
         text = it.ask("GET", "/scrape_configs")[1]
         return "hunter2" not in text and "<secret>" in text, text
 
 
-@row("passwords of a scrape config are not in the journal", later=True)
+@row("passwords of a scrape config are not in the journal")
 def secrets_kept(folder):
     with served(folder, SECRET) as it:
         it.published()
@@ -628,12 +628,27 @@ def secrets_kept(folder):
         return b"hunter2" not in text, text
 
 
-row("transfer-encoding other than chunked: 501", True, method="POST", path="/collectors", body=GHOST, status=(501,), headers={"transfer_encoding": "gzip, chunked"})(strange)
-row("expect other than 100-continue: 417", True, method="POST", path="/collectors", body=GHOST, status=(417,), headers={"expect": "200-maybe"})(strange)
-row("a content-length beyond the limit: 413 at once", True, method="POST", path="/collectors", body=GHOST, status=(413,), headers={"content_length": str(2**64 - 1)})(strange)
+@row("all kinds of secrets are masked, and parameters, labels and limits that have their names are not")
+def kinds_of_secrets(folder):
+    tls = {"key": "hunter2", "ca_file": "ca"}
+    one = {"job_name": "password", "params": {"password": ["shown"]}, "authorization": {"credentials": "hunter2"}, "oauth2": {"client_secret": "hunter2", "tls_config": tls},
+           "proxy_connect_header": {"a": ["hunter2"]}, "tls_config": tls, "static_configs": [{"targets": ["127.0.0.1:9101"], "labels": {"key": "shown"}}],
+           "http_sd_configs": [{"url": "http://127.0.0.1:9/", "basic_auth": {"password": "hunter2"}}]}
+    document = {"scrape_configs": [one], "allocator": {"settle": "0", "collectors": [{"name": "a", "reach": ANY, "limits": {"password": 7}}]}}
+    with served(folder, document) as it:
+        it.published()
+        text = it.ask("GET", "/scrape_configs")[1]
+        first = lines_of(it.journal).split(b"\n")[0].decode()
+    found = [(shown.count("hunter2"), shown.count("<secret>"), shown.count("shown")) for shown in (text, first)]
+    return found == [(0, 6, 2)] * 2 and '"password":7' in first, f"{found}, {text}"
 
 
-@row("the page says that it is no other type, and what it may load", later=True)
+row("transfer-encoding other than chunked: 501", method="POST", path="/collectors", body=GHOST, status=(501,), headers={"transfer_encoding": "gzip, chunked"})(strange)
+row("expect other than 100-continue: 417", method="POST", path="/collectors", body=GHOST, status=(417,), headers={"expect": "200-maybe"})(strange)
+row("a content-length beyond the limit: 413 at once", method="POST", path="/collectors", body=GHOST, status=(413,), headers={"content_length": str(2**64 - 1)})(strange)
+
+
+@row("the page says that it is no other type, and what it may load")
 def page_headers(folder):
     with served(folder) as it:
         one = http.client.HTTPConnection("127.0.0.1", it.port, timeout=5)
@@ -643,7 +658,7 @@ def page_headers(folder):
         return headers.get("x-content-type-options") == "nosniff" and "content-security-policy" in headers, headers
 
 
-@row("a body that is not read: the connection goes on, or its end is told", later=True)
+@row("a body that is not read: the connection goes on, or its end is told")
 def unread(folder):
     with served(folder) as it, socket.create_connection(("127.0.0.1", it.port), timeout=5) as one:
         one.sendall(b"POST /nowhere HTTP/1.1\r\nhost: localhost\r\ncontent-type: application/json\r\ncontent-length: 2\r\n\r\n")
@@ -705,7 +720,7 @@ def few_descriptors(folder):
         return comes(lambda: re.search("descriptor|RLIMIT_NOFILE|ulimit -n|open files", it.said()), 2), it.said()
 
 
-@row("without collector_timeout it says that nobody notices a dead collector", later=True)
+@row("without collector_timeout it says that nobody notices a dead collector")
 def no_timeout(folder):
     with served(folder) as it:
         return re.search("level=warn.*collector_timeout", it.said()), it.said()

@@ -53,7 +53,8 @@ def free_port():
 def ask(port, method, path, body=None):
     it = http.client.HTTPConnection("127.0.0.1", port, timeout=10)
     try:
-        it.request(method, path, body=None if body is None else json.dumps(body))
+        headers = {} if body is None else {"content-type": "application/json"}
+        it.request(method, path, body=None if body is None else json.dumps(body), headers=headers)
         said = it.getresponse()
         return said.status, said.read().decode()
     finally:

@@ -7,6 +7,7 @@ full disk, also as a journal is to begin (where a small file system can be mount
 
 import collections
 import contextlib
+import hashlib
 import http.client
 import http.server
 import itertools
@@ -21,7 +22,7 @@ import tempfile
 import threading
 import time
 
-from allocd_service import PROGRAM, ROOT, free_port, supervisor_can_ask
+from allocd_service import PROGRAM, ROOT, events_in, free_port, supervisor_can_ask
 from parts import run_parts, tell
 
 WORDS = sys.argv[1:]
@@ -32,7 +33,8 @@ def ask(port, method, path, body=None):
     """The status, the headers and the body of an answer."""
     it = http.client.HTTPConnection("127.0.0.1", port, timeout=10)
     try:
-        it.request(method, path, body=None if body is None else json.dumps(body))
+        headers = {} if body is None else {"content-type": "application/json"}
+        it.request(method, path, body=None if body is None else json.dumps(body), headers=headers)
         said = it.getresponse()
         return said.status, said.headers, said.read().decode()
     finally:
@@ -104,7 +106,7 @@ def waits_for(port, text):
 
 def words_and_configurations(folder):
     status, out, _ = run("serve", "--help")
-    tell("--help", status == 0 and out.startswith("usage: allocd serve"))
+    tell("--help", status == 0 and "Usage: allocd serve" in out and "Exit status:" in out)
     status, _, err = run("serve", "--frob")
     tell("an unknown option", status == 2, err.strip())
     status, _, err = run("serve")
@@ -366,8 +368,7 @@ def replayed(journal):
     lines = text[: text.rfind(b"\n") + 1]
     done = subprocess.run([PROGRAM, "replay"], input=lines, capture_output=True)
     answers = done.stdout.decode().split("\n")[:-1]
-    events = [json.loads(line) for line in lines.split(b"\n")[1:] if line]
-    return done.returncode, events, answers
+    return done.returncode, events_in(lines), answers
 
 
 def journals(folder):
@@ -456,15 +457,16 @@ def kills(folder):
 
 
 def lost_of(seen, journals):
-    """How many answers that clients saw are those of no event in the journals."""
+    """How many answers that clients saw are those of no event in the journals. What was refused has no line there."""
     told = collections.Counter()
     for journal in journals:
         _, events, answers = replayed(journal)
         told.update((key(event), answer) for event, answer in zip(events, answers))
     lost = 0
     for what, body in seen:
-        body = json.loads(body)
-        line = body.get("answer") or body.get("refused")
+        line = json.loads(body).get("answer")
+        if line is None:
+            continue
         if told[(what, line)] == 0:
             lost += 1
             print("lost:", what, line)
@@ -750,7 +752,7 @@ def strangers(folder):
     silent = []
     for i in range(MANY):
         it = socket.create_connection(("127.0.0.1", port), timeout=120)
-        it.sendall((b"", b"GET /jobs HTT", b"POST /reports HTTP/1.1\r\nhost: h\r\ncontent-length: 9\r\n\r\n{")[i % 3])
+        it.sendall((b"", b"GET /jobs HTT", b"POST /reports HTTP/1.1\r\nhost: localhost\r\ncontent-type: application/json\r\ncontent-length: 9\r\n\r\n{")[i % 3])
         silent.append(it)
     began = time.monotonic()
     end = began + 150
@@ -796,7 +798,7 @@ def idle_connections(port, count):
 
 def are_closed(held):
     """Whether the other side has closed each of these connections, and said nothing more."""
-    return all(it.sock.recv(1) == b"" for it in held)
+    return all(it.sock is None or it.sock.recv(1) == b"" for it in held)
 
 
 def idle_clients(folder):
@@ -810,7 +812,7 @@ def idle_clients(folder):
     tell("each of them is closed, and told nothing more", are_closed(held))
     held = idle_connections(port, most)
     (status, _, _), waited = timed(ask, port, "GET", "/-/healthy")
-    tell(f"behind {len(held)} of them one is answered once they are closed", status == 200 and 1 < waited < 7, f"after {waited:.1f} seconds")
+    tell(f"beside {len(held)} of them too, since half of them were told to end", status == 200 and waited < 1, f"after {waited:.1f} seconds")
     held = idle_connections(port, most - 1)
     ends, waited = timed(service.quit)
     tell("it ends beside idle connections at once", ends == (200, 0) and waited < 2 and are_closed(held), f"after {waited:.1f} seconds")
@@ -973,11 +975,11 @@ def small_disk(folder):
         subprocess.run(["umount", "-l", disk])
 
 
-def joins_until_refused(port):
-    """What joins were answered until one is 503, and that."""
+def limits_until_refused(port):
+    """What other limits were answered until some are 503, and that."""
     said = []
-    for i in range(3000):
-        status, _, text = ask(port, "POST", "/collectors", {"name": "x" * 100 + str(i % 7), "reach": []})
+    for i in range(9000):
+        status, _, text = ask(port, "PUT", "/collectors/1/limits", {"limits": {"node": i % 7, CONFIG["scrape_configs"][1]["job_name"]: 1}})
         if status == 503:
             return said, text
         answer = json.loads(text)
@@ -985,10 +987,10 @@ def joins_until_refused(port):
     return said, None
 
 
-def joins_in(journal):
-    """What the joins of a journal are answered by its replay, but that of the configuration."""
+def limits_in(journal):
+    """What the limits of a journal are answered by its replay."""
     status, events, answers = replayed(journal)
-    return status, [answer for event, answer in zip(events, answers) if event["event"] == "join" and event["name"] != "a"]
+    return status, [answer for event, answer in zip(events, answers) if event["event"] == "limits"]
 
 
 def full_disk(folder):
@@ -997,14 +999,14 @@ def full_disk(folder):
             return
         service = Service(folder, f"{disk}/journal")
         service.is_up()
-        said, text = joins_until_refused(service.port)
+        said, text = limits_until_refused(service.port)
         tell("on a full disk what is posted is not done", text is not None, text)
         tell("reads go on", ask(service.port, "GET", "/jobs/node/targets")[0] == 200)
         tell("it says that it is not ready", ask(service.port, "GET", "/-/ready")[0] == 503)
         tell("it ends when it is told to", service.quit() == (200, 0))
         subprocess.run(["cp", f"{disk}/journal", f"{folder}/journal"], check=True)
-    status, joins = joins_in(f"{folder}/journal")
-    tell("the journal has each answer that was given", status == 0 and joins[: len(said)] == said, f"{len(said)} given, {len(joins)} in the journal")
+    status, limits = limits_in(f"{folder}/journal")
+    tell("the journal has each answer that was given", status == 0 and limits[: len(said)] == said, f"{len(said)} given, {len(limits)} in the journal")
     service = Service(folder, f"{folder}/journal")
     tell("with room it goes on from it", service.is_up() and ask(service.port, "POST", "/collectors", {"name": "new", "reach": []})[0] == 200)
     tell("ends", service.quit() == (200, 0))
@@ -1039,6 +1041,16 @@ def full_renewal(folder):
 MOST_GROWN = 48 << 20
 
 
+def append_lines(journal, line, most):
+    """Appends the line, each time with its digest, as long as the file has no more bytes than this."""
+    with open(journal) as it:
+        digest = it.read().rstrip("\n")[-17:-1]
+    with open(journal, "a") as it:
+        while it.tell() + len(line) + 20 < most:
+            digest = hashlib.sha256((digest + line).encode()).hexdigest()[:16]
+            it.write(f'{line} "{digest}"\n')
+
+
 def long_journals(folder):
     journal = f"{folder}/journal"
     service = Service(folder, journal)
@@ -1046,17 +1058,15 @@ def long_journals(folder):
     waits_for(service.port, "allocd_allocation 1")
     service.quit()
     targets = [{"targets": [f"h{i}:1"]} for i in range(1500)]
-    line = json.dumps({"event": "discover", "job": "none", "source": 0, "targets": targets}, separators=(",", ":")) + "\n"
-    with open(journal, "a") as it:
-        while it.tell() + len(line) < MOST_GROWN:
-            it.write(line)
+    line = json.dumps({"event": "discover", "job": "none", "source": 0, "targets": targets}, separators=(",", ":"))
+    append_lines(journal, line, MOST_GROWN)
     before = os.path.getsize(journal)
     service = Service(folder, journal)
     tell(f"it starts over a journal of {before:,} bytes", service.is_up() or service.is_up())
     posted = 0
     while not os.path.exists(f"{journal}.1") and posted < 5000:
         with contextlib.suppress(OSError, http.client.HTTPException):
-            ask(service.port, "POST", "/collectors", {"name": "x" * 100, "reach": []})
+            ask(service.port, "PUT", "/collectors/1/limits", {"limits": {"node": posted % 7, CONFIG["scrape_configs"][1]["job_name"]: 1}})
         posted += 1
     tell("at 48 MiB another journal begins", os.path.exists(f"{journal}.1"), f"after {posted} requests")
     comes(lambda: ask(service.port, "GET", "/-/ready")[0] == 200)

@@ -19,7 +19,7 @@ ROWS = (
     ("replay", b"Joined ", b"Joinee "),
     ("audit", b"consistent files=", b"consistent filet="),
     ("session", b"AlreadyJoined", b"AlreadyJoimed"),
-    ("words", b"usage: allocd check", b"usage: allocd chick"),
+    ("words", b"a similar subcommand exists", b"a similar subcommand exisst"),
     ("http", b"allocd is healthy", b"allocd is wealthy"),
     ("statuses", b"unreadable NotJson", b"unreadable NotJsom"),
     ("damage/nesting", b"unreadable Shape", b"unreadable Shapf"),

@@ -8,5 +8,6 @@ pub mod Plan
 pub mod Replay
 pub mod Session
 pub mod Audit
+pub mod Seal
 pub mod Relabelling
 pub mod Commands

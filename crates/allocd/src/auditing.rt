@@ -17,21 +17,45 @@ use std::io;
 use std::io::{ErrorKind, Read, Write};
 use std::rt::Files;
 
-/// Audits the journals of some files, and writes what it found.
-pub fn audit_files<R: Files<File = File>, W: Write>(
+/// Why the journals of some files are not audited.
+enum Fault<'a> {
+    TooLong,
+    /// The file of this path is not read.
+    File(&'a str, io::Error),
+}
+
+/// Audits the journals of some files, and writes what it found. A file that is not read is told on standard error.
+pub fn audit_files<R: Files<File = File> + Eprint, W: Write>(
     rt: &R,
     alloc: Global,
-    paths: &[String],
+    paths: &[&str],
     writer: &mut W,
 ) -> Ending {
     match read_journals(rt, alloc, paths) {
-        Ok(Some(journals)) => run_audit(alloc, journals.as_slice(), writer),
-        Ok(None) => write_answer(writer, &Answer::NotRead(Unreadable::TooLong)),
-        Err(error) => write_stop(writer, &[], stop_of(&error)),
+        Ok(journals) => run_audit(alloc, journals.as_slice(), writer),
+        Err(Fault::TooLong) => write_answer(writer, &Answer::NotRead(Unreadable::TooLong)),
+        Err(Fault::File(path, error)) => stop_at(rt, path, &error, writer),
     }
 }
 
-/// Audits journals, and writes what it found: a line for each, and a line of all, or the first fault. Where no memory is left, the lines so
+/// Tells of a file that is not read: on standard error, but for want of memory, which is told as it is elsewhere.
+pub(crate) fn stop_at<R: Eprint, W: Write>(
+    rt: &R,
+    path: &str,
+    error: &io::Error,
+    writer: &mut W,
+) -> Ending {
+    match error.kind() {
+        ErrorKind::OutOfMemory => write_stop(writer, &[], Stop::Memory),
+        _ => {
+            // Nobody can be told that a line was not written.
+            let _ = rt.eprintln(format_args!("{path}: {error}"));
+            Ending::Stopped(Stop::Device)
+        }
+    }
+}
+
+/// Audits the files of journals, and writes what it found: a line for each, and a line of all, or the first fault. Where no memory is left, the lines so
 /// far stand before the line that says so.
 pub fn run_audit<W: Write>(alloc: Global, journals: &[List<u8>], writer: &mut W) -> Ending
     ensures { Audits journals.now (W.contents writer.old) (W.contents writer.new) result }
@@ -65,34 +89,43 @@ fn status_of(audited: Audited) -> Status
     }
 }
 
-/// The journals of some files. None where one is too long.
-fn read_journals<R: Files<File = File>>(
+/// The journals of some files.
+fn read_journals<'a, R: Files<File = File>>(
     rt: &R,
     alloc: Global,
-    paths: &[String],
-) -> io::Result<Option<Vec<List<u8>>>> {
+    paths: &[&'a str],
+) -> Result<Vec<List<u8>>, Fault<'a>> {
     let mut journals = Vec::new(alloc);
     for path in paths {
-        let bytes = read_journal(rt, alloc, path.as_str())?;
-        if bytes.len() as u64 > MOST_JOURNAL {
-            return Ok(None);
+        match read_journal(rt, alloc, path) {
+            Ok(journal) if journal.len() as u64 > MOST_JOURNAL => return Err(Fault::TooLong),
+            Ok(journal) => push_journal(&mut journals, List::from_vec(journal), path)?,
+            Err(error) => return Err(Fault::File(path, error)),
         }
-        journals.push(List::from_vec(bytes))?;
     }
-    Ok(Some(journals))
+    Ok(journals)
 }
 
-fn read_journal<R: Files<File = File>>(rt: &R, alloc: Global, path: &str) -> io::Result<Vec<u8>> {
+fn push_journal<'a>(
+    journals: &mut Vec<List<u8>>,
+    journal: List<u8>,
+    path: &'a str,
+) -> Result<(), Fault<'a>> {
+    match journals.push(journal) {
+        Ok(()) => Ok(()),
+        Err(error) => Err(Fault::File(path, error.into())),
+    }
+}
+
+/// The bytes of a file, or more than the most of a journal.
+pub(crate) fn read_journal<R: Files<File = File>>(
+    rt: &R,
+    alloc: Global,
+    path: &str,
+) -> io::Result<Vec<u8>> {
     let mut bytes = Vec::new(alloc);
     File::open(rt, path)?
         .take(MOST_JOURNAL + 1)
         .read_to_end(&mut bytes)?;
     Ok(bytes)
-}
-
-fn stop_of(error: &io::Error) -> Stop {
-    match error.kind() {
-        ErrorKind::OutOfMemory => Stop::Memory,
-        _ => Stop::Device,
-    }
 }

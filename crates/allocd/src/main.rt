@@ -1,5 +1,5 @@
 //! The program `allocd`: what it writes to standard output is a stated function of what it reads from standard input, or of the files of an
-//! audit; but for `session` and `serve`.
+//! audit or a seal; but for `session` and `serve`.
 #![tactic(auto)]
 
 mod answer;
@@ -14,92 +14,124 @@ mod plan;
 mod relabelling;
 mod replay;
 mod runner;
+mod sealing;
 mod unreadable;
 
 use auditing::audit_files;
 use command::run;
+use command_words::{Asked, read_words};
 use ending::{Ending, Status, Stop};
 use fleet_session::run_session;
 use output::{write_last, write_stop};
-use serve_command::{VERSION, serve};
-use std::alloc::{AllocError, Global};
+use sealing::seal_file;
+use serve_command::serve;
+use std::alloc::{AllocGlobal, Global};
 use std::env::Args;
-use std::io::Write;
+use std::fs::File;
+use std::io::{ErrorKind, Input};
+use std::net::{Net, TcpListener, TcpStream};
 use std::process::ExitCode;
+use std::random::RandomSource;
+use std::rt::Files;
+use std::sync::Wait;
+use std::thread::Threads;
+use std::time::Clock;
 use std::{env, io};
 
-const HELP: &str = "\
-usage: allocd check|plan|relabel|replay|audit|session|serve
+/// What is told of arguments that are no text.
+const NO_TEXT: &str = "\
+error: an argument is no text in UTF-8
 
-  check      reads an instance and a plan, and says whether the plan is best, or its first fault.
-  plan       reads an instance, and writes a best plan with the prices that prove it.
-  relabel    reads a label set and relabelling rules, and writes what they make of it.
-  replay     reads a configuration and events, and writes what each is answered.
-  audit      audit FILE.. reads journals in order, and says whether each goes on where the one before it ended.
-  session    reads a session, runs it on this machine, and writes what its rounds came to.
-  serve      runs the service: allocd serve --help says how.
-
-All but audit and serve read standard input. What they read and write is told in docs/FORMATS.md.
+For more information, try 'allocd --help'.
 ";
 
 fn main(rt: HostRuntime) -> ExitCode {
-    let mut writer = io::writer(&rt);
-    let ending = match words_of(rt.alloc(), env::args(&rt)) {
-        Ok(words) => {
-            if let Some(rest) = words_behind("serve", words.as_slice()) {
-                return serve(&rt, rt, rest);
-            }
-            if let Some([]) = words_behind("session", words.as_slice()) {
-                run_session(&rt, rt.alloc(), &mut rt.reader(), &mut writer)
-            } else {
-                run_alone(&rt, words.as_slice(), &mut writer)
-            }
-        }
-        Err(_) => write_stop(&mut writer, &[], Stop::Memory),
-    };
-    ExitCode::from(ending.exit_status())
-}
-
-/// Does what the words ask for that needs no thread.
-fn run_alone<W: Write>(rt: &HostRuntime, words: &[String], writer: &mut W) -> Ending {
-    if let Some(paths) = words_behind("audit", words) {
-        if !paths.is_empty() {
-            return audit_files(rt, rt.alloc(), paths, writer);
-        }
-    }
-    match words {
-        [word] if word.as_str() == "--help" => {
-            write_last(writer, HELP.as_bytes(), Ending::Answered(Status::Done))
-        }
-        [word] if word.as_str() == "--version" => {
-            write_last(writer, VERSION.as_bytes(), Ending::Answered(Status::Done))
-        }
-        _ => run(rt.alloc(), words, &mut rt.reader(), writer),
+    match words_of(rt.alloc(), env::args(&rt)) {
+        Ok(words) => run_words(&rt, rt, words.as_slice()),
+        Err(error) => match error.kind() {
+            ErrorKind::OutOfMemory => stopped_without_memory(&rt),
+            _ => status_of(refuse(&rt, NO_TEXT)),
+        },
     }
 }
 
-/// The words behind a command's, where that is the first.
-fn words_behind<'a>(command: &str, words: &'a [String]) -> Option<&'a [String]> {
-    match words.split_first() {
-        Some((first, rest)) if first.as_str() == command => Some(rest),
-        _ => None,
-    }
-}
-
-/// The arguments behind the program's name. Arguments that are no text are none.
-fn words_of(alloc: Global, arguments: io::Result<Args>) -> Result<Vec<String>, AllocError> {
+/// The arguments behind the program's name, where each is a text.
+fn words_of(alloc: Global, arguments: io::Result<Args>) -> io::Result<Vec<String>> {
     let mut words = Vec::new(alloc);
-    match arguments {
-        Ok(arguments) => {
-            for word in arguments.skip(1) {
-                words.push(word)?;
-            }
-        }
-        Err(error) => {
-            if error.kind() == io::ErrorKind::OutOfMemory {
-                return Err(AllocError);
-            }
-        }
+    for word in arguments?.skip(1) {
+        words.push(word)?;
     }
     Ok(words)
+}
+
+/// Does what the words ask for.
+fn run_words<R>(rt: &R, host: HostRuntime, words: &[String]) -> ExitCode
+where
+    R: Wait
+        + Threads
+        + Clock
+        + Net<Listener = TcpListener, Stream = TcpStream>
+        + Files<File = File>
+        + RandomSource
+        + AllocGlobal
+        + Input
+        + Print
+        + Eprint
+        + Sync
+        + Send
+        + Copy
+        + Drop,
+{
+    match read_words(rt.alloc(), words) {
+        Ok(asked) => run_asked(rt, host, &asked),
+        Err(_) => stopped_without_memory(rt),
+    }
+}
+
+fn run_asked<R>(rt: &R, host: HostRuntime, asked: &Asked<'_>) -> ExitCode
+where
+    R: Wait
+        + Threads
+        + Clock
+        + Net<Listener = TcpListener, Stream = TcpStream>
+        + Files<File = File>
+        + RandomSource
+        + AllocGlobal
+        + Input
+        + Print
+        + Eprint
+        + Sync
+        + Send
+        + Copy
+        + Drop,
+{
+    let alloc = rt.alloc();
+    let mut writer = io::writer(rt);
+    match asked {
+        Asked::Answer(command) => status_of(run(alloc, *command, &mut rt.reader(), &mut writer)),
+        Asked::Session => status_of(run_session(rt, alloc, &mut rt.reader(), &mut writer)),
+        Asked::Audit(paths) => status_of(audit_files(rt, alloc, paths.as_slice(), &mut writer)),
+        Asked::Seal(path) => status_of(seal_file(rt, alloc, path, &mut writer)),
+        Asked::Serve(options) => serve(rt, host, options),
+        Asked::Shown(text) => {
+            let ending = Ending::Answered(Status::Done);
+            status_of(write_last(&mut writer, text.as_bytes(), ending))
+        }
+        Asked::Refused(text) => status_of(refuse(rt, text.as_str())),
+    }
+}
+
+/// Tells on standard error what is wrong with the words.
+fn refuse<R: Eprint>(rt: &R, text: &str) -> Ending {
+    // Nobody can be told that a text was not written.
+    let _ = rt.eprint(text);
+    Ending::Answered(Status::Unreadable)
+}
+
+fn stopped_without_memory<R: Print>(rt: &R) -> ExitCode {
+    status_of(write_stop(&mut io::writer(rt), &[], Stop::Memory))
+}
+
+fn status_of(ending: Ending) -> ExitCode {
+    ExitCode::from(ending.exit_status())
 }

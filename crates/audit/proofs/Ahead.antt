@@ -6,7 +6,7 @@ use Rattle.std.proofs.lemmas.List.{append_assoc, append-nil}
 use Rattle.replay_lines.specs.declared.resuming.Resumption.{Resumption}
 use Rattle.scrape_books.specs.Books.{total_of}
 use Rattle.audit.specs.Audits.{IsAhead, Report, behind, by_journal, checked_text, consistent, events_and, progress_past, report_from, report_on, total_and}
-use Rattle.audit.specs.Checks.{checked}
+use Rattle.audit.specs.Checks.{file_checked}
 use Rattle.audit.specs.declared.auditing.Audited.TheVariants.{Inconsistent}
 use Rattle.audit.specs.declared.auditing.Progress.{Progress}
 use Rattle.audit.specs.declared.fault.Fault.{Fault}
@@ -18,7 +18,7 @@ starts whole old = record { front = []; text = refl; added = sym (append-nil old
 left_by : ℕ → Progress → List (List ℕ) → Result Resumption Fault → Report
 left_by files p journals r = by_journal (files + 1) r (λ end. report_from (files + 1) (Some end.core) (events_and p.events end.events) (total_and p.total (total_of end.core.booked)) journals)
 
-left_of : (files : ℕ) (p : Progress) (journal : List ℕ) (journals : List (List ℕ)) → report_on files p (journal ∷ journals) ≡ left_by files p journals (checked p.before journal)
+left_of : (files : ℕ) (p : Progress) (journal : List ℕ) (journals : List (List ℕ)) → report_on files p (journal ∷ journals) ≡ left_by files p journals (file_checked p.before journal)
 unfolding report_from left_by
 left_of files p journal journals = refl
 
@@ -47,10 +47,10 @@ further whole left rest old now new line ahead is e =
 
 -- behind a journal without a fault
 pub ahead_on : (whole : Report) (files : ℕ) (p next : Progress) (all : List (List ℕ)) (journal : List ℕ) (journals : List (List ℕ)) (old now new : List ℕ) → IsAhead whole (report_on files p all) old now
-    → all ≡ journal ∷ journals → is_ok (checked p.before journal) ≡ true → next ≡ progress_past p (checked p.before journal) → new ≡ now ++ checked_text (files + 1) (checked p.before journal)
+    → all ≡ journal ∷ journals → is_ok (file_checked p.before journal) ≡ true → next ≡ progress_past p (file_checked p.before journal) → new ≡ now ++ checked_text (files + 1) (file_checked p.before journal)
     → IsAhead whole (report_on (files + 1) next journals) old new
 ahead_on whole files p next all journal journals old now new ahead is good state text =
-    let r = checked p.before journal in
+    let r = file_checked p.before journal in
     let step = ap (report_on files p) is ∙ left_of files p journal journals ∙ good_by files p journals r good ∙ ap (λ (q : Progress). behind (checked_text (files + 1) r) (report_on (files + 1) q journals)) (sym state) in
     further whole (report_on files p all) (report_on (files + 1) next journals) old now new (checked_text (files + 1) r) ahead step text
 
@@ -70,10 +70,10 @@ pub record IsDone (whole : Report) (old new : List ℕ) : Type 0 where
   pub ends : Inconsistent ≡ whole.audited
 
 pub ahead_off : (whole : Report) (files : ℕ) (p : Progress) (all : List (List ℕ)) (journal : List ℕ) (journals : List (List ℕ)) (old now new : List ℕ) → IsAhead whole (report_on files p all) old now
-    → all ≡ journal ∷ journals → is_ok (checked p.before journal) ≡ false → new ≡ now ++ checked_text (files + 1) (checked p.before journal) → IsDone whole old new
+    → all ≡ journal ∷ journals → is_ok (file_checked p.before journal) ≡ false → new ≡ now ++ checked_text (files + 1) (file_checked p.before journal) → IsDone whole old new
 ahead_off whole files p all journal journals old now new ahead is bad text =
     let step = ap (report_on files p) is ∙ left_of files p journal journals in
-    let last = bad_by files p journals (checked p.before journal) bad in
+    let last = bad_by files p journals (file_checked p.before journal) bad in
     record {
       text = ahead_text whole (report_on files p all) old now new ahead (text ∙ ap (λ (t : List ℕ). now ++ t) (sym (ap (λ (r : Report). r.text) step ∙ last.says)));
       ends = sym (ahead.audited ∙ ap (λ (r : Report). r.audited) step ∙ last.ends);

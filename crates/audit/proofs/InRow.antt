@@ -7,8 +7,8 @@ use Rattle.replay_lines.specs.Resumes.{resumed}
 use Rattle.replay_lines.specs.declared.resuming.Damage.{Damage}
 use Rattle.replay_lines.specs.declared.resuming.Resumption.{Resumption}
 use Rattle.audit.specs.Audits.{progress_past}
-use Rattle.audit.specs.Checks.{checked, first_fault_of, read_as}
-use Rattle.audit.specs.Renewals.{AreRenewalsFrom, BeginsWithRenewal}
+use Rattle.audit.specs.Checks.{checked, checked_as, file_checked, first_fault_of, read_as}
+use Rattle.audit.specs.Renewals.{AreRenewalsFrom, FileBeginsWithRenewal}
 use Rattle.audit.specs.declared.auditing.Progress.{Progress}
 use Rattle.audit.specs.declared.fault.Fault.{Fault}
 
@@ -28,12 +28,14 @@ unfolding checked
 ends_at before journal good = ends_by (first_fault_of before journal) (resumed journal) good
 
 -- behind one more journal
-pub row_on : (p next : Progress) (all : List (List ℕ)) (journal : List ℕ) (journals : List (List ℕ)) → all ≡ journal ∷ journals → is_ok (checked p.before journal) ≡ true → BeginsWithRenewal p.before journal → next ≡ progress_past p (checked p.before journal) → AreRenewalsFrom next.before journals → AreRenewalsFrom p.before all
-unfolding AreRenewalsFrom
-row_on p next all journal journals is good begins state rest =
-    let at = ends_at p.before journal good in
-    let last : next.before ≡ Some at.end.core = ap (λ (q : Progress). q.before) (state ∙ ap (progress_past p) at.found_is) in
-    subst (λ (js : List (List ℕ)). AreRenewalsFrom p.before js) (sym is) (at.end, at.read_is, begins, subst (λ (o : Option State). AreRenewalsFrom o journals) last rest)
+pub row_on : (p next : Progress) (all : List (List ℕ)) (file : List ℕ) (files : List (List ℕ)) → all ≡ file ∷ files → is_ok (file_checked p.before file) ≡ true → FileBeginsWithRenewal p.before file → next ≡ progress_past p (file_checked p.before file) → AreRenewalsFrom next.before files → AreRenewalsFrom p.before all
+unfolding AreRenewalsFrom file_checked
+row_on p next all file files is good begins state rest =
+    let journal = begins.0 in
+    let same : file_checked p.before file ≡ checked p.before journal = ap (checked_as p.before) begins.1 in
+    let at = ends_at p.before journal (ap is_ok (sym same) ∙ good) in
+    let last : next.before ≡ Some at.end.core = ap (λ (q : Progress). q.before) (state ∙ ap (progress_past p) (same ∙ at.found_is)) in
+    subst (λ (js : List (List ℕ)). AreRenewalsFrom p.before js) (sym is) (journal, at.end, begins.1, at.read_is, begins.2, subst (λ (o : Option State). AreRenewalsFrom o files) last rest)
 
 pub row_end : (before : Option State) (journals : List (List ℕ)) → journals ≡ [] → AreRenewalsFrom before journals
 unfolding AreRenewalsFrom

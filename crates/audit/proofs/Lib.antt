@@ -4,5 +4,6 @@ mod Ahead
 mod Tallying
 mod Opened
 mod Telling
+mod InFiles
 mod InRow
 mod Results

@@ -5,14 +5,14 @@ use Rattle.std.specs.Fmt.{decimal}
 use Rattle.scrape_books.specs.Books.{total_of}
 use Rattle.allocation_core.specs.State.{State, current_of}
 use Rattle.replay_lines.specs.declared.resuming.Resumption.{Resumption}
-use Rattle.audit.specs.Checks.{checked}
+use Rattle.audit.specs.Checks.{file_checked}
 use Rattle.audit.specs.Tallies.{uncovered}
 use Rattle.audit.specs.declared.auditing.Audited.{Audited}
 use Rattle.audit.specs.declared.auditing.Progress.{Progress}
 use Rattle.audit.specs.declared.auditing.Audited.TheVariants.{Consistent, Inconsistent}
 use Rattle.audit.specs.declared.fault.Fault.{Fault}
 use Rattle.audit.specs.declared.fault.Why.{Why}
-use Rattle.audit.specs.declared.fault.Why.TheVariants.{Unreadable, BadJobs, TooManyBins, RoundsSpent, OtherState}
+use Rattle.audit.specs.declared.fault.Why.TheVariants.{Unreadable, WrongDigest, BadJobs, TooManyBins, RoundsSpent, OtherState}
 
 -- a text, and what was found
 pub record Report : Type 0 where
@@ -35,6 +35,7 @@ journal_line file end = events_part file end.events (current_of end.core) ++ boo
 
 abbrev pub why_name : Why → List ℕ
 why_name Unreadable = codes "Unreadable"
+why_name WrongDigest = codes "WrongDigest"
 why_name BadJobs = codes "BadJobs"
 why_name TooManyBins = codes "TooManyBins"
 why_name RoundsSpent = codes "RoundsSpent"
@@ -72,7 +73,7 @@ by_journal file (Err fault) rest = inconsistent file fault
 unfoldable pub report_from : ℕ → Option State → ℕ → ℕ → List (List ℕ) → Report
 report_from files before events total [] = consistent files events total
 report_from files before events total (journal ∷ journals) =
-    by_journal (files + 1) (checked before journal) (λ end. report_from (files + 1) (Some end.core) (events_and events end.events) (total_and total (total_of end.core.booked)) journals)
+    by_journal (files + 1) (file_checked before journal) (λ end. report_from (files + 1) (Some end.core) (events_and events end.events) (total_and total (total_of end.core.booked)) journals)
 
 unfoldable pub report_of : List (List ℕ) → Report
 report_of journals = report_from 0 None 0 0 journals

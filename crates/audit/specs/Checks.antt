@@ -8,12 +8,14 @@ use Rattle.allocation_core.specs.State.{State}
 use Rattle.allocation_core.specs.declared.renewal.RenewalError.{RenewalError}
 use Rattle.allocation_core.specs.declared.renewal.RenewalError.TheVariants as renewal
 use Rattle.core_history.specs.History.{history_text}
+use Rattle.sealed_lines.specs.Reading.{plain_of}
+use Rattle.sealed_lines.specs.declared.unsealing.WrongDigest as unsealing
 use Rattle.replay_lines.specs.Resumes.{resumed}
 use Rattle.replay_lines.specs.declared.resuming.Damage.{Damage}
 use Rattle.replay_lines.specs.declared.resuming.Resumption.{Resumption}
 use Rattle.audit.specs.declared.fault.Fault.{Fault}
 use Rattle.audit.specs.declared.fault.Why.{Why}
-use Rattle.audit.specs.declared.fault.Why.TheVariants.{Unreadable, BadJobs, TooManyBins, RoundsSpent, OtherState}
+use Rattle.audit.specs.declared.fault.Why.TheVariants.{Unreadable, WrongDigest, BadJobs, TooManyBins, RoundsSpent, OtherState}
 
 -- the bytes before the first line feed
 abbrev pub first_line : List ℕ → List ℕ
@@ -74,3 +76,16 @@ read_as (Err damage) = Err (unreadable damage)
 -- what a journal leads to, or its first fault
 unfoldable pub checked : Option State → List ℕ → Result Resumption Fault
 checked before journal = option_map_or (λ fault. Err fault) (first_fault_of before journal) (read_as (resumed journal))
+
+-- ---- as a file has it, with digests or without
+
+abbrev pub wrong_digest : unsealing.WrongDigest → Fault
+wrong_digest wrong = fault_at wrong.line WrongDigest
+
+abbrev pub checked_as : Option State → Result (List ℕ) unsealing.WrongDigest → Result Resumption Fault
+checked_as before (Ok journal) = checked before journal
+checked_as before (Err wrong) = Err (wrong_digest wrong)
+
+-- what the journal of a file leads to, or its first fault: a wrong digest comes before all others
+unfoldable pub file_checked : Option State → List ℕ → Result Resumption Fault
+file_checked before file = checked_as before (plain_of file)

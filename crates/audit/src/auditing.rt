@@ -2,10 +2,10 @@
 ghost use Rattle.std.specs.Prelude.{◌≡◌, ◌++◌, IfOk, Ok, OnOk, OnErr, is_ok, true};
 ghost use Rattle.replay_lines.specs.Lines.{AddsFront};
 ghost use Rattle.audit.specs.Audits.{checked_text, progress_past, report_of, report_on};
-ghost use Rattle.audit.specs.Checks.{checked};
-ghost use Rattle.audit.specs.Renewals.{AreRenewals, AreRenewalsFrom, BeginsWithRenewal};
+ghost use Rattle.audit.specs.Checks.{file_checked};
+ghost use Rattle.audit.specs.Renewals.{AreRenewals, AreRenewalsFrom, FileBeginsWithRenewal};
 
-use crate::checking::checked;
+use crate::checking::file_checked;
 use crate::lines::{write_fault, write_journal, write_whole};
 use allocation_core::Core;
 use lists::List;
@@ -40,7 +40,7 @@ impl Progress {
     }
 }
 
-/// Audits journals, in order, and appends what is written to the text: a line for each, and then a line of the whole, or the
+/// Audits the files of journals, in order, and appends what is written to the text: a line for each, and then a line of the whole, or the
 /// first fault. Without memory the text has the lines so far. Where it is consistent, the state that each journal but the first opens
 /// is the renewal of that in which the one before it ended, under the jobs of its own first line.
 #[tactic(auto, unfolding(crate::specs::Audits::report_of))]
@@ -92,13 +92,13 @@ fn audit_next(
     journal: &[u8],
     text: &mut Vec<u8>,
 ) -> Result<bool, AllocError>
-    ensures text { OnOk result (text.new.items ≡ text.old.items ++ checked_text file (checked progress.old.before journal.now)) }
-    ensures good { IfOk result (λ b. b ≡ is_ok (checked progress.old.before journal.now)) }
-    ensures next { OnOk result (progress.new ≡ progress_past progress.old (checked progress.old.before journal.now)) }
+    ensures text { OnOk result (text.new.items ≡ text.old.items ++ checked_text file (file_checked progress.old.before journal.now)) }
+    ensures good { IfOk result (λ b. b ≡ is_ok (file_checked progress.old.before journal.now)) }
+    ensures next { OnOk result (progress.new ≡ progress_past progress.old (file_checked progress.old.before journal.now)) }
     ensures memory { OnErr result (text.new.items ≡ text.old.items) }
-    ensures renewal { IfOk result (λ b. b ≡ true → BeginsWithRenewal progress.old.before journal.now) }
+    ensures renewal { IfOk result (λ b. b ≡ true → FileBeginsWithRenewal progress.old.before journal.now) }
 {
-    match checked(alloc, progress.before.take(), journal)? {
+    match file_checked(alloc, progress.before.take(), journal)? {
         Ok(end) => {
             write_journal(alloc, file, &end, text)?;
             progress.add(end);

@@ -1,20 +1,40 @@
 //! One journal after another.
 ghost use Rattle.std.specs.Prelude.{◌≡◌, IfNone, IfOk, OnOk};
-ghost use Rattle.audit.specs.Checks.{begins, checked, first_fault, first_fault_of};
+ghost use Rattle.audit.specs.Checks.{begins, checked, file_checked, first_fault, first_fault_of};
 ghost use Rattle.audit.specs.Laws.{IsWhole};
-ghost use Rattle.audit.specs.Renewals.{BeginsWithRenewal, IsRenewalOf};
+ghost use Rattle.audit.specs.Renewals.{BeginsWithRenewal, FileBeginsWithRenewal, IsRenewalOf};
 
-use crate::fault::{Fault, unreadable};
+use crate::fault::{Fault, unreadable, wrong_digest};
 use crate::first_line::first_line;
 use crate::laws::opened_are_whole;
 use crate::renewal::renewal_fault;
 use allocation_core::Core;
 use replay_lines::{Resumption, resume};
+use sealed_lines::{is_sealed, unsealed};
 use std::alloc::{AllocError, Global};
+
+/// What the journal of a file leads to, or its first fault: a wrong digest comes before all others.
+#[tactic(auto, unfolding(crate::specs::Checks::file_checked))]
+pub(crate) fn file_checked(
+    alloc: Global,
+    before: Option<Core>,
+    file: &[u8],
+) -> Result<Result<Resumption, Fault>, AllocError>
+    ensures checked { IfOk result (λ r. r ≡ file_checked before file.now) }
+    ensures renewal { IfOk result (λ r. OnOk r (FileBeginsWithRenewal before file.now)) }
+{
+    if !is_sealed(file) {
+        return checked(alloc, before, file);
+    }
+    match unsealed(alloc, file)? {
+        Ok(plain) => checked(alloc, before, plain.text.as_slice()),
+        Err(wrong) => Ok(Err(wrong_digest(wrong))),
+    }
+}
 
 /// What a journal leads to, or its first fault. It begins with the renewal of the core, if there is one.
 #[tactic(auto, unfolding(crate::specs::Checks::checked))]
-pub(crate) fn checked(
+fn checked(
     alloc: Global,
     before: Option<Core>,
     journal: &[u8],

@@ -71,6 +71,7 @@ fn why_name(why: Why) -> &'static str
 {
     match why {
         Why::Unreadable => "Unreadable",
+        Why::WrongDigest => "WrongDigest",
         Why::BadJobs => "BadJobs",
         Why::TooManyBins => "TooManyBins",
         Why::RoundsSpent => "RoundsSpent",

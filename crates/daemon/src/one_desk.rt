@@ -151,6 +151,7 @@ fn handler_of<R: Wait + Copy, L: Ledger, B: Ledger, N: DeskName, S, F, C>(
     let texts = shared(alloc, ListTexts::new(alloc))?;
     let pages = Arc::try_clone(&office.pages)?;
     let state = Arc::try_clone(&office.state)?;
+    let doors = Arc::try_clone(&office.doors)?;
     Ok(Handler {
         rt: *rt,
         alloc,
@@ -160,6 +161,8 @@ fn handler_of<R: Wait + Copy, L: Ledger, B: Ledger, N: DeskName, S, F, C>(
         state,
         kept,
         texts,
+        doors,
+        peer: None,
     })
 }
 
@@ -255,6 +258,8 @@ fn closed<R: Drop, L: Ledger, B: Ledger, N: DeskName>(
         state: _,
         kept: _,
         texts: _,
+        doors: _,
+        peer: _,
     } = handler;
     let (Some(desk), Some(pass)) = (Arc::into_inner(desk), Arc::into_inner(pass)) else {
         return Err(io::ErrorKind::ResourceBusy.into());

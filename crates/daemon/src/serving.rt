@@ -60,7 +60,7 @@ where
     }
 }
 
-/// Serves over a desk after the other until the service is to end.
+/// Serves over a desk after the other until the service is to end. It fails where that is since its journal is broken.
 #[tactic(auto, using(crate::proofs::Laters::later_trans, crate::proofs::Laters::later_refl))]
 fn serve_desks<R, S, F, A, C>(
     rt: &R,
@@ -91,8 +91,10 @@ where
     let mut core = core;
     for _turn in rt.forever() {
         let (later, ending) = serve_once(rt, alloc, service, office, core)?;
-        if ending == Ending::Quit {
-            return Ok(later);
+        match ending {
+            Ending::Quit => return Ok(later),
+            Ending::Broken => return Err(io::Error::other("the journal cannot be written")),
+            Ending::Full | Ending::Reload => {}
         }
         core = continued(rt, alloc, service, office, archive, later)?;
     }

@@ -1,11 +1,12 @@
-//! The words and the settings of the service.
+//! The words of the program and the settings of the service.
 use crate::answers::READ;
 use crate::values::NONE;
+use command_words::{Asked, ServeOptions, read_words};
 use json_values::parse;
+use lists::Text;
 use serde_json::Value;
 use service_settings::{
-    Asked, Collector, Settings, SettingsError, address_of, duration_of, read_arguments,
-    read_settings,
+    Collector, Settings, SettingsError, address_of, duration_of, read_settings,
 };
 use std::alloc::{AllocError, Global};
 
@@ -28,7 +29,7 @@ pub(crate) fn duration(alloc: Global, text: &str) -> Result<String, AllocError> 
     }
 }
 
-/// A list of the words of a command line: what they ask for, or why they are refused.
+/// A list of the words of a command line: what they ask for, or the first line of what is told of them.
 pub(crate) fn arguments(alloc: Global, text: &str) -> Result<String, AllocError> {
     match parse(alloc, text.as_bytes())? {
         Some(Value::Array(values)) => asked_by(alloc, values.as_slice()),
@@ -41,22 +42,34 @@ fn asked_by(alloc: Global, values: &[Value]) -> Result<String, AllocError> {
     for value in values {
         words.push(String::from_str(alloc, value.as_str().unwrap_or(""))?)?;
     }
-    asked(alloc, words.as_slice())
+    match read_words(alloc, words.as_slice()) {
+        Ok(asked) => asked_for(alloc, &asked),
+        Err(error) => Err(error),
+    }
 }
 
-fn asked(alloc: Global, words: &[String]) -> Result<String, AllocError> {
-    match read_arguments(words) {
-        Asked::Help => String::from_str(alloc, "help"),
-        Asked::Version => String::from_str(alloc, "version"),
-        Asked::Serve(options) => {
-            let config = options.config;
-            let listen = options.listen.unwrap_or("-");
-            let journal = options.journal.unwrap_or("-");
-            let check = options.check_config;
-            format!(in alloc; "{config} {listen} {journal} {check}")
-        }
-        Asked::Faulty(fault) => fault.line(alloc),
+fn asked_for(alloc: Global, asked: &Asked<'_>) -> Result<String, AllocError> {
+    match asked {
+        Asked::Answer(command) => format!(in alloc; "{command:?}"),
+        Asked::Session => String::from_str(alloc, "Session"),
+        Asked::Audit(paths) => format!(in alloc; "Audit {paths:?}"),
+        Asked::Seal(path) => format!(in alloc; "Seal {path}"),
+        Asked::Serve(options) => options_of(alloc, options),
+        Asked::Shown(text) => format!(in alloc; "shown: {}", first_line(text)),
+        Asked::Refused(text) => format!(in alloc; "refused: {}", first_line(text)),
     }
+}
+
+fn options_of(alloc: Global, options: &ServeOptions<'_>) -> Result<String, AllocError> {
+    let config = options.config;
+    let listen = options.listen.unwrap_or("-");
+    let journal = options.journal.unwrap_or("-");
+    let check = options.check_config;
+    format!(in alloc; "Serve {config} {listen} {journal} {check}")
+}
+
+fn first_line(text: &String) -> &str {
+    text.as_str().lines().next().unwrap_or("")
 }
 
 /// The settings that a document says, or why it is refused.
@@ -94,7 +107,8 @@ fn add_refresh(alloc: Global, text: &mut String, settings: &Settings) -> Result<
 }
 
 fn add_rest(alloc: Global, text: &mut String, settings: &Settings) -> Result<(), AllocError> {
-    text.push_str(rest_outline(alloc, settings)?.as_str())
+    text.push_str(rest_outline(alloc, settings)?.as_str())?;
+    text.push_str(doors_outline(alloc, settings)?.as_str())
 }
 
 /// The other settings.
@@ -106,7 +120,27 @@ fn rest_outline(alloc: Global, settings: &Settings) -> Result<String, AllocError
     let settle = settings.settle;
     let timeout = settings.collector_timeout;
     let fetch = settings.fetch_timeout;
-    format!(in alloc; " {a}.{b}.{c}.{d}:{port} {lifecycle} {keep:?} {settle} {timeout:?} {fetch}")
+    format!(in alloc; " {a}.{b}.{c}.{d}:{port} {lifecycle} {keep} {settle} {timeout:?} {fetch}")
+}
+
+/// Who may ask, and what is taken.
+fn doors_outline(alloc: Global, settings: &Settings) -> Result<String, AllocError> {
+    let doors = &settings.doors;
+    let hosts = doors.hosts.len();
+    let admin = text_or_dash(&doors.admin_tokens);
+    let collectors = text_or_dash(&doors.collector_tokens);
+    let open = doors.open_to_all;
+    let give_up = settings.give_up;
+    let no_jobs = settings.allow_no_jobs;
+    let reach = settings.reach_changes;
+    format!(in alloc; " {give_up} {hosts} {admin} {collectors} {open} {no_jobs} {reach:?}")
+}
+
+fn text_or_dash(text: &Option<Text>) -> &str {
+    match text {
+        Some(text) => text.as_str(),
+        None => "-",
+    }
 }
 
 /// The names of the collectors, with how many limits each has.

@@ -19,7 +19,8 @@ use Rattle.fleet_events.specs.Writing.{event_data, event_text, join_data, report
 use Rattle.fleet_events.specs.declared.event.Event.{Event}
 use Rattle.fleet_events.specs.declared.event.Event.TheVariants.{Discover, Join, Leave, Drain, SetLimits, Install, NextRound, Take, Report}
 use Rattle.durable_journal.specs.Events.{events_text}
-use Rattle.durable_journal.specs.Lines.{HasNoFeed, whole_part, with_line}
+use Rattle.sealed_lines.specs.Lines.{HasNoFeed, with_line}
+use Rattle.durable_journal.specs.Lines.{whole_part}
 use Rattle.durable_journal.specs.Marks.{agrees, agrees_with_event, begins_journal, bin_prices_text, collector_text, event_name_text, is_begun, is_journal_text, mark_text, torn_end}
 use Rattle.durable_journal.proofs.Beginnings.{agrees_beginning, begins_more, fed_more, has_no_zero, starts_more}
 use Rattle.durable_journal.proofs.WholeParts.{cut, fed, keeps, none}
@@ -129,7 +130,7 @@ report_agrees : (collector allocation target round : ℕ) (outcome : Outcome) (f
 report_agrees collector allocation target round (Up samples) front lost rest e = collector_first (report_data collector allocation target round (Up samples)) front lost rest e
 report_agrees collector allocation target round Down front lost rest e = collector_first (report_data collector allocation target round Down) front lost rest e
 
-event_agrees : (event : Event) (front lost rest : List ℕ) → front ++ lost ≡ event_text event ++ rest → agrees_with_event front ≡ true
+pub event_agrees : (event : Event) (front lost rest : List ℕ) → front ++ lost ≡ event_text event ++ rest → agrees_with_event front ≡ true
 event_agrees (Discover job source targets) front lost rest e = event_first (event_data (Discover job source targets)) front lost rest e
 event_agrees (Join name reach limits) front lost rest e = join_agrees name reach limits front lost rest e
 event_agrees (Leave collector) front lost rest e = collector_first (event_data (Leave collector)) front lost rest e
@@ -144,14 +145,14 @@ drop_both : (xs ys zs : List ℕ) → drop (length (xs ++ ys)) (xs ++ zs) ≡ dr
 drop_both [] ys zs = refl
 drop_both (x ∷ xs) ys zs = drop_both xs ys zs
 
-torn_alone : (front : List ℕ) → HasNoFeed front → torn_end front ≡ front
+pub torn_alone : (front : List ℕ) → HasNoFeed front → torn_end front ≡ front
 torn_alone front absent = ap (λ (t : List ℕ). drop (length t) front) (none front absent)
 
-torn_behind : (line more : List ℕ) → torn_end (with_line line more) ≡ torn_end more
+pub torn_behind : (line more : List ℕ) → torn_end (with_line line more) ≡ torn_end more
 torn_behind line more = ap (λ (t : List ℕ). drop (length t) (with_line line more)) (keeps line more) ∙ drop_both line (10 ∷ whole_part more) (10 ∷ more)
 
 -- what a crash leaves of lines of events ends in a beginning of such a line
-torn_agrees : (events : List Event) (front lost : List ℕ) → front ++ lost ≡ events_text events → agrees_with_event (torn_end front) ≡ true
+pub torn_agrees : (events : List Event) (front lost : List ℕ) → front ++ lost ≡ events_text events → agrees_with_event (torn_end front) ≡ true
 torn_agrees [] [] lost e = refl
 torn_agrees [] (b ∷ front) lost e = cc
 torn_agrees (event ∷ events) front lost e =
@@ -160,8 +161,13 @@ torn_agrees (event ∷ events) front lost e =
       | inr beyond ↦ ap (λ (t : List ℕ). agrees_with_event (torn_end t)) beyond.begins ∙ ap agrees_with_event (torn_behind (event_text event) beyond.more) ∙ torn_agrees events beyond.more lost (sym beyond.ends)
     ]
 
+-- a journal, and behind it what ends in a beginning of an event
+pub accepted_by : (text front : List ℕ) → list_any is_line_feed text ≡ true → whole_part (text ++ front) ≡ text ++ whole_part front → begins_journal text ≡ true → agrees_with_event (torn_end front) ≡ true
+    → is_journal_text (text ++ front) ≡ true
+accepted_by text front is_fed kept begins ends =
+    let torn : torn_end (text ++ front) ≡ torn_end front = ap (λ (t : List ℕ). drop (length t) (text ++ front)) kept ∙ drop_both text (whole_part front) front in
+    told_by true (text ++ front) (fed_more text front is_fed) (λ _. both (begins_more text front begins) (ap agrees_with_event torn ∙ ends)) (λ e. cc)
+
 pub accepted : (text front lost : List ℕ) (others : List Event) → list_any is_line_feed text ≡ true → whole_part (text ++ front) ≡ text ++ whole_part front → begins_journal text ≡ true → front ++ lost ≡ events_text others
     → is_journal_text (text ++ front) ≡ true
-accepted text front lost others is_fed kept begins e =
-    let torn : torn_end (text ++ front) ≡ torn_end front = ap (λ (t : List ℕ). drop (length t) (text ++ front)) kept ∙ drop_both text (whole_part front) front in
-    told_by true (text ++ front) (fed_more text front is_fed) (λ _. both (begins_more text front begins) (ap agrees_with_event torn ∙ torn_agrees others front lost e)) (λ e. cc)
+accepted text front lost others is_fed kept begins e = accepted_by text front is_fed kept begins (torn_agrees others front lost e)

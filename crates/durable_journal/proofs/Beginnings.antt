@@ -18,7 +18,7 @@ use Rattle.durable_journal.specs.Marks.{agrees, begins_event, begins_journal, be
 
 -- ---- the mark
 
-view-String : (s : String Global) → view (StringValue s) ≡ string (string_bytes s)
+pub view-String : (s : String Global) → view (StringValue s) ≡ string (string_bytes s)
 view-String s = search (rules, the_lemmas)
 
 -- an object with the mark's value put at its name

@@ -16,7 +16,8 @@ use Rattle.replay_lines.specs.Replays.{lines_in}
 use Rattle.replay_lines.specs.Resumes.{damage_at, resumed, resumed_by, resumed_from, resumption_at, unread_from}
 use Rattle.durable_journal.specs.Events.{SaysEvents}
 use Rattle.durable_journal.specs.Journals.{Accepts, Grows, IgnoresTorn, IsJournal, Resumes, Survives}
-use Rattle.durable_journal.specs.Lines.{HasNoFeed, whole_part, with_line}
+use Rattle.sealed_lines.specs.Lines.{HasNoFeed, with_line}
+use Rattle.durable_journal.specs.Lines.{whole_part}
 use Rattle.durable_journal.proofs.Accepted.{accepted}
 use Rattle.durable_journal.proofs.EventLines.{says_more}
 use Rattle.durable_journal.proofs.WholeParts.{cut, fed, keeps, none, or_false}
@@ -93,7 +94,7 @@ kept_lines text front (event ∷ events) says =
     ap (λ (t : List ℕ). whole_part (t ++ front)) says.2 ∙ ap whole_part (append_assoc says.0 (10 ∷ says.1) front) ∙ keeps says.0 (says.1 ++ front)
     ∙ ap (with_line says.0) (kept_lines says.1 front events says.4) ∙ sym (append_assoc says.0 (10 ∷ says.1) (whole_part front)) ∙ ap (λ (t : List ℕ). t ++ whole_part front) (sym says.2)
 
-kept_journal : (text front : List ℕ) (m : State) (events : List Event) → IsJournal text m events → whole_part (text ++ front) ≡ text ++ whole_part front
+pub kept_journal : (text front : List ℕ) (m : State) (events : List Event) → IsJournal text m events → whole_part (text ++ front) ≡ text ++ whole_part front
 kept_journal text front m events j =
     ap (λ (t : List ℕ). whole_part (t ++ front)) j.whole ∙ ap whole_part (append_assoc j.first (10 ∷ j.lines) front) ∙ keeps j.first (j.lines ++ front)
     ∙ ap (with_line j.first) (kept_lines j.lines front events j.says) ∙ sym (append_assoc j.first (10 ∷ j.lines) (whole_part front)) ∙ ap (λ (t : List ℕ). t ++ whole_part front) (sym j.whole)

@@ -1,5 +1,6 @@
 pub mod WholeParts
 pub mod Found
+pub mod Bytes
 pub mod EventLines
 pub mod Beginnings
 pub mod Accepted
@@ -7,3 +8,6 @@ pub mod Crashes
 pub mod Opening
 pub mod Marked
 pub mod Histories
+pub mod Refused
+pub mod FileTexts
+pub mod Noted

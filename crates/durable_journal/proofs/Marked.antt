@@ -14,7 +14,7 @@ use Rattle.json_values.specs.Texts.{is_line_feed, json_of}
 use Rattle.sd_documents.specs.Config.{config_said}
 use Rattle.replay_lines.specs.Configurations.{opened, opened_from, specs_of}
 use Rattle.durable_journal.specs.Configured.{IsLineGiven}
-use Rattle.durable_journal.specs.Lines.{HasNoFeed}
+use Rattle.sealed_lines.specs.Lines.{HasNoFeed}
 use Rattle.durable_journal.specs.Marks.{SaysMarked, mark_data, mark_name, mark_text, marked}
 use Rattle.durable_journal.proofs.Beginnings.{marked_begins}
 use Rattle.durable_journal.proofs.Opening.{opened_as, opened_data, shallow}

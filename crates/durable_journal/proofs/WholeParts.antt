@@ -3,7 +3,8 @@ use Rattle.std.proofs.Common.{◌≡◌, ℕ, zero, suc, ◌+◌, ◌<◌, Bool,
 use Rattle.std.specs.Prelude.{◌==◌}
 use Rattle.std.specs.List.{list_any}
 use Rattle.json_values.specs.Texts.{is_line_feed}
-use Rattle.durable_journal.specs.Lines.{HasNoFeed, whole_part, written, with_line}
+use Rattle.sealed_lines.specs.Lines.{HasNoFeed, written, with_line}
+use Rattle.durable_journal.specs.Lines.{whole_part}
 
 -- with no line feed nothing is whole
 pub none : (bs : List ℕ) → HasNoFeed bs → whole_part bs ≡ []

@@ -7,7 +7,8 @@ use Rattle.fleet_events.specs.declared.event.Event.{Event}
 use Rattle.replay_lines.specs.Configurations.{opened}
 use Rattle.replay_lines.specs.Resumes.{resumed, resumption_at}
 use Rattle.durable_journal.specs.Events.{SaysEvents, events_text}
-use Rattle.durable_journal.specs.Lines.{HasNoFeed, whole_part, with_line, written}
+use Rattle.sealed_lines.specs.Lines.{HasNoFeed, with_line, written}
+use Rattle.durable_journal.specs.Lines.{whole_part}
 use Rattle.durable_journal.specs.Marks.{begins_journal, is_journal_text, mark_text}
 
 -- a first line that opens the state, and then a line for each of the events

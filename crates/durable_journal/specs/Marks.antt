@@ -1,14 +1,17 @@
 -- The mark of a journal: the member with which its first line begins. By it a file is told from every other document.
-use Rattle.std.specs.Prelude.{◌≡◌, ◌≤◌, ℕ, ◌-◌, List, [], ◌∷◌, length, drop, nat_le, Bool, true, false, ◌&&◌, ◌||◌, nat_eq, Option, None, Some, option_map, codes, if◌then◌else◌}
+use Rattle.std.specs.Prelude.{◌≡◌, ◌≤◌, ℕ, ◌-◌, List, [], ◌∷◌, length, drop, nat_le, Bool, true, false, ◌&&◌, ◌||◌, nat_eq, Option, None, Some, option_map, Result, Ok, Err, codes, if◌then◌else◌}
 use Rattle.std.specs.List.{list_all, list_any, starts_with}
 use Rattle.std.specs.Option.{option_map_or}
 use Rattle.serde_json.specs.Data.{Data, string, object, put, depth}
 use Rattle.serde_json.specs.Find.{as_object}
 use Rattle.serde_json.specs.Read.{max_depth}
 use Rattle.json_values.specs.Texts.{is_line_feed, json_of}
+use Rattle.sealed_lines.specs.Reading.{is_sealed, unsealed}
+use Rattle.sealed_lines.specs.declared.unsealing.PlainLines.{PlainLines}
+use Rattle.sealed_lines.specs.declared.unsealing.WrongDigest.{WrongDigest}
 use Rattle.durable_journal.specs.Lines.{whole_part}
 use Rattle.durable_journal.specs.declared.recovering.Recovered.{Recovered}
-use Rattle.durable_journal.specs.declared.recovering.Recovered.TheVariants.{Found, Other, TooLong}
+use Rattle.durable_journal.specs.declared.recovering.Recovered.TheVariants.{Altered, Found, Other, TooLong}
 use Rattle.durable_journal.specs.declared.recovering.TheConstants.{MOST_JOURNAL}
 
 -- the empty name: no other comes before it
@@ -87,9 +90,16 @@ is_begun (b ∷ bs) = nat_eq b 0x7B && agrees mark_text (b ∷ bs)
 abbrev pub is_journal_text : List ℕ → Bool
 is_journal_text bytes = if list_any is_line_feed bytes then begins_journal bytes && agrees_with_event (torn_end bytes) else is_begun bytes
 
--- the whole lines, and how many bytes follow them
+-- the whole lines of a file, which have so many bytes, and how many bytes follow them
+abbrev pub found_as : ℕ → ℕ → Result PlainLines WrongDigest → Recovered
+found_as whole torn (Ok plain) = Found plain.text (Some plain.chain) whole torn
+found_as whole torn (Err wrong) = Altered wrong.line
+
+abbrev pub settled_at : List ℕ → ℕ → Recovered
+settled_at lines torn = if is_sealed lines then found_as (length lines) torn (unsealed lines) else Found lines None (length lines) torn
+
 abbrev pub settled_in : List ℕ → Recovered
-settled_in bytes = Found (whole_part bytes) (length bytes - length (whole_part bytes))
+settled_in bytes = settled_at (whole_part bytes) (length bytes - length (whole_part bytes))
 
 -- what is found in a file of these bytes
 abbrev pub found_in : List ℕ → Recovered

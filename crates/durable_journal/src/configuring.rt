@@ -5,7 +5,7 @@ ghost use Rattle.json_values.specs.Texts.{is_line_feed, json_of};
 ghost use Rattle.serde_json.specs.View.{view};
 ghost use Rattle.replay_lines.specs.Configurations.{opened};
 ghost use Rattle.durable_journal.specs.Configured.{IsLineGiven};
-ghost use Rattle.durable_journal.specs.Lines.{HasNoFeed};
+ghost use Rattle.sealed_lines.specs.Lines.{HasNoFeed};
 ghost use Rattle.durable_journal.specs.Marks.{SaysMarked, mark_text, marked as with_mark};
 
 use crate::marking::{MARK_TEXT, marked};

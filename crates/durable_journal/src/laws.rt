@@ -1,4 +1,7 @@
 //! What of a journal is found again.
+ghost use Rattle.durable_journal.specs.Events.{SaysAll};
+ghost use Rattle.durable_journal.specs.Files.{AcceptsFile, BeginsFile, GrowsFile, SurvivesInFile};
+ghost use Rattle.durable_journal.specs.Kept.{KeptInParts, LeaveOutRefused};
 ghost use Rattle.durable_journal.specs.Journals.{Accepts, AcceptsFirst, Grows, IgnoresTorn, Resumes, Settles, Survives};
 
 /// Of a file of whole lines and a torn end without a line feed, exactly the whole lines are found.
@@ -20,4 +23,20 @@ pub fn journals_survive()
     ensures survives { Survives }
     ensures accepts { Accepts }
     ensures accepts_first { AcceptsFirst }
+{}
+
+/// The same of the file, whose lines have digests or, where it was begun before there were digests, have none: what `recover` finds in it
+/// is the text of a journal of those events, and what is to be known to go on behind it.
+pub fn files_survive()
+    ensures said { SaysAll }
+    ensures begins { BeginsFile }
+    ensures grows { GrowsFile }
+    ensures survives { SurvivesInFile }
+    ensures accepts { AcceptsFile }
+{}
+
+/// The events of a desk that were not refused lead to the same state as all of them, also where they are written some at once.
+pub fn refused_are_left_out()
+    ensures same { LeaveOutRefused }
+    ensures parts { KeptInParts }
 {}

@@ -1,11 +1,13 @@
 //! The journal of an allocator: a file that `allocd replay` reads, whose first line is a configuration and which has a line for each
-//! event. It is appended to, and read again after a crash.
+//! event that was not refused. It is appended to, and read again after a crash. Behind each line stands a digest, where the file was not begun
+//! before there were digests.
 //!
-//! Contracts see the file as the bytes that a reader gives and a writer holds.
+//! Contracts see the file as the bytes that a reader gives and a writer holds, and a journal as its text without digests.
 #![tactic(auto)]
 
 mod appending;
 mod archive;
+mod by_hand;
 mod configuring;
 mod jobs;
 mod laws;
@@ -16,9 +18,10 @@ mod writing;
 
 pub use appending::append;
 pub use archive::Archive;
+pub use by_hand::sealed_by_hand;
 pub use configuring::configuration_line;
 pub use jobs::are_jobs_of;
-pub use laws::{journals_resume, journals_survive, settles};
+pub use laws::{files_survive, journals_resume, journals_survive, refused_are_left_out, settles};
 pub use recovering::{MOST_JOURNAL, Recovered, recover};
 pub use renewing::renewed_line;
-pub use writing::journal_lines;
+pub use writing::{Lines, first_lines, journal_lines};

@@ -6,7 +6,7 @@ ghost use Rattle.json_values.specs.Texts.{json_of};
 ghost use Rattle.serde_json.specs.View.{view};
 ghost use Rattle.replay_lines.specs.Configurations.{opened};
 ghost use Rattle.durable_journal.specs.Configured.{IsLineGiven, OpensAgain, goes_on, with_history};
-ghost use Rattle.durable_journal.specs.Lines.{HasNoFeed};
+ghost use Rattle.sealed_lines.specs.Lines.{HasNoFeed};
 ghost use Rattle.durable_journal.specs.Marks.{mark_text, marked as with_mark};
 
 use crate::configuring::marked_line;

@@ -1,34 +1,101 @@
 //! The lines of events.
-ghost use Rattle.std.specs.Prelude.{◌≡◌, [], ◌++◌, IfOk, OnOk};
-ghost use Rattle.alloc_desk.specs.History.{events_in};
+ghost use Rattle.std.specs.Prelude.{◌≡◌, [], ◌∷◌, ◌++◌, IfOk, OnOk, Some};
 ghost use Rattle.fleet_events.specs.Writing.{event_text};
-ghost use Rattle.durable_journal.specs.Events.{IsLineOf, SaysEvents, events_text};
-ghost use Rattle.durable_journal.specs.Lines.{with_line};
+ghost use Rattle.sealed_lines.specs.Chains.{behind, sealed, start};
+ghost use Rattle.durable_journal.specs.Events.{AreSaid, IsLineOf, event_lines};
+ghost use Rattle.durable_journal.specs.Files.{bytes_of, chain_past};
+ghost use Rattle.durable_journal.specs.Kept.{is_kept, kept_in};
 
 use alloc_desk::Entry;
+use allocation_core::Answer;
 use fleet_events::Event;
 use lists::List;
+use sealed_lines::{Chain, seal_line};
 use std::alloc::{AllocError, Global};
 
-/// The lines of the entries' events, each ended by a line feed. They are to be appended at once.
-pub fn journal_lines(alloc: Global, entries: &[Entry]) -> Result<List<u8>, AllocError>
-    ensures form { IfOk result (λ l. l ≡ events_text (events_in entries.now)) }
-    ensures says { IfOk result (λ l. SaysEvents l (events_in entries.now)) }
+/// Lines that are to be appended to a file at once.
+#[derive(Drop)]
+pub struct Lines {
+    /// Each line with its digest, if it has one, and its line feed.
+    pub bytes: List<u8>,
+    /// The digest of the last line of the file then, where its lines have digests.
+    pub chain: Option<Chain>,
+}
+
+/// The first line of a file whose lines have digests.
+pub fn first_lines(alloc: Global, line: &[u8]) -> Result<Lines, AllocError>
+    ensures form { IfOk result (λ l. l.bytes ≡ sealed start (line.now ∷ [])) }
+    ensures chain { IfOk result (λ l. l.chain ≡ Some (behind start line.now)) }
 {
-    let mut lines = Vec::new(alloc);
+    let mut bytes = Vec::new(alloc);
+    let chain = seal_line(alloc, Chain::start(), line, &mut bytes)?;
+    Ok(Lines {
+        bytes: List::from_vec(bytes),
+        chain: Some(chain),
+    })
+}
+
+/// The lines of the entries' events that were not refused, behind a line with this digest, or without digests.
+pub fn journal_lines(
+    alloc: Global,
+    chain: Option<Chain>,
+    entries: &[Entry],
+) -> Result<Lines, AllocError>
+    ensures form { IfOk result (λ l. l.bytes ≡ bytes_of chain (event_lines (kept_in entries.now))) }
+    ensures chain { IfOk result (λ l. l.chain ≡ chain_past chain (event_lines (kept_in entries.now))) }
+    ensures says { IfOk result (λ l. AreSaid (kept_in entries.now)) }
+{
+    let mut bytes = Vec::new(alloc);
+    let mut last = chain;
     for entry in entries {
-        add_line(alloc, &entry.event, &mut lines)?;
+        if is_kept(&entry.answer) {
+            last = add_event(alloc, last, &entry.event, &mut bytes)?;
+        }
     }
-    Ok(List::from_vec(lines))
+    Ok(Lines {
+        bytes: List::from_vec(bytes),
+        chain: last,
+    })
+}
+
+/// Whether an event that was answered so may have changed something.
+fn is_kept(answer: &Answer) -> bool
+    ensures { result ≡ is_kept answer.now }
+{
+    !matches!(answer, Answer::Not(_))
 }
 
 /// Adds the line of an event.
-fn add_line(alloc: Global, event: &Event, lines: &mut Vec<u8>) -> Result<(), AllocError>
-    ensures form { OnOk result (lines.new.items ≡ lines.old.items ++ with_line (event_text event.now) []) }
+fn add_event(
+    alloc: Global,
+    chain: Option<Chain>,
+    event: &Event,
+    bytes: &mut Vec<u8>,
+) -> Result<Option<Chain>, AllocError>
+    ensures form { OnOk result (bytes.new.items ≡ bytes.old.items ++ bytes_of chain (event_text event.now ∷ [])) }
+    ensures chain { IfOk result (λ c. c ≡ chain_past chain (event_text event.now ∷ [])) }
     ensures says { OnOk result (IsLineOf (event_text event.now) event.now) }
 {
     let line = event.to_json(alloc)?;
-    lines.extend_from_slice(line.as_str().as_bytes())?;
-    lines.push(b'\n')?;
-    Ok(())
+    add_line(alloc, chain, line.as_str().as_bytes(), bytes)
+}
+
+/// Adds a line, with its digest if it is to have one.
+fn add_line(
+    alloc: Global,
+    chain: Option<Chain>,
+    line: &[u8],
+    bytes: &mut Vec<u8>,
+) -> Result<Option<Chain>, AllocError>
+    ensures form { OnOk result (bytes.new.items ≡ bytes.old.items ++ bytes_of chain (line.now ∷ [])) }
+    ensures chain { IfOk result (λ c. c ≡ chain_past chain (line.now ∷ [])) }
+{
+    match chain {
+        Some(chain) => Ok(Some(seal_line(alloc, chain, line, bytes)?)),
+        None => {
+            bytes.extend_from_slice(line)?;
+            bytes.push(b'\n')?;
+            Ok(None)
+        }
+    }
 }

@@ -48,6 +48,13 @@ pub(crate) fn no_journal(alloc: Global, path: &str) -> Fault {
     ))
 }
 
+/// The fault of a journal of which a line is not as it was written.
+pub(crate) fn altered(alloc: Global, path: &str, line: u64) -> Fault {
+    told(format!(in alloc;
+        "{path}: line {line} is damaged: its digest is not that of it and of the lines before it: put a whole copy of the file in its place, or mend it and run allocd seal"
+    ))
+}
+
 /// The fault of a file that is too long for a journal.
 pub(crate) fn too_long(alloc: Global, path: &str) -> Fault {
     told(format!(in alloc; "{path}: too long"))
@@ -67,6 +74,7 @@ fn check_found<R: Files<File = File>>(
     let mut file = File::open(rt, path)?;
     match recover(alloc, &mut file)? {
         Recovered::Found { .. } => Ok(()),
+        Recovered::Altered { line } => Err(altered(alloc, path, line)),
         Recovered::Other => Err(no_journal(alloc, path)),
         Recovered::TooLong => Err(too_long(alloc, path)),
     }

@@ -7,6 +7,7 @@ use durable_journal::append;
 use log::{info, warn};
 use logfmt::Logfmt;
 use sd_documents::Job;
+use sealed_lines::Chain;
 use std::alloc::{AllocGlobal, Global};
 use std::fs::{File, OpenFile};
 use std::rt::Files;
@@ -20,6 +21,8 @@ pub struct Opened<F> {
     pub file: Option<F>,
     /// How many bytes its journal has.
     pub bytes: u64,
+    /// The digest of the journal's last line, where its lines have digests.
+    pub chain: Option<Chain>,
 }
 
 /// The allocator that the last of the journals leads to, under these jobs of a configuration. Where it has other jobs it is renewed under
@@ -35,6 +38,7 @@ pub fn open_allocator<R: Files<File = File> + AllocGlobal + Clock + Eprint + Cop
             core: configured(journals.alloc, line)?,
             file: None,
             bytes: 0,
+            chain: None,
         }),
     }
 }
@@ -83,10 +87,12 @@ fn begin<R: Files<File = File> + AllocGlobal + Clock + Eprint + Copy + Drop>(
     match next_file(journals, path, file, &start.journal) {
         Ok(file) => {
             let bytes = start.journal.bytes();
+            let chain = start.journal.chain();
             Ok(Opened {
                 core: start.core,
                 file: Some(file),
                 bytes,
+                chain,
             })
         }
         Err(error) => Err(Fault::Machine(error)),
@@ -102,12 +108,12 @@ fn next_file<R: Files<File = File> + AllocGlobal + Clock + Eprint + Copy + Drop>
 ) -> io::Result<File> {
     cut(&journals.rt, &file, journal)?;
     match &journal.next {
-        Next::Begins(first) => begun(&journals.rt, path, file, first.as_str()),
+        Next::Begins(first) => begun(&journals.rt, path, file, first.bytes.as_slice()),
         Next::GoesOn(events) => {
             log_read(&journals.rt, *events);
             Ok(file)
         }
-        Next::IsReplaced(first) => replaced(journals, path, first.as_str()),
+        Next::IsReplaced(first) => replaced(journals, path, first.bytes.as_slice()),
     }
 }
 
@@ -115,13 +121,13 @@ fn log_read<R: Clock + Eprint + Copy>(rt: &R, events: u64) {
     info!(Logfmt(*rt); events; "the journal is read");
 }
 
-/// The file of a journal that takes the place of the last one and begins with this text.
+/// The file of a journal that takes the place of the last one and begins with these bytes.
 fn replaced<R: Files<File = File> + AllocGlobal + Clock + Eprint + Copy + Drop>(
     journals: &Journals<R>,
     path: &str,
-    first: &str,
+    first: &[u8],
 ) -> io::Result<File> {
-    let next = journals.change(path, first.as_bytes())?;
+    let next = journals.change(path, first)?;
     log_replaced(&journals.rt);
     Ok(next)
 }
@@ -130,12 +136,12 @@ fn log_replaced<R: Clock + Eprint + Copy>(rt: &R) {
     info!(Logfmt(*rt); "the configuration has other jobs than the journal: the allocator is renewed");
 }
 
-/// The file of a journal that begins with this text.
+/// The file of a journal that begins with these bytes.
 fn begun<R: Files<File = File>>(
     rt: &R,
     path: &str,
     mut file: File,
-    first: &str,
+    first: &[u8],
 ) -> io::Result<File> {
     match begin_file(rt, path, &mut file, first) {
         Ok(()) => Ok(file),
@@ -147,9 +153,9 @@ fn begin_file<R: Files<File = File>>(
     rt: &R,
     path: &str,
     file: &mut File,
-    first: &str,
+    first: &[u8],
 ) -> io::Result<()> {
-    append(file, first.as_bytes())?;
+    append(file, first)?;
     sync_folder(rt, path)
 }
 

@@ -1,11 +1,12 @@
 //! The allocator that a journal leads to, under the jobs of a configuration.
 use crate::fault::Fault;
-use crate::guarding::{no_journal, too_long};
+use crate::guarding::{altered, no_journal, too_long};
 use allocation_core::{Core, JobSpec, NotRenewed, RenewalError};
-use durable_journal::{Recovered, are_jobs_of, recover, renewed_line};
-use lists::{List, copies};
+use durable_journal::{Lines, Recovered, are_jobs_of, first_lines, recover, renewed_line};
+use lists::copies;
 use replay_lines::{Damage, Resumption, resume};
 use sd_documents::Job;
+use sealed_lines::Chain;
 use std::alloc::{AllocError, Global};
 use std::io;
 use std::io::Read;
@@ -22,6 +23,8 @@ pub(crate) struct Start {
 pub(crate) struct Journal {
     /// How many bytes its whole lines have.
     pub(crate) whole: u64,
+    /// The digest of the last of them, where they have digests.
+    pub(crate) chain: Option<Chain>,
     /// How many bytes of a torn line follow them.
     pub(crate) torn: usize,
     pub(crate) next: Next,
@@ -32,7 +35,15 @@ impl Journal {
     pub(crate) fn bytes(&self) -> u64 {
         match &self.next {
             Next::GoesOn(_) => self.whole,
-            Next::Begins(first) | Next::IsReplaced(first) => first.len() as u64,
+            Next::Begins(first) | Next::IsReplaced(first) => first.bytes.len() as u64,
+        }
+    }
+
+    /// The digest of the last line of the journal that goes on, where its lines have digests.
+    pub(crate) fn chain(&self) -> Option<Chain> {
+        match &self.next {
+            Next::GoesOn(_) => self.chain,
+            Next::Begins(first) | Next::IsReplaced(first) => first.chain,
         }
     }
 }
@@ -40,12 +51,12 @@ impl Journal {
 /// What is to become of a journal.
 #[derive(Drop)]
 pub(crate) enum Next {
-    /// It has no line, and begins with this text.
-    Begins(String),
+    /// It has no line, and begins with this one.
+    Begins(Lines),
     /// It goes on behind so many events.
     GoesOn(u64),
-    /// Another one begins with this text in its place.
-    IsReplaced(String),
+    /// Another one begins with this line in its place.
+    IsReplaced(Lines),
 }
 
 /// Reads the journal at a path to its end, and changes nothing of it.
@@ -57,24 +68,28 @@ pub(crate) fn read_journal<F: Read>(
     jobs: &[Job],
 ) -> Result<Start, Fault> {
     match recover(alloc, file)? {
-        Recovered::Found { lines, torn } => start_behind(alloc, path, lines, torn, line, jobs),
+        Recovered::Found {
+            lines,
+            chain,
+            whole,
+            torn,
+        } => {
+            let (core, next) = start_over(alloc, path, lines.as_slice(), line, jobs)?;
+            let whole = whole as u64;
+            Ok(Start {
+                core,
+                journal: Journal {
+                    whole,
+                    chain,
+                    torn,
+                    next,
+                },
+            })
+        }
+        Recovered::Altered { line } => Err(altered(alloc, path, line)),
         Recovered::Other => Err(no_journal(alloc, path)),
         Recovered::TooLong => Err(too_long(alloc, path)),
     }
-}
-
-fn start_behind(
-    alloc: Global,
-    path: &str,
-    lines: List<u8>,
-    torn: usize,
-    line: &str,
-    jobs: &[Job],
-) -> Result<Start, Fault> {
-    let (core, next) = start_over(alloc, path, lines.as_slice(), line, jobs)?;
-    let whole = lines.len() as u64;
-    let journal = Journal { whole, torn, next };
-    Ok(Start { core, journal })
 }
 
 /// The allocator that the lines of the journal at a path lead to, under the jobs of a configuration. Where there are no lines it is that of
@@ -102,7 +117,7 @@ pub(crate) fn configured(alloc: Global, line: &str) -> Result<Core, Fault> {
 }
 
 fn start_anew(alloc: Global, line: &str) -> Result<(Core, Next), Fault> {
-    let first = format!(in alloc; "{line}\n")?;
+    let first = first_lines(alloc, line.as_bytes())?;
     let core = configured(alloc, line)?;
     Ok((core, Next::Begins(first)))
 }
@@ -128,12 +143,9 @@ fn replaced(alloc: Global, line: &str, core: Core) -> Result<(Core, Next), Fault
 }
 
 /// The line with which the journal of an allocator begins that was just renewed under the jobs of a configuration's line.
-fn first_line(alloc: Global, line: &str, core: &Core) -> Result<String, Fault> {
+fn first_line(alloc: Global, line: &str, core: &Core) -> Result<Lines, Fault> {
     match renewed_line(alloc, line.as_bytes(), core)? {
-        Some(line) => {
-            let line = line.as_str();
-            Ok(format!(in alloc; "{line}\n")?)
-        }
+        Some(line) => Ok(first_lines(alloc, line.as_str().as_bytes())?),
         None => Err(Fault::Machine(io::ErrorKind::InvalidData.into())),
     }
 }

@@ -1,12 +1,14 @@
 //! Files as crashes leave them.
 use crate::device::Memory;
 use alloc_desk::Entry;
-use allocation_core::{Answer, Core};
+use allocation_core::{Answer, Core, Refusal};
 use durable_journal::{
-    Recovered, append, configuration_line, journal_lines, recover, renewed_line,
+    Lines, Recovered, append, configuration_line, first_lines, journal_lines, recover,
+    renewed_line, sealed_by_hand,
 };
 use fleet_events::{Event, read_event};
 use replay_lines::resume;
+use sealed_lines::Chain;
 use std::alloc::Global;
 
 /// A configuration over several lines, with a number that is not read.
@@ -23,29 +25,42 @@ const LINES: &str =
 
 /// Appends the first line and both events, and of a third what a crash leaves.
 fn crashes(alloc: Global, file: &mut Memory) -> bool {
-    begins(alloc, file) && enters_both(alloc, file) && append(file, b"{\"event").is_ok()
-}
-
-fn begins(alloc: Global, file: &mut Memory) -> bool {
-    match configuration_line(alloc, CONFIGURATION.as_bytes()) {
-        Ok(Some(line)) => {
-            append(file, line.as_str().as_bytes()).is_ok() && append(file, b"\n").is_ok()
-        }
-        _ => false,
+    match begins(alloc, file) {
+        Some(chain) => enters_both(alloc, chain, file) && append(file, b"{\"event").is_ok(),
+        None => false,
     }
 }
 
-fn enters_both(alloc: Global, file: &mut Memory) -> bool {
+/// Appends the first line, and gives its digest.
+fn begins(alloc: Global, file: &mut Memory) -> Option<Chain> {
+    match configuration_line(alloc, CONFIGURATION.as_bytes()) {
+        Ok(Some(line)) => match first_lines(alloc, line.as_str().as_bytes()) {
+            Ok(lines) => appends(file, &lines),
+            Err(_) => None,
+        },
+        _ => None,
+    }
+}
+
+fn appends(file: &mut Memory, lines: &Lines) -> Option<Chain> {
+    append(file, lines.bytes.as_slice()).ok()?;
+    lines.chain
+}
+
+/// Enters both events, and between them one that was refused.
+fn enters_both(alloc: Global, chain: Chain, file: &mut Memory) -> bool {
     match (
+        read_event(alloc, JOIN.as_bytes()),
         read_event(alloc, JOIN.as_bytes()),
         read_event(alloc, ROUND.as_bytes()),
     ) {
-        (Ok(Some(join)), Ok(Some(round))) => {
+        (Ok(Some(join)), Ok(Some(again)), Ok(Some(round))) => {
             let entries = [
                 entry(join, Answer::Joined(1)),
+                entry(again, Answer::Not(Refusal::AlreadyJoined(1))),
                 entry(round, Answer::RoundOpen(2)),
             ];
-            enters(alloc, file, &entries)
+            enters(alloc, chain, file, &entries)
         }
         _ => false,
     }
@@ -59,9 +74,9 @@ fn entry(event: Event, answer: Answer) -> Entry {
     }
 }
 
-fn enters(alloc: Global, file: &mut Memory, entries: &[Entry]) -> bool {
-    match journal_lines(alloc, entries) {
-        Ok(lines) => append(file, lines.as_slice()).is_ok(),
+fn enters(alloc: Global, chain: Chain, file: &mut Memory, entries: &[Entry]) -> bool {
+    match journal_lines(alloc, Some(chain), entries) {
+        Ok(lines) => appends(file, &lines).is_some(),
         Err(_) => false,
     }
 }
@@ -70,8 +85,15 @@ fn enters(alloc: Global, file: &mut Memory, entries: &[Entry]) -> bool {
 fn finds(alloc: Global, file: &[u8], wanted: &str, behind: usize) -> bool {
     let mut reader = file;
     match recover(alloc, &mut reader) {
-        Ok(Recovered::Found { lines, torn }) => {
-            lines.as_slice() == wanted.as_bytes() && torn == behind
+        Ok(
+            Recovered::Found {
+                lines,
+                chain: _,
+                whole,
+                torn,
+            },
+        ) => {
+            lines.as_slice() == wanted.as_bytes() && torn == behind && whole + torn == file.len()
         }
         _ => false,
     }
@@ -137,4 +159,52 @@ fn another_file_is_no_journal(rt: HostRuntime) {
         b"\0\0\0\0",
     ];
     assert!(rt; others.iter().all(|file| is_other(rt.alloc(), *file)));
+}
+
+/// A first line, and an event, with their digests.
+const SEALED: &str =
+    "{\"\":\"allocd journal\",\"scrape_configs\":[{\"job_name\":\"node\"}]} \"4aea3da4c1eb3a44\"\n{\"event\":\"join\",\"name\":\"a\",\"reach\":[]} \"b6fd76f484fc3be3\"\n";
+
+const UNSEALED: &str =
+    "{\"\":\"allocd journal\",\"scrape_configs\":[{\"job_name\":\"node\"}]}\n{\"event\":\"join\",\"name\":\"a\",\"reach\":[]}\n";
+
+/// Whether the line of this number is told to be altered.
+fn is_altered(alloc: Global, file: &[u8], number: u64) -> bool {
+    let mut reader = file;
+    match recover(alloc, &mut reader) {
+        Ok(Recovered::Altered { line }) => line == number,
+        _ => false,
+    }
+}
+
+#[test]
+fn digests_are_those_of_the_documentation(rt: HostRuntime) {
+    assert!(rt; finds(rt.alloc(), SEALED.as_bytes(), UNSEALED, 0));
+    assert!(rt; finds(rt.alloc(), UNSEALED.as_bytes(), UNSEALED, 0));
+}
+
+#[test]
+fn another_name_is_another_line(rt: HostRuntime) {
+    let file =
+        "{\"\":\"allocd journal\",\"scrape_configs\":[{\"job_name\":\"node\"}]} \"4aea3da4c1eb3a44\"\n{\"event\":\"join\",\"name\":\"b\",\"reach\":[]} \"b6fd76f484fc3be3\"\n";
+    assert!(rt; is_altered(rt.alloc(), file.as_bytes(), 2));
+}
+
+/// Whether a file that is sealed by hand is read, and says so.
+fn is_sealed_by_hand(alloc: Global, file: &[u8]) -> bool {
+    match sealed_by_hand(alloc, file) {
+        Ok(Ok(bytes)) => finds(
+            alloc,
+            bytes.as_slice(),
+            "{\"\":\"allocd journal\",\"scrape_configs\":[{\"job_name\":\"node\"}],\"sealed\":\"by hand\"}\n{\"event\":\"join\",\"name\":\"a\",\"reach\":[]}\n",
+            0,
+        ),
+        _ => false,
+    }
+}
+
+#[test]
+fn a_mended_journal_is_sealed(rt: HostRuntime) {
+    assert!(rt; is_sealed_by_hand(rt.alloc(), SEALED.as_bytes()));
+    assert!(rt; is_sealed_by_hand(rt.alloc(), UNSEALED.as_bytes()));
 }

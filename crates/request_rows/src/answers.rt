@@ -5,12 +5,16 @@ use lists::Text;
 use sd_routes::{Notice, Place, RequestError, Said};
 use std::alloc::{AllocError, Global};
 
-/// What a text says: `answer ANSWER`, `refused NAME`, `page TEXT`, `taken ALLOCATION ROUND GROUPS`, `metrics TEXT` or `notice NAME`.
+/// What a text says: `answer ANSWER`, `refused NAME`, `page TEXT`, `taken ALLOCATION ROUND GROUPS`, `metrics TEXT`,
+/// `document TEXT`, `misshapen MEMBER`, `reloaded TEXT` or `notice NAME`.
 pub(crate) fn said_in(alloc: Global, text: &str) -> Result<Option<Said>, AllocError> {
     let (word, rest) = first_word(text);
     match word {
         "page" => Ok(Some(Said::Page(Text::from_str(alloc, rest)?))),
         "metrics" => Ok(Some(Said::Metrics(Text::from_str(alloc, rest)?))),
+        "document" => Ok(Some(Said::Document(Text::from_str(alloc, rest)?))),
+        "misshapen" => Ok(Some(Said::Misshapen(Text::from_str(alloc, rest)?))),
+        "reloaded" => Ok(Some(Said::Reloaded(Text::from_str(alloc, rest)?))),
         "taken" => Ok(Some(taken(alloc, rest)?)),
         "answer" => Ok(answer(rest)),
         "refused" => Ok(refused(rest)),
@@ -47,13 +51,19 @@ fn answer(text: &str) -> Option<Said> {
 fn refused(text: &str) -> Option<Said> {
     let error = match text {
         "BadName" => RequestError::BadName,
+        "Expectation" => RequestError::Expectation,
+        "Host" => RequestError::Host,
         "JournalFull" => RequestError::JournalFull,
+        "MediaType" => RequestError::MediaType,
         "Memory" => RequestError::Memory,
         "Method(Limits)" => RequestError::Method(Place::Limits),
         "NoRoute" => RequestError::NoRoute,
+        "Origin" => RequestError::Origin,
         "Shape" => RequestError::Shape,
+        "Token" => RequestError::Token,
         "TooLong" => RequestError::TooLong,
         "TooManyRules" => RequestError::TooManyRules,
+        "TransferCoding" => RequestError::TransferCoding,
         _ => return None,
     };
     Some(Said::Refused(error))
@@ -61,6 +71,7 @@ fn refused(text: &str) -> Option<Said> {
 
 fn notice(text: &str) -> Option<Said> {
     match text {
+        "Broken" => Some(Said::Notice(Notice::Broken)),
         "NotReady" => Some(Said::Notice(Notice::NotReady)),
         _ => None,
     }

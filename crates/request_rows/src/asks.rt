@@ -94,6 +94,7 @@ fn spelled(alloc: Global, ask: &Ask) -> Result<String, AllocError> {
         Ask::SetLimits(collector) => format!(in alloc; "limits of {collector}"),
         Ask::Report => String::from_str(alloc, "report"),
         Ask::Healthy => String::from_str(alloc, "healthy"),
+        Ask::Live => String::from_str(alloc, "live"),
         Ask::Ready => String::from_str(alloc, "ready"),
         Ask::Metrics => String::from_str(alloc, "metrics"),
         Ask::Reload => String::from_str(alloc, "reload"),

@@ -15,7 +15,7 @@ pub(crate) fn response(alloc: Global, text: &str) -> Result<String, AllocError> 
 }
 
 fn told(alloc: Global, said: Said) -> Result<String, AllocError> {
-    match answer(alloc, said) {
+    match answer(alloc, said, false) {
         Ok(response) => outline(alloc, &response),
         Err(error) => Err(error),
     }

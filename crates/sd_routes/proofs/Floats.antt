@@ -12,6 +12,7 @@ use Rattle.json_values.proofs.Lists.{no_float}
 use Rattle.json_values.specs.Spelling.{list_data}
 use Rattle.label_sets.specs.Labels.{LabelList}
 use Rattle.sd_documents.specs.declared.config.Job.{Job}
+use Rattle.sd_routes.specs.Responses.{misshapen_data}
 use Rattle.sd_routes.specs.Pages.{job_data, with_jobs, jobs_data, with_labels, group_data, share_data, with_shares, shares_data, uncovered_data}
 use Rattle.alloc_desk.specs.declared.view.NumberedTarget.{NumberedTarget}
 use Rattle.alloc_desk.specs.declared.view.Share.{Share}
@@ -65,3 +66,6 @@ with_shares_no_float job ms (share ∷ shares) h =
 
 pub shares_no_float : (job : List ℕ) (shares : List Share) → has_float (shares_data job shares) ≡ false
 shares_no_float job shares = with_shares_no_float job no_members shares refl
+
+pub misshapen_no_float : (name : List ℕ) → has_float (misshapen_data name) ≡ false
+misshapen_no_float name = refl

@@ -12,6 +12,7 @@ use Rattle.reach_rules.specs.Spelling.{rules_spelled}
 use Rattle.reach_rules.specs.declared.reach.TheConstants.{MOST_RULES}
 use Rattle.reach_rules.specs.declared.rule.ReachRule.{ReachRule}
 use Rattle.sd_routes.specs.Asks.{name_said}
+use Rattle.sd_routes.specs.JoinMembers.{is_join_object}
 use Rattle.sd_routes.specs.declared.ask.Ask.{Ask}
 use Rattle.sd_routes.specs.declared.ask.Ask.TheVariants as ask
 use Rattle.sd_routes.specs.declared.request_error.RequestError.{RequestError}
@@ -57,9 +58,11 @@ join_of (Some name) (Err e) limits = Err e
 join_of (Some name) (Ok reach) (Err e) = Err e
 join_of (Some name) (Ok reach) (Ok limits) = joined (name_said name) reach limits
 
--- a collector's name, the rules by which it reaches targets, and the limits of its own
+-- an object without other members and without longer texts: a collector's name, the rules by which it reaches targets, and the limits of its own
 unfoldable pub join_said : Data → Result Event RequestError
-join_said d = join_of (member_in as_str (codes "name") d) (few_said (member_in rules_in (codes "reach") d)) (limits_or_none_said (get (codes "limits") d))
+join_said d =
+    if is_join_object d then join_of (member_in as_str (codes "name") d) (few_said (member_in rules_in (codes "reach") d)) (limits_or_none_said (get (codes "limits") d))
+    else Err Shape
 
 -- ---- limits and reports
 

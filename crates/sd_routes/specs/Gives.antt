@@ -1,12 +1,18 @@
 -- What is given against what is said.
 use Rattle.std.specs.Prelude.{◌≡◌, Result, Ok, Err}
 use Rattle.sd_routes.specs.declared.request_error.RequestError.{RequestError}
-use Rattle.sd_routes.specs.declared.request_error.RequestError.TheVariants.{NoRoute, Method, Shape, BadName, TooManyRules, TooLong, JournalFull, NotKept, Memory}
+use Rattle.sd_routes.specs.declared.request_error.RequestError.TheVariants.{NoRoute, Method, Host, Origin, Token, MediaType, TransferCoding, Expectation, Shape, BadName, TooManyRules, TooLong, JournalFull, NotKept, Memory}
 
 -- a refusal is given where it is said; that memory ran out says nothing
 abbrev pub Fails : {T : Type 0} → RequestError → Result T RequestError → Type 0
 Fails NoRoute said = said ≡ Err NoRoute
 Fails (Method place) said = said ≡ Err (Method place)
+Fails Host said = said ≡ Err Host
+Fails Origin said = said ≡ Err Origin
+Fails Token said = said ≡ Err Token
+Fails MediaType said = said ≡ Err MediaType
+Fails TransferCoding said = said ≡ Err TransferCoding
+Fails Expectation said = said ≡ Err Expectation
 Fails Shape said = said ≡ Err Shape
 Fails BadName said = said ≡ Err BadName
 Fails TooManyRules said = said ≡ Err TooManyRules

@@ -6,6 +6,7 @@ pub mod Queries
 pub mod Errors
 pub mod Gives
 pub mod Asks
+pub mod JoinMembers
 pub mod Events
 pub mod Responses
 pub mod Links

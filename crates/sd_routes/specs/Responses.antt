@@ -1,12 +1,14 @@
 -- What a response says.
-use Rattle.std.specs.Prelude.{◌≡◌, ℕ, ◌==◌, List, [], ◌∷◌, ◌++◌, length, codes, Some, None, if◌then◌else◌}
+use Rattle.std.specs.Prelude.{◌≡◌, ℕ, ◌==◌, List, [], ◌∷◌, ◌++◌, length, codes, Bool, true, false, Some, None, if◌then◌else◌}
 use Rattle.std.specs.Fmt.{decimal}
 use Rattle.http_header.specs.FieldValue.{FieldValue, plain_value}
-use Rattle.http_header.specs.HeaderMap.{Entries}
+use Rattle.http_header.specs.HeaderMap.{Entries, insert}
 use Rattle.http.specs.declared.response.Response.{Response}
 use Rattle.http.specs.declared.response.Parts.{Parts}
 use Rattle.http.specs.Response.{head_of, body_of}
 use Rattle.http_body_util.specs.declared.full.Full.{Full}
+use Rattle.serde_json.specs.Data.{Data, object, string, member, no_members}
+use Rattle.serde_json.specs.Written.{compact_text}
 use Rattle.fleet_events.specs.Lines.{answer_line}
 use Rattle.fleet_events.specs.declared.answer.Answer.{Answer}
 use Rattle.fleet_events.specs.declared.answer.Answer.TheVariants.{Not}
@@ -16,9 +18,9 @@ use Rattle.sd_routes.specs.Errors.{status_of, name_of}
 use Rattle.sd_routes.specs.Notices.{status_noticed, text_noticed}
 use Rattle.sd_routes.specs.Table.{method_of}
 use Rattle.sd_routes.specs.declared.request_error.RequestError.{RequestError}
-use Rattle.sd_routes.specs.declared.request_error.RequestError.TheVariants.{Method}
+use Rattle.sd_routes.specs.declared.request_error.RequestError.TheVariants.{Method, Token}
 use Rattle.sd_routes.specs.declared.responding.Said.{Said}
-use Rattle.sd_routes.specs.declared.responding.Said.TheVariants.{Answer as Answered, Page, Taken, Refused, Notice as Noticed, Metrics, Document, NotReloaded}
+use Rattle.sd_routes.specs.declared.responding.Said.TheVariants.{Answer as Answered, Page, Taken, Refused, Misshapen, Notice as Noticed, Metrics, Document, Reloaded, NotReloaded}
 
 -- a head with this status code and these headers
 pub record IsHead (code : ℕ) (fields : Entries FieldValue) (head : Parts) : Type 0 where
@@ -33,8 +35,18 @@ pub record IsResponse (code : ℕ) (fields : Entries FieldValue) (bytes : List �
 
 -- ---- headers
 
+-- the media type is the one that is told (Fetch Standard, section 3.6), and what follows
+abbrev pub with_no_other : Entries FieldValue → Entries FieldValue
+with_no_other fields = (codes "x-content-type-options", plain_value (codes "nosniff") ∷ []) ∷ fields
+
 abbrev pub media_headers : List ℕ → Entries FieldValue
-media_headers media = (codes "content-type", plain_value media ∷ []) ∷ []
+media_headers media = (codes "content-type", plain_value media ∷ []) ∷ with_no_other []
+
+-- a page for people: what it may load (Content Security Policy Level 3)
+abbrev pub document_headers : Entries FieldValue
+document_headers =
+    (codes "content-type", plain_value (codes "text/html; charset=utf-8") ∷ [])
+    ∷ with_no_other ((codes "content-security-policy", plain_value (codes "default-src 'none'; style-src 'unsafe-inline'; form-action 'none'; frame-ancestors 'none'") ∷ []) ∷ [])
 
 abbrev pub json_headers : Entries FieldValue
 json_headers = media_headers (codes "application/json")
@@ -43,13 +55,18 @@ json_headers = media_headers (codes "application/json")
 abbrev pub taken_headers : ℕ → ℕ → Entries FieldValue
 taken_headers allocation round =
     (codes "content-type", plain_value (codes "application/json") ∷ [])
-    ∷ (codes "x-allocation-number", plain_value (decimal allocation) ∷ [])
-    ∷ (codes "x-scrape-round", plain_value (decimal round) ∷ []) ∷ []
+    ∷ with_no_other ((codes "x-allocation-number", plain_value (decimal allocation) ∷ []) ∷ (codes "x-scrape-round", plain_value (decimal round) ∷ []) ∷ [])
 
--- where the path has another method, that method (RFC 9110, section 15.5.6)
+-- where the path has another method, that method (RFC 9110, section 15.5.6); where a token is needed, how one is shown (section 11.6.1)
 abbrev pub refused_headers : RequestError → Entries FieldValue
-refused_headers (Method place) = (codes "content-type", plain_value (codes "application/json") ∷ []) ∷ (codes "allow", plain_value (method_of place) ∷ []) ∷ []
+refused_headers (Method place) = (codes "content-type", plain_value (codes "application/json") ∷ []) ∷ with_no_other ((codes "allow", plain_value (method_of place) ∷ []) ∷ [])
+refused_headers Token = (codes "content-type", plain_value (codes "application/json") ∷ []) ∷ with_no_other ((codes "www-authenticate", plain_value (codes "Bearer") ∷ []) ∷ [])
 refused_headers _ = json_headers
+
+-- the end of the connection is told (RFC 9112, section 9.6)
+abbrev pub closing : Bool → Entries FieldValue → Entries FieldValue
+closing true fields = insert fields (codes "connection") (plain_value (codes "close"))
+closing false fields = fields
 
 -- ---- answers of the allocator
 
@@ -73,6 +90,10 @@ front_of _ = codes "{\"answer\":\""
 abbrev pub answer_text : Answer → List ℕ
 answer_text answer = front_of answer ++ answer_line answer ++ codes "\"}"
 
+-- the object that tells the member at which a body is not of the documented shape
+abbrev pub misshapen_data : List ℕ → Data
+misshapen_data name = object (member (codes "member") (string name) (member (codes "refused") (string (codes "Shape")) no_members))
+
 -- ---- all that is said
 
 abbrev pub status_said : Said → ℕ
@@ -80,9 +101,11 @@ status_said (Answered answer) = status_answered answer
 status_said (Page text) = 200
 status_said (Taken allocation round groups) = 200
 status_said (Refused error) = status_of error
+status_said (Misshapen name) = 400
 status_said (Noticed notice) = status_noticed notice
 status_said (Metrics text) = 200
 status_said (Document text) = 200
+status_said (Reloaded changes) = 200
 status_said (NotReloaded fault) = 500
 
 abbrev pub headers_said : Said → Entries FieldValue
@@ -90,7 +113,8 @@ headers_said (Taken allocation round groups) = taken_headers allocation round
 headers_said (Refused error) = refused_headers error
 headers_said (Noticed notice) = media_headers (codes "text/plain; charset=utf-8")
 headers_said (Metrics text) = media_headers (codes "text/plain; version=0.0.4; charset=utf-8")
-headers_said (Document text) = media_headers (codes "text/html; charset=utf-8")
+headers_said (Document text) = document_headers
+headers_said (Reloaded changes) = media_headers (codes "text/plain; charset=utf-8")
 headers_said (NotReloaded fault) = media_headers (codes "text/plain; charset=utf-8")
 headers_said _ = json_headers
 
@@ -99,7 +123,9 @@ body_said (Answered answer) = answer_text answer
 body_said (Page text) = text
 body_said (Taken allocation round groups) = groups
 body_said (Refused error) = refused_text (name_of error)
+body_said (Misshapen name) = compact_text (misshapen_data name)
 body_said (Noticed notice) = text_noticed notice
 body_said (Metrics text) = text
 body_said (Document text) = text
+body_said (Reloaded changes) = changes
 body_said (NotReloaded fault) = fault

@@ -6,7 +6,7 @@ use Rattle.matchit.specs.Route.{parse_route, Scan}
 use Rattle.matchit.specs.Router.{RouteOf, route_from}
 use Rattle.matchit.specs.declared.error.InsertError.{InsertError}
 use Rattle.sd_routes.specs.declared.place.Place.{Place}
-use Rattle.sd_routes.specs.declared.place.Place.TheVariants.{Status, ScrapeConfigs, Jobs, JobTargets, Uncovered, Certificate, Collectors, Collector, Drain, Limits, Reports, Healthy, Ready, Metrics, Reload, Quit}
+use Rattle.sd_routes.specs.declared.place.Place.TheVariants.{Status, ScrapeConfigs, Jobs, JobTargets, Uncovered, Certificate, Collectors, Collector, Drain, Limits, Reports, Healthy, Live, Ready, Metrics, Reload, Quit}
 
 abbrev pub added : Result Scan InsertError → Place → RowsOf (RouteOf Place) → RowsOf (RouteOf Place)
 added (Ok scan) place rows = placed ((route_from scan place).pattern, route_from scan place) rows
@@ -37,5 +37,5 @@ route_rows =
     (with_route (codes "/metrics") Metrics
     (with_route (codes "/readyz") Ready
     (with_route (codes "/-/ready") Ready
-    (with_route (codes "/livez") Healthy
+    (with_route (codes "/livez") Live
     (with_route (codes "/-/healthy") Healthy desk_rows))))))

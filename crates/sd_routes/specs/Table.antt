@@ -1,7 +1,7 @@
 -- The table of paths: which place each names, and the method of the place.
 use Rattle.std.specs.Prelude.{ℕ, ◌==◌, ◌&&◌, ◌++◌, List, [], ◌∷◌, Bool, true, false, not, codes, Option, Some, None, if◌then◌else◌}
 use Rattle.sd_routes.specs.declared.place.Place.{Place}
-use Rattle.sd_routes.specs.declared.place.Place.TheVariants.{Status, ScrapeConfigs, Jobs, JobTargets, Uncovered, Certificate, Collectors, Collector, Drain, Limits, Reports, Healthy, Ready, Metrics, Reload, Quit}
+use Rattle.sd_routes.specs.declared.place.Place.TheVariants.{Status, ScrapeConfigs, Jobs, JobTargets, Uncovered, Certificate, Collectors, Collector, Drain, Limits, Reports, Healthy, Live, Ready, Metrics, Reload, Quit}
 
 -- in a route, what stands for one segment of a path. It is no byte
 abbrev pub segment : ℕ
@@ -25,7 +25,7 @@ table =
     ∷ (codes "/jobs/" ++ segment ∷ codes "/targets", JobTargets)
     ∷ (codes "/jobs/" ++ segment ∷ codes "/uncovered", Uncovered)
     ∷ (codes "/jobs", Jobs)
-    ∷ (codes "/livez", Healthy)
+    ∷ (codes "/livez", Live)
     ∷ (codes "/metrics", Metrics)
     ∷ (codes "/readyz", Ready)
     ∷ (codes "/reports", Reports)
@@ -46,6 +46,7 @@ method_of Drain = codes "POST"
 method_of Limits = codes "PUT"
 method_of Reports = codes "POST"
 method_of Healthy = codes "GET"
+method_of Live = codes "GET"
 method_of Ready = codes "GET"
 method_of Metrics = codes "GET"
 method_of Reload = codes "POST"

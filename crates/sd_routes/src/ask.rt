@@ -28,8 +28,10 @@ pub enum Ask {
     SetLimits(CollectorId),
     /// A scrape is reported; the body has it.
     Report,
-    /// Whether the service lives.
+    /// Whether the service answers.
     Healthy,
+    /// Whether the service is to go on as it is.
+    Live,
     /// Whether the service is ready to answer.
     Ready,
     /// What the service counts.

@@ -7,6 +7,7 @@ ghost use Rattle.sd_routes.specs.Events.{event_said, event_in, join_said, set_li
 ghost use Rattle.sd_routes.specs.Gives.{Gives};
 
 use crate::ask::Ask;
+use crate::join_members::is_join_object;
 use crate::request_error::RequestError;
 use crate::routing::collector_name;
 use fleet_events::{CollectorId, Event, read_report};
@@ -46,6 +47,9 @@ fn event_in(alloc: Global, ask: &Ask, value: &Value) -> Result<Event, RequestErr
 fn read_join(alloc: Global, value: &Value) -> Result<Event, RequestError>
     ensures { Gives result (join_said (view value.now)) }
 {
+    if !is_join_object(value) {
+        return Err(RequestError::Shape);
+    }
     let name = value
         .get("name")
         .and_then(Value::as_str)

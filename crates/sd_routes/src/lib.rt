@@ -8,7 +8,9 @@
 mod ask;
 mod decimal;
 mod event;
+mod join_members;
 mod link;
+mod misshapen;
 mod notice;
 mod pages;
 mod place;
@@ -21,6 +23,8 @@ mod segment;
 
 pub use ask::Ask;
 pub use event::event_of;
+pub use join_members::{LONGEST_LABEL, LONGEST_VALUE};
+pub use misshapen::misshapen_member;
 pub use notice::Notice;
 pub use pages::{job_page, jobs_page, targets_page, uncovered_page};
 pub use place::Place;

@@ -7,14 +7,14 @@ use http::StatusCode;
 /// What the service says of itself in a line of plain text, after Prometheus's management API.
 #[derive(Clone, Copy, Debug, PartialEq, Eq)]
 pub enum Notice {
-    /// It lives.
+    /// It answers.
     Healthy,
+    /// It cannot keep what is submitted.
+    Broken,
     /// It answers for all sources.
     Ready,
     /// It does not answer for all sources yet, or does not answer for what is submitted.
     NotReady,
-    /// It has read its configuration again.
-    Reloaded,
     /// It ends.
     Quitting,
     /// It does not end for a request, and does not read its configuration again for one.
@@ -28,8 +28,8 @@ impl Notice {
     {
         match self {
             Notice::Healthy | Notice::Ready => StatusCode::OK,
-            Notice::Reloaded | Notice::Quitting => StatusCode::OK,
-            Notice::NotReady => StatusCode::SERVICE_UNAVAILABLE,
+            Notice::Quitting => StatusCode::OK,
+            Notice::Broken | Notice::NotReady => StatusCode::SERVICE_UNAVAILABLE,
             Notice::NoLifecycle => StatusCode::FORBIDDEN,
         }
     }
@@ -40,9 +40,9 @@ impl Notice {
     {
         match self {
             Notice::Healthy => "allocd is healthy.\n",
+            Notice::Broken => "allocd cannot keep what is submitted.\n",
             Notice::Ready => "allocd is ready.\n",
             Notice::NotReady => "allocd is not ready.\n",
-            Notice::Reloaded => "The configuration is read again.\n",
             Notice::Quitting => "allocd ends. Goodbye!\n",
             Notice::NoLifecycle => "The lifecycle API is not enabled.\n",
         }

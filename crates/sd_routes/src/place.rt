@@ -18,6 +18,7 @@ pub enum Place {
     Limits,
     Reports,
     Healthy,
+    Live,
     Ready,
     Metrics,
     Reload,
@@ -33,7 +34,7 @@ impl Place {
         match self {
             Place::ScrapeConfigs | Place::Jobs | Place::JobTargets | Place::Uncovered => "GET",
             Place::Certificate | Place::Status => "GET",
-            Place::Healthy | Place::Ready | Place::Metrics => "GET",
+            Place::Healthy | Place::Live | Place::Ready | Place::Metrics => "GET",
             Place::Collectors | Place::Drain | Place::Reports => "POST",
             Place::Reload | Place::Quit => "POST",
             Place::Collector => "DELETE",

@@ -13,6 +13,18 @@ pub enum RequestError {
     NoRoute,
     /// The place of the path has another method.
     Method(Place),
+    /// The host that is asked is none of the service's names.
+    Host,
+    /// The request comes from a page of another site.
+    Origin,
+    /// No token is shown that may ask for this.
+    Token,
+    /// The body is not told to be JSON.
+    MediaType,
+    /// The body is in a transfer coding other than `chunked`.
+    TransferCoding,
+    /// Something other than `100-continue` is expected.
+    Expectation,
     /// A segment of the path, or the body, is not of the documented shape.
     Shape,
     /// A collector's name is empty or longer than 128 bytes.
@@ -37,6 +49,11 @@ impl RequestError {
         match self {
             RequestError::NoRoute => StatusCode::NOT_FOUND,
             RequestError::Method(_) => StatusCode::METHOD_NOT_ALLOWED,
+            RequestError::Host | RequestError::Origin => StatusCode::FORBIDDEN,
+            RequestError::Token => StatusCode::UNAUTHORIZED,
+            RequestError::MediaType => StatusCode::UNSUPPORTED_MEDIA_TYPE,
+            RequestError::TransferCoding => StatusCode::NOT_IMPLEMENTED,
+            RequestError::Expectation => StatusCode::EXPECTATION_FAILED,
             RequestError::Shape | RequestError::BadName | RequestError::TooManyRules => {
                 StatusCode::BAD_REQUEST
             }
@@ -53,6 +70,12 @@ impl RequestError {
         match self {
             RequestError::NoRoute => "NoRoute",
             RequestError::Method(_) => "Method",
+            RequestError::Host => "Host",
+            RequestError::Origin => "Origin",
+            RequestError::Token => "Token",
+            RequestError::MediaType => "MediaType",
+            RequestError::TransferCoding => "TransferCoding",
+            RequestError::Expectation => "Expectation",
             RequestError::Shape => "Shape",
             RequestError::BadName => "BadName",
             RequestError::TooManyRules => "TooManyRules",

@@ -1,19 +1,28 @@
 //! How an answer is written.
-ghost use Rattle.std.specs.Prelude.{◌≡◌, IfOk, IsTrue, string_bytes};
+ghost use Rattle.std.specs.Prelude.{◌≡◌, IfOk, IsTrue, true, string_bytes};
+ghost use Rattle.http.specs.Response.{head_of, body_of};
 ghost use Rattle.http_header.specs.FieldValue.{is_visible_text};
 ghost use Rattle.sd_routes.specs.Errors.{status_of};
-ghost use Rattle.sd_routes.specs.Responses.{IsResponse, IsHead, json_headers, media_headers, taken_headers, refused_headers, refused_text, answer_text, status_answered, status_said, headers_said, body_said};
+ghost use Rattle.sd_routes.specs.Responses.{IsResponse, IsHead, closing, json_headers, media_headers, document_headers, taken_headers, refused_headers, refused_text, answer_text, status_answered, status_said, headers_said, body_said};
 
+use crate::misshapen::misshapen_page;
 use crate::notice::Notice;
 use crate::request_error::RequestError;
 use bytes::Bytes;
 use fleet_events::{AllocationNumber, Answer, Refusal, Round};
-use http::header::{ALLOW, CONTENT_TYPE, HeaderName, HeaderValue};
+use http::header::{
+    ALLOW, CONNECTION, CONTENT_SECURITY_POLICY, CONTENT_TYPE, HeaderName, HeaderValue,
+    WWW_AUTHENTICATE, X_CONTENT_TYPE_OPTIONS,
+};
 use http::response::Parts;
 use http::{Response, StatusCode};
 use http_body_util::Full;
 use lists::Text;
 use std::alloc::{AllocError, Global};
+
+/// What the page for people may load (Content Security Policy Level 3): nothing but the style in it.
+const POLICY: &str =
+    "default-src 'none'; style-src 'unsafe-inline'; form-action 'none'; frame-ancestors 'none'";
 
 /// What a request is answered with.
 #[derive(Debug, Drop)]
@@ -31,12 +40,16 @@ pub enum Said {
     },
     /// The request is refused without an answer of the allocator.
     Refused(RequestError),
+    /// The request's body is not of the documented shape, at this member.
+    Misshapen(Text),
     /// Something about the service itself.
     Notice(Notice),
     /// What the service counts, in the text exposition format of Prometheus, version 0.0.4.
     Metrics(Text),
     /// A page for people, in HTML.
     Document(Text),
+    /// The configuration is read again, and what it changes, in lines of plain text.
+    Reloaded(Text),
     /// Why the configuration that was to be read again is not taken, in a line of plain text.
     NotReloaded(Text),
 }
@@ -50,15 +63,41 @@ impl Said {
             Said::Answer(answer) => status_of(answer),
             Said::Page(_) | Said::Taken { .. } => StatusCode::OK,
             Said::Refused(error) => error.status(),
+            Said::Misshapen(_) => StatusCode::BAD_REQUEST,
             Said::Notice(notice) => notice.status(),
-            Said::Metrics(_) | Said::Document(_) => StatusCode::OK,
+            Said::Metrics(_) | Said::Document(_) | Said::Reloaded(_) => StatusCode::OK,
             Said::NotReloaded(_) => StatusCode::INTERNAL_SERVER_ERROR,
         }
     }
 }
 
-/// The response that says it. What is not plain text has the media type `application/json`.
-pub fn answer(alloc: Global, said: Said) -> Result<Response<Full<Bytes>>, AllocError>
+/// The response that says it. What is not plain text has the media type `application/json`. Where the request has a body that is not read, the
+/// connection can serve no other, and its end is told (RFC 9112, section 9.6).
+pub fn answer(alloc: Global, said: Said, closes: bool) -> Result<Response<Full<Bytes>>, AllocError>
+    ensures { IfOk result (IsResponse (status_said said) (closing closes (headers_said said)) (body_said said)) }
+{
+    let response = response_of(alloc, said)?;
+    if closes {
+        return closed(response);
+    }
+    Ok(response)
+}
+
+/// A response that tells the end of its connection.
+fn closed(response: Response<Full<Bytes>>) -> Result<Response<Full<Bytes>>, AllocError>
+    ensures head { IfOk result (λ r. (head_of r).status ≡ (head_of response).status) }
+    ensures headers { IfOk result (λ r. (head_of r).headers ≡ closing true (head_of response).headers) }
+    ensures body { IfOk result (λ r. (body_of r).buf ≡ (body_of response).buf) }
+{
+    let (mut head, body) = response.into_parts();
+    let close = HeaderValue::from_static("close");
+    if head.headers.insert(CONNECTION, close).is_err() {
+        return Err(AllocError);
+    }
+    Ok(Response::from_parts(head, body))
+}
+
+fn response_of(alloc: Global, said: Said) -> Result<Response<Full<Bytes>>, AllocError>
     ensures { IfOk result (IsResponse (status_said said) (headers_said said) (body_said said)) }
 {
     match said {
@@ -76,6 +115,10 @@ pub fn answer(alloc: Global, said: Said) -> Result<Response<Full<Bytes>>, AllocE
             let head = refused_head(alloc, error)?;
             response(head, refused_text(alloc, error.name())?)
         }
+        Said::Misshapen(member) => {
+            let head = json_head(alloc, StatusCode::BAD_REQUEST)?;
+            response(head, misshapen_page(alloc, member.as_str())?.into_string())
+        }
         Said::Notice(notice) => {
             let head = head_with(alloc, notice.status(), "text/plain; charset=utf-8")?;
             response(head, String::from_str(alloc, notice.text())?)
@@ -85,9 +128,10 @@ pub fn answer(alloc: Global, said: Said) -> Result<Response<Full<Bytes>>, AllocE
             let head = head_with(alloc, StatusCode::OK, media)?;
             response(head, text.into_string())
         }
-        Said::Document(text) => {
-            let head = head_with(alloc, StatusCode::OK, "text/html; charset=utf-8")?;
-            response(head, text.into_string())
+        Said::Document(text) => { response(document_head(alloc)?, text.into_string()) }
+        Said::Reloaded(changes) => {
+            let head = head_with(alloc, StatusCode::OK, "text/plain; charset=utf-8")?;
+            response(head, changes.into_string())
         }
         Said::NotReloaded(fault) => {
             let status = StatusCode::INTERNAL_SERVER_ERROR;
@@ -128,24 +172,55 @@ fn head_with(alloc: Global, status: StatusCode, media: &'static str) -> Result<P
 {
     let mut head = Parts::new(alloc);
     head.status = status;
-    match head
-        .headers
-        .insert(CONTENT_TYPE, HeaderValue::from_static(media))
-    {
-        Ok(_) => Ok(head),
-        Err(_) => Err(AllocError),
+    let media = HeaderValue::from_static(media);
+    if head.headers.insert(CONTENT_TYPE, media).is_err() {
+        return Err(AllocError);
     }
+    let no_other = HeaderValue::from_static("nosniff");
+    if head
+        .headers
+        .insert(X_CONTENT_TYPE_OPTIONS, no_other)
+        .is_err()
+    {
+        return Err(AllocError);
+    }
+    Ok(head)
+}
+
+/// The head of a page for people. The page may load nothing, and has its style in itself.
+fn document_head(alloc: Global) -> Result<Parts, AllocError>
+    ensures { IfOk result (IsHead 200 document_headers) }
+{
+    let mut head = head_with(alloc, StatusCode::OK, "text/html; charset=utf-8")?;
+    let policy = HeaderValue::from_static(POLICY);
+    if head
+        .headers
+        .insert(CONTENT_SECURITY_POLICY, policy)
+        .is_err()
+    {
+        return Err(AllocError);
+    }
+    Ok(head)
 }
 
 fn refused_head(alloc: Global, error: RequestError) -> Result<Parts, AllocError>
     ensures { IfOk result (IsHead (status_of error) (refused_headers error)) }
 {
     let mut head = json_head(alloc, error.status())?;
-    if let RequestError::Method(place) = error {
-        let allowed = HeaderValue::from_static(place.method());
-        if head.headers.insert(ALLOW, allowed).is_err() {
-            return Err(AllocError);
+    match error {
+        RequestError::Method(place) => {
+            let allowed = HeaderValue::from_static(place.method());
+            if head.headers.insert(ALLOW, allowed).is_err() {
+                return Err(AllocError);
+            }
         }
+        RequestError::Token => {
+            let scheme = HeaderValue::from_static("Bearer");
+            if head.headers.insert(WWW_AUTHENTICATE, scheme).is_err() {
+                return Err(AllocError);
+            }
+        }
+        _ => {}
     }
     Ok(head)
 }

@@ -51,7 +51,7 @@ fn router_of(alloc: Global) -> Result<Router<Place>, InsertError>
 {
     let mut router = desk_router(alloc)?;
     router.insert("/-/healthy", Place::Healthy)?;
-    router.insert("/livez", Place::Healthy)?;
+    router.insert("/livez", Place::Live)?;
     router.insert("/-/ready", Place::Ready)?;
     router.insert("/readyz", Place::Ready)?;
     router.insert("/metrics", Place::Metrics)?;

@@ -51,6 +51,7 @@ fn ask_at(alloc: Global, place: Place, path: &str, query: Option<&str>) -> Resul
         Place::Limits => Ok(Ask::SetLimits(collector_id(path)?)),
         Place::Reports => Ok(Ask::Report),
         Place::Healthy => Ok(Ask::Healthy),
+        Place::Live => Ok(Ask::Live),
         Place::Ready => Ok(Ask::Ready),
         Place::Metrics => Ok(Ask::Metrics),
         Place::Reload => Ok(Ask::Reload),

@@ -8,7 +8,7 @@ use Rattle.http_body_util.specs.declared.full.Full.{Full}
 use Rattle.allocation_core.specs.State.{State}
 use Rattle.alloc_desk.specs.declared.name.DeskName as DeskName
 use Rattle.sd_routes.specs.Gives.{Fails}
-use Rattle.sd_routes.specs.Responses.{IsResponse, status_said, headers_said, body_said}
+use Rattle.sd_routes.specs.Responses.{IsResponse, closing, status_said, headers_said, body_said}
 use Rattle.sd_routes.specs.declared.ask.Ask.{Ask}
 use Rattle.sd_routes.specs.declared.ask.Ask.TheVariants as ask
 use Rattle.sd_routes.specs.declared.request_error.RequestError.{RequestError}
@@ -23,9 +23,9 @@ use Rattle.sd_server.specs.declared.reply.Stage.TheVariants as stage
 use Rattle.sd_server.specs.declared.service.Begun.{Begun}
 use Rattle.sd_server.specs.declared.service.Begun.TheVariants as begun
 
--- the written form of what is said
+-- the written form of what is said, whether it tells the end of the connection or not
 abbrev pub Writes : Said → Response (Full (List ℕ)) → Type 0
-Writes said = IsResponse (status_said said) (headers_said said) (body_said said)
+Writes said response = (closes : Bool) × IsResponse (status_said said) (closing closes (headers_said said)) (body_said said) response
 
 -- what is said once a body was read, or could not be
 abbrev pub SaysRead : State → ConfigPages → Ask → Said → Type 0

@@ -17,11 +17,11 @@ use Rattle.sd_routes.specs.Events.{event_said}
 use Rattle.sd_routes.specs.Pages.{uncovered_data}
 use Rattle.sd_routes.specs.declared.ask.Ask.{Ask}
 use Rattle.sd_routes.specs.declared.ask.Ask.TheVariants as ask
-use Rattle.sd_routes.specs.declared.notice.Notice.TheVariants.{Healthy, Ready, NotReady, Reloaded, Quitting, NoLifecycle}
+use Rattle.sd_routes.specs.declared.notice.Notice.TheVariants.{Healthy, Broken, Ready, NotReady, Quitting, NoLifecycle}
 use Rattle.sd_routes.specs.declared.request_error.RequestError.{RequestError}
-use Rattle.sd_routes.specs.declared.request_error.RequestError.TheVariants.{JournalFull, NotKept, Memory}
+use Rattle.sd_routes.specs.declared.request_error.RequestError.TheVariants.{Shape, JournalFull, NotKept, Memory}
 use Rattle.sd_routes.specs.declared.responding.Said.{Said}
-use Rattle.sd_routes.specs.declared.responding.Said.TheVariants.{Answer as Answered, Page, Taken, Refused, Notice as Noticed, Metrics, Document, NotReloaded}
+use Rattle.sd_routes.specs.declared.responding.Said.TheVariants.{Answer as Answered, Page, Taken, Refused, Misshapen, Notice as Noticed, Metrics, Document, Reloaded, NotReloaded}
 use Rattle.service_state.specs.Jobs.{place_of}
 use Rattle.sd_server.specs.Texts.{certificate_text, groups_text, job_text}
 use Rattle.service_state.specs.declared.config_pages.ConfigPages.{ConfigPages}
@@ -86,12 +86,16 @@ SaysCollector opening name (Some place) said = SaysHeld opening place name said
 abbrev pub SaysCopy : List ℕ → Said → Type 0
 SaysCopy text said = (said ≡ Page text) ⊎ (said ≡ Refused Memory)
 
+abbrev pub SaysLive : Said → Type 0
+SaysLive said = (said ≡ Noticed Healthy) ⊎ (said ≡ Noticed Broken)
+
 abbrev pub SaysReady : Said → Type 0
 SaysReady said = (said ≡ Noticed Ready) ⊎ (said ≡ Noticed NotReady)
 
 -- the configuration is taken, or why it is not, unless memory ran out
 abbrev pub SaysReload : Said → Type 0
-SaysReload (Noticed notice) = (notice ≡ Reloaded) ⊎ (notice ≡ NoLifecycle)
+SaysReload (Noticed notice) = notice ≡ NoLifecycle
+SaysReload (Reloaded changes) = Unit {0}
 SaysReload (NotReloaded fault) = Unit {0}
 SaysReload (Refused error) = error ≡ Memory
 SaysReload _ = ⊥
@@ -131,6 +135,7 @@ SaysPage opening pages ask.ScrapeConfigs said = SaysCopy pages.scrape_configs sa
 SaysPage opening pages ask.Jobs said = SaysCopy pages.jobs said
 SaysPage opening pages ask.Certificate said = SaysText opening certificate_text said
 SaysPage opening pages ask.Healthy said = said ≡ Noticed Healthy
+SaysPage opening pages ask.Live said = SaysLive said
 SaysPage opening pages ask.Ready said = SaysReady said
 SaysPage opening pages ask.Metrics said = SaysMetrics said
 SaysPage opening pages ask.Reload said = SaysReload said
@@ -141,10 +146,19 @@ SaysPage opening pages (ask.JobTargets job) said = SaysJob opening job (place_of
 SaysPage opening pages (ask.CollectorTargets job name) said = SaysCollector opening name (place_of job pages.names) said
 SaysPage opening pages _ said = Unit {0}
 
+-- some member is told at which a body is not of the documented shape
+abbrev pub IsMisshapen : Said → Type 0
+IsMisshapen (Misshapen name) = Unit {0}
+IsMisshapen _ = ⊥
+
+-- why a body is refused
+abbrev pub SaysRefused : RequestError → Said → Type 0
+SaysRefused error said = (said ≡ Refused error) ⊎ ((error ≡ Shape) × IsMisshapen said)
+
 abbrev pub SaysBy : State → ConfigPages → Ask → Result (Option Event) RequestError → Said → Type 0
 SaysBy opening pages asked (Ok (Some event)) said = SaysEvent opening event said
 SaysBy opening pages asked (Ok None) said = SaysPage opening pages asked said
-SaysBy opening pages asked (Err error) said = said ≡ Refused error
+SaysBy opening pages asked (Err error) said = SaysRefused error said
 
 -- what is told to a request with this body
 abbrev pub Says : State → ConfigPages → Ask → List ℕ → Said → Type 0

@@ -12,7 +12,7 @@ use hyper::server::conn::http1;
 use sd_routes::Routes;
 use std::alloc::{AllocGlobal, Global};
 use std::hash::RandomState;
-use std::net::{Net, TcpListener, TcpStream};
+use std::net::{Net, SocketAddr, TcpListener, TcpStream};
 use std::random::RandomSource;
 use std::sync::ledger::Ledger;
 use std::sync::{Arc, Wait};
@@ -150,11 +150,11 @@ where
             return Ok(());
         }
         match listener.accept() {
-            Ok((stream, _from)) => {
+            Ok((stream, from)) => {
                 workers.hold();
                 handler.state.begin_connection();
                 // A connection that failed is dropped, and the next is served.
-                drop(serve_one(rt, runtime, http, stream, handler, routes, workers));
+                drop(serve_one(rt, runtime, http, stream, from, handler, routes, workers));
                 handler.state.end_connection();
                 workers.release();
             }
@@ -169,6 +169,7 @@ fn serve_one<R, L: Ledger, B: Ledger, N: DeskName>(
     runtime: &mut LocalRuntime,
     http: &http1::Builder<TokioTimer<R>>,
     stream: TcpStream,
+    from: SocketAddr,
     handler: &Handler<R, L, B, N>,
     routes: &Arc<Routes>,
     workers: &Workers,
@@ -181,7 +182,7 @@ where
         return Ok(());
     }
     let twin = stream.try_clone()?;
-    serve_stream(rt, runtime, http, stream, handler, routes, limits)?;
+    serve_stream(rt, runtime, http, stream, from, handler, routes, limits)?;
     linger(rt, &twin, workers.is_stopped())
 }
 
@@ -191,6 +192,7 @@ fn serve_stream<R, L: Ledger, B: Ledger, N: DeskName>(
     runtime: &mut LocalRuntime,
     http: &http1::Builder<TokioTimer<R>>,
     stream: TcpStream,
+    from: SocketAddr,
     handler: &Handler<R, L, B, N>,
     routes: &Arc<Routes>,
     limits: Limits<'_, R>,
@@ -199,7 +201,10 @@ where
     R: Wait + Clock + RandomSource + AllocGlobal + Copy + Drop,
 {
     let exchanges = Arc::try_clone(&limits.exchanges)?;
-    let service = Paced::new(AllocatorService::of(handler, routes)?, exchanges);
+    let service = Paced::new(
+        AllocatorService::of(handler, routes, Some(from))?,
+        exchanges,
+    );
     let socket = Spoken::new(tokio::net::TcpStream::from_std(stream, runtime.handle().reactor())?);
     let conn = http.serve_connection(socket, service);
     runtime.block_on(rt, Timed::new(conn, limits))?;
@@ -214,13 +219,15 @@ fn limits<'a, R: Clock + AllocGlobal + Copy>(
 ) -> io::Result<Limits<'a, R>> {
     let times = workers.times();
     let longest = Duration::from_millis(times.request);
-    let exchanges = Arc::new(rt.alloc(), Exchanges::new(times.turn == 0))?;
+    let is_first_last = times.turn == 0 || workers.is_pressed();
+    let patience = if is_first_last { 0 } else { times.turn };
+    let exchanges = Arc::new(rt.alloc(), Exchanges::new(is_first_last))?;
     let request = time.sleep(rt, longest)?;
     Ok(Limits {
         clock: *rt,
         exchanges,
         told: Some(workers.told()),
-        turn: turn(rt, time, times.turn)?,
+        turn: turn(rt, time, patience)?,
         request,
         longest,
     })

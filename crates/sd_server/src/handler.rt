@@ -6,12 +6,13 @@ ghost use Rattle.alloc_desk.specs.Views.{numbered_of, shares_of};
 ghost use Rattle.service_state.specs.Jobs.{place_of};
 ghost use Rattle.sd_server.specs.Texts.{certificate_text, job_text};
 ghost use Rattle.sd_server.specs.Listing.{IsGroups};
-ghost use Rattle.sd_server.specs.Says.{IsEntered, IsUncoveredText, OfSome, Says, SaysCollector, SaysCopy, SaysDocument, SaysEvent, SaysHeld, SaysJob, SaysListed, SaysMetrics, SaysNot, SaysPage, SaysQuit, SaysReady, SaysReload, SaysTake, SaysText, SaysUncovered};
+ghost use Rattle.sd_server.specs.Says.{IsEntered, IsUncoveredText, OfSome, Says, SaysCollector, SaysCopy, SaysDocument, SaysEvent, SaysHeld, SaysJob, SaysListed, SaysLive, SaysMetrics, SaysNot, SaysPage, SaysQuit, SaysReady, SaysRefused, SaysReload, SaysTake, SaysText, SaysUncovered};
 
 use crate::certificate_page::certificate_page;
 use crate::list_text::ListText;
 use crate::list_texts::ListTexts;
 use crate::uncovered::{Uncovered, uncovered_of};
+use admission::Admission;
 use alloc_desk::{Desk, DeskName, EnterError, NumberedTarget, Pass, Receipt, Share};
 use allocation_core::{Answer, Event, Refusal};
 use fleet_events::{AllocationNumber, CollectorId, TargetId};
@@ -19,12 +20,15 @@ use lists::{List, Plain, Text};
 use price_certificate::{Instance, Plan};
 use reach_rules::CollectorName;
 use sd_routes::{
-    Ask, Notice, RequestError, Said, event_of, job_page, targets_page, uncovered_page,
+    Ask, Notice, RequestError, Said, event_of, job_page, misshapen_member, targets_page,
+    uncovered_page,
 };
 use service_state::{
-    ConfigPages, EventKind, Figures, Kept, ServiceState, figures_of, metrics_page, status_page,
+    ChangeNote, ConfigPages, EventKind, Figures, Kept, ServiceState, figures_of, metrics_page,
+    status_page,
 };
 use std::alloc::{AllocError, Global};
+use std::net::SocketAddr;
 use std::sync::ledger::Ledger;
 use std::sync::{Arc, Mutex, Wait};
 use std::time::Clock;
@@ -42,6 +46,10 @@ pub struct Handler<R, L: Ledger, B: Ledger, N: DeskName> {
     pub kept: Option<Arc<Kept>>,
     /// The texts of the lists that were taken.
     pub texts: Arc<ListTexts<N>>,
+    /// Who may ask for what.
+    pub doors: Arc<Admission>,
+    /// Who asks, where that is known.
+    pub peer: Option<SocketAddr>,
 }
 
 impl<R: Wait + Clock + Copy, L: Ledger, B: Ledger, N: DeskName> Handler<R, L, B, N> {
@@ -58,6 +66,8 @@ impl<R: Wait + Clock + Copy, L: Ledger, B: Ledger, N: DeskName> Handler<R, L, B,
             state: Arc::try_clone(&self.state)?,
             kept: Kept::shared(&self.kept)?,
             texts: Arc::try_clone(&self.texts)?,
+            doors: Arc::try_clone(&self.doors)?,
+            peer: self.peer,
         })
     }
 
@@ -74,16 +84,67 @@ impl<R: Wait + Clock + Copy, L: Ledger, B: Ledger, N: DeskName> Handler<R, L, B,
         match event_of(self.alloc, ask, body) {
             Ok(Some(event)) => self.entered(event),
             Ok(None) => self.shown(ask),
-            Err(error) => Said::Refused(error),
+            Err(error) => self.refused(ask, body, error),
+        }
+    }
+
+    /// Why a body is refused, with the member at fault where there is one.
+    fn refused(&self, ask: &Ask, body: &[u8], error: RequestError) -> Said
+        ensures { SaysRefused error result }
+    {
+        match error {
+            RequestError::Shape => match misshapen_member(self.alloc, ask, body) {
+                Ok(Some(member)) => Said::Misshapen(member),
+                _ => Said::Refused(error),
+            },
+            _ => Said::Refused(error),
         }
     }
 
     fn entered(&self, event: Event) -> Said
         ensures { SaysEvent N.opening event result }
     {
+        let change = self.change_of(&event);
         match self.submitted(event) {
-            Ok(receipt) => Said::Answer(receipt.answer),
+            Ok(receipt) => {
+                self.note_change(change, &receipt.answer);
+                Said::Answer(receipt.answer)
+            }
             Err(error) => Said::Refused(error),
+        }
+    }
+
+    /// Which collector an event is about that changes who collects.
+    fn change_of(&self, event: &Event) -> Option<(EventKind, Text)> {
+        let collector = match event {
+            Event::Join { name, .. } => Text::from_str(self.alloc, name.as_str()),
+            Event::Leave(id) | Event::Drain(id) => self.number_text(*id),
+            Event::SetLimits { collector, .. } => self.number_text(*collector),
+            _ => return None,
+        };
+        Some((EventKind::of(event), collector.ok()?))
+    }
+
+    fn number_text(&self, id: CollectorId) -> Result<Text, AllocError> {
+        Ok(Text::from_string(format!(in self.alloc; "{id}")?))
+    }
+
+    /// Notes what a request has changed, or tried to. What finds no memory is not noted.
+    fn note_change(&self, change: Option<(EventKind, Text)>, answer: &Answer) {
+        if let Some((what, collector)) = change {
+            if let Ok(answer) = answer.line(self.alloc) {
+                let answer = Text::from_string(answer);
+                let peer = self.peer;
+                self.state.note_change(
+                    &self.rt,
+                    ChangeNote {
+                        what,
+                        collector,
+                        answer,
+                        peer,
+                    },
+                );
+            }
         }
     }
 
@@ -95,6 +156,7 @@ impl<R: Wait + Clock + Copy, L: Ledger, B: Ledger, N: DeskName> Handler<R, L, B,
             Ask::Jobs => copied(&self.pages.jobs),
             Ask::Certificate => self.certificate(),
             Ask::Healthy => Said::Notice(Notice::Healthy),
+            Ask::Live => self.live(),
             Ask::Ready => self.ready(),
             Ask::Metrics => self.metrics(),
             Ask::Reload => self.reload(),
@@ -103,8 +165,19 @@ impl<R: Wait + Clock + Copy, L: Ledger, B: Ledger, N: DeskName> Handler<R, L, B,
             Ask::Uncovered(job) => self.uncovered(job.as_str()),
             Ask::JobTargets(job) => self.job(job.as_str()),
             Ask::CollectorTargets { job, name } => self.collector(job.as_str(), name),
-            _ => Said::Refused(RequestError::Memory),
+            Ask::Join | Ask::Leave(_) | Ask::Drain(_) | Ask::SetLimits(_) | Ask::Report => {
+                Said::Refused(RequestError::Memory)
+            }
         }
+    }
+
+    fn live(&self) -> Said
+        ensures { SaysLive result }
+    {
+        if self.state.is_broken() {
+            return Said::Notice(Notice::Broken);
+        }
+        Said::Notice(Notice::Healthy)
     }
 
     fn ready(&self) -> Said
@@ -123,8 +196,8 @@ impl<R: Wait + Clock + Copy, L: Ledger, B: Ledger, N: DeskName> Handler<R, L, B,
             return Said::Notice(Notice::NoLifecycle);
         }
         match self.state.reloading().ask(&self.rt, self.alloc) {
-            Ok(Some(fault)) => Said::NotReloaded(fault),
-            Ok(None) => Said::Notice(Notice::Reloaded),
+            Ok(Ok(changes)) => Said::Reloaded(changes),
+            Ok(Err(fault)) => Said::NotReloaded(fault),
             Err(_) => Said::Refused(RequestError::Memory),
         }
     }

@@ -25,7 +25,7 @@ pub use by_workers::serve_by_workers;
 pub use handler::Handler;
 pub use list_texts::ListTexts;
 pub use one_by_one::serve_one_by_one;
-pub use reply::{LONGEST_BODY, Reply};
+pub use reply::Reply;
 pub use service::AllocatorService;
 pub use times::Times;
 pub use workers::{DEFAULT_WORKERS, Workers};

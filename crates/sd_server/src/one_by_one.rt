@@ -7,6 +7,7 @@ use sd_routes::Routes;
 use std::alloc::AllocGlobal;
 use std::hash::RandomState;
 use std::io;
+use std::net::SocketAddr;
 use std::random::RandomSource;
 use std::sync::atomic::{AtomicBool, Ordering};
 use std::sync::ledger::Ledger;
@@ -48,11 +49,11 @@ where
     R: Wait + Clock + RandomSource + AllocGlobal + Copy + Drop,
 {
     for _ in rt.forever() {
-        let (socket, _from) = runtime.block_on(rt, listener.accept())??;
+        let (socket, from) = runtime.block_on(rt, listener.accept())??;
         if stop.load(Ordering::SeqCst) {
             return Ok(());
         }
-        serve_one(rt, runtime, http, socket, handler, routes)?;
+        serve_one(rt, runtime, http, socket, from, handler, routes)?;
     }
     unreachable!()
 }
@@ -62,13 +63,14 @@ fn serve_one<R, L: Ledger, B: Ledger, N: DeskName>(
     runtime: &mut LocalRuntime,
     http: &http1::Builder,
     socket: TcpStream,
+    from: SocketAddr,
     handler: &Handler<R, L, B, N>,
     routes: &Arc<Routes>,
 ) -> io::Result<()>
 where
     R: Wait + Clock + RandomSource + AllocGlobal + Copy + Drop,
 {
-    let service = AllocatorService::of(handler, routes)?;
+    let service = AllocatorService::of(handler, routes, Some(from))?;
     let conn = http.serve_connection(socket, service);
     let longest = Duration::from_secs(LONGEST_SECONDS);
     let timed = runtime.handle().time().timeout(rt, longest, conn)?;

@@ -6,6 +6,7 @@ ghost use Rattle.sd_routes.specs.declared.responding.Said.{Said};
 ghost use Rattle.sd_server.specs.Replies.{CanRead, Gives, MaySay, SaysRead};
 
 use crate::handler::Handler;
+use admission::LONGEST_BODY;
 use alloc_desk::DeskName;
 use bytes::Bytes;
 use futures::task::{Context, Poll};
@@ -20,14 +21,13 @@ use std::sync::Wait;
 use std::sync::ledger::Ledger;
 use std::time::Clock;
 
-/// The most bytes of a posted body.
-pub const LONGEST_BODY: usize = 1_048_576;
-
 /// The response to a request, once its body has come.
 #[derive(Drop)]
 pub struct Reply<R, L: Ledger, B: Ledger, N: DeskName, I> {
     alloc: Global,
     stage: Stage<R, L, B, N, I>,
+    /// Whether there is a body that is not read.
+    closes: bool,
 }
 
 #[derive(Drop)]
@@ -46,13 +46,14 @@ struct Reading<R, L: Ledger, B: Ledger, N: DeskName, I> {
 
 impl<R, L: Ledger, B: Ledger, N: DeskName, I: Drop> Reply<R, L, B, N, I> {
     /// A reply to a request whose body is not read.
-    pub(crate) fn of(alloc: Global, said: Said) -> Reply<R, L, B, N, I>
+    pub(crate) fn of(alloc: Global, said: Said, closes: bool) -> Reply<R, L, B, N, I>
         ensures can_read { CanRead result }
         ensures says { (other : Said) → MaySay result.stage other → other ≡ said }
     {
         Reply {
             alloc,
             stage: Stage::Said(Some(said)),
+            closes,
         }
     }
 
@@ -66,10 +67,11 @@ impl<R, L: Ledger, B: Ledger, N: DeskName, I: Drop> Reply<R, L, B, N, I> {
         ensures says { (said : Said) → MaySay result.stage said → SaysRead N.opening (arc_value handler.pages) ask said }
     {
         let alloc = handler.alloc;
-        let body = Limited::new(body, LONGEST_BODY).collect(alloc);
+        let body = Limited::new(body, LONGEST_BODY as usize).collect(alloc);
         Reply {
             alloc,
             stage: Stage::Reading(Reading { handler, ask, body }),
+            closes: false,
         }
     }
 }
@@ -126,6 +128,6 @@ impl<R: Wait + Clock + Copy + Drop, L: Ledger, B: Ledger, N: DeskName, I: Drop> 
                 reading.said(read)
             }
         };
-        Poll::Ready(answer(self.alloc, said))
+        Poll::Ready(answer(self.alloc, said, self.closes))
     }
 }

@@ -3,10 +3,13 @@ ghost use Rattle.std.specs.Arc.{arc_value};
 ghost use Rattle.http.specs.Request as request;
 ghost use Rattle.http_uri.specs.Uri.{uri_path, uri_query};
 ghost use Rattle.sd_routes.specs.Asks.{asked};
+ghost use Rattle.admission.specs.Admission.{let_in};
+ghost use Rattle.sd_routes.specs.Gives.{Gives};
 ghost use Rattle.sd_server.specs.Replies.{Begins, BeginsWith, IsReplyTo};
 
 use crate::handler::Handler;
 use crate::reply::Reply;
+use admission::has_body;
 use alloc_desk::DeskName;
 use bytes::Bytes;
 use http::request::Parts;
@@ -16,6 +19,7 @@ use hyper::body::Incoming;
 use hyper::service::Service;
 use sd_routes::{Ask, RequestError, Routes, Said, route};
 use std::alloc::AllocError;
+use std::net::SocketAddr;
 use std::sync::ledger::Ledger;
 use std::sync::{Arc, Wait};
 use std::time::Clock;
@@ -36,26 +40,45 @@ enum Begun {
 }
 
 impl<R: Wait + Clock + Copy, L: Ledger, B: Ledger, N: DeskName> AllocatorService<R, L, B, N> {
-    /// Another for the same desk.
+    /// Another for the same desk, and for who asks.
     pub(crate) fn of(
         handler: &Handler<R, L, B, N>,
         routes: &Arc<Routes>,
+        peer: Option<SocketAddr>,
     ) -> Result<AllocatorService<R, L, B, N>, AllocError> {
         let routes = Arc::try_clone(routes)?;
-        let handler = handler.another()?;
+        let mut handler = handler.another()?;
+        handler.peer = peer;
         Ok(AllocatorService { handler, routes })
     }
 
     fn begin(&self, head: &Parts) -> Begun
-        ensures { Begins N.opening (arc_value self.now.handler.pages) (asked head.now.method (uri_path head.now.uri) (uri_query head.now.uri)) result }
+        ensures { Begins N.opening (arc_value self.now.handler.pages) (let_in (arc_value self.now.handler.doors) head.now.headers (asked head.now.method (uri_path head.now.uri) (uri_query head.now.uri))) result }
     {
-        match route(&self.routes, self.handler.alloc, &head.method, &head.uri) {
+        match self.came(head) {
             Ok(ask) => self.begin_with(ask),
             Err(error) => {
                 let said = Said::Refused(error);
                 self.handler.count_request(None, &said);
                 Begun::Said(said)
             }
+        }
+    }
+
+    /// What a head asks for, where it is let in.
+    fn came(&self, head: &Parts) -> Result<Ask, RequestError>
+        ensures { Gives result (let_in (arc_value self.now.handler.doors) head.now.headers (asked head.now.method (uri_path head.now.uri) (uri_query head.now.uri))) }
+    {
+        match route(&self.routes, self.handler.alloc, &head.method, &head.uri) {
+            Ok(ask) => match self.handler.doors.refusal(Some(&ask), &head.headers) {
+                Some(error) => Err(error),
+                None => Ok(ask),
+            },
+            Err(RequestError::Memory) => Err(RequestError::Memory),
+            Err(missing) => match self.handler.doors.refusal(None, &head.headers) {
+                Some(error) => Err(error),
+                None => Err(missing),
+            },
         }
     }
 
@@ -83,15 +106,20 @@ impl<R: Wait + Clock + Copy + Drop, L: Ledger, B: Ledger, N: DeskName, I: Drop> 
     type Future = Reply<R, L, B, N, I>;
 
     ghost calls = { λ s req future. IsReplyTo N.opening (arc_value s.handler.pages)
-        (asked (request.head_of req).method (uri_path (request.head_of req).uri) (uri_query (request.head_of req).uri)) future };
+        (let_in (arc_value s.handler.doors) (request.head_of req).headers
+        (asked (request.head_of req).method (uri_path (request.head_of req).uri) (uri_query (request.head_of req).uri))) future };
 
     fn call(&self, req: Request<Incoming<I>>) -> Reply<R, L, B, N, I> {
         let (head, body) = req.into_parts();
         match self.begin(&head) {
-            Begun::Said(said) => Reply::of(self.handler.alloc, said),
+            Begun::Said(said) => Reply::of(self.handler.alloc, said, has_body(&head.headers)),
             Begun::Reads(ask) => match self.handler.another() {
                 Ok(handler) => Reply::to(handler, ask, body),
-                Err(_) => Reply::of(self.handler.alloc, Said::Refused(RequestError::Memory)),
+                Err(_) => Reply::of(
+                    self.handler.alloc,
+                    Said::Refused(RequestError::Memory),
+                    true,
+                ),
             },
         }
     }

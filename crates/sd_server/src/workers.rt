@@ -9,6 +9,9 @@ use tokio::sync::{Notified, Notify};
 /// How many connections are served at once where the caller names no number.
 pub const DEFAULT_WORKERS: usize = 64;
 
+/// From how many threads on a server closes connections early where most are held.
+const MANY: usize = 8;
+
 /// How long each of the last connections may take to be made.
 const LAST_MILLIS: u64 = 100;
 
@@ -49,6 +52,12 @@ impl Workers {
     /// How many threads a connection holds at the moment.
     pub fn held(&self) -> u64 {
         self.held.load(Ordering::SeqCst)
+    }
+
+    /// Whether more than half of the threads are held, where there are many. A connection that is taken then serves one exchange, so that those
+    /// who keep their connections open shut nobody out.
+    pub(crate) fn is_pressed(&self) -> bool {
+        self.number >= MANY && self.held().saturating_mul(2) > self.number as u64
     }
 
     /// Whether the server was told to end.

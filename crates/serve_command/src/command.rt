@@ -1,15 +1,16 @@
-//! The command: what its words ask for, and what it tells of it.
+//! The command: what its options ask for, and what it tells of it.
 use crate::configuration::ConfigurationFile;
 use crate::descriptors::check_descriptors;
 use crate::documents::{read_document, service_in};
+use crate::doors::admission_at;
 use crate::listening::{listen_address, listener_at};
 use crate::not_followed::{told_valid, warn_of};
 use crate::running::serve_journal;
 use crate::standard_streams::hold_streams;
+use command_words::ServeOptions;
 use journal_files::{Fault, is_same_file};
 use log::error;
 use logfmt::Logfmt;
-use service_settings::{Asked, ServeOptions, USAGE, read_arguments};
 use service_tasks::Service;
 use std::alloc::{AllocError, AllocGlobal, Global};
 use std::fs::File;
@@ -23,12 +24,9 @@ use std::sync::Wait;
 use std::thread::Threads;
 use std::time::Clock;
 
-/// The line of the program's version.
-pub const VERSION: &str = "allocd 0.1.0\n";
-
-/// Does what the words behind `serve` ask for, and gives the exit status: 0 where the service was told to end, 2 where it is not
+/// Does what the options ask for, and gives the exit status: 0 where the service was told to end, 2 where it is not
 /// told what to do, 3 where the machine failed it. The configuration is read again by a thread of its own handle, `host`.
-pub fn serve<R>(rt: &R, host: HostRuntime, words: &[String]) -> ExitCode
+pub fn serve<R>(rt: &R, host: HostRuntime, options: &ServeOptions<'_>) -> ExitCode
 where
     R: Wait
         + Threads
@@ -45,21 +43,10 @@ where
         + Drop,
 {
     let _streams = hold_streams(rt, rt.alloc());
-    let done = match read_arguments(words) {
-        Asked::Help => written(rt, USAGE),
-        Asked::Version => written(rt, VERSION),
-        Asked::Faulty(fault) => told(fault.line(rt.alloc())),
-        Asked::Serve(options) => serve_by(rt, host, &options),
-    };
-    match done {
+    match serve_by(rt, host, options) {
         Ok(()) => ExitCode::from(0),
         Err(fault) => ended(rt, fault),
     }
-}
-
-/// The fault that a line tells.
-fn told(line: Result<String, AllocError>) -> Result<(), Fault> {
-    Err(Fault::Told(line?))
 }
 
 /// Tells a fault on standard error.
@@ -134,20 +121,23 @@ where
         + Copy
         + Drop,
 {
-    match places_of(rt, options, &service) {
+    let mut service = service;
+    match places_of(rt, options, &mut service) {
         Ok(_) if options.check_config => tell_valid(rt, options.config, document),
         Ok((here, journal)) => serve_at(rt, host, options, document, service, here, journal),
         Err(fault) => Err(fault),
     }
 }
 
-/// Where a service is to listen, and the path of its journal.
+/// Where a service is to listen, with its doors there, and the path of its journal.
 fn places_of<R: Files<File = File> + AllocGlobal>(
     rt: &R,
     options: &ServeOptions<'_>,
-    service: &Service,
+    service: &mut Service,
 ) -> Result<(SocketAddr, Option<String>), Fault> {
     let here = listen_address(rt, options, service)?;
+    let doors = admission_at(rt, options.config, service.doors(), here)?;
+    service.set_doors(rt.alloc(), doors)?;
     let journal = journal_of(rt.alloc(), options, service)?;
     match check_journal(rt, options.config, &journal) {
         Ok(()) => Ok((here, journal)),
@@ -211,7 +201,7 @@ where
 {
     warn_of(rt, rt.alloc(), document)?;
     check_descriptors(rt, rt.alloc())?;
-    let configuration = ConfigurationFile::new(host, rt.alloc(), options.config)?;
+    let configuration = ConfigurationFile::new(host, rt.alloc(), options.config, here)?;
     let listener = listener_at(rt, here)?;
     Ok((configuration, listener))
 }

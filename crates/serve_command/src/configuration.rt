@@ -1,10 +1,12 @@
 //! The configuration file, as the service reads it again.
 use crate::documents::{read_document, service_in, service_of_parts};
+use crate::doors::admission_at;
 use crate::not_followed::warn_of;
 use journal_files::Fault;
 use lists::Text;
 use service_tasks::{Configuration, Service};
 use std::alloc::{AllocError, Global};
+use std::net::SocketAddr;
 
 /// The configuration file at a path.
 #[derive(Drop)]
@@ -12,6 +14,8 @@ pub(crate) struct ConfigurationFile {
     host: HostRuntime,
     alloc: Global,
     path: String,
+    /// Where the service listens.
+    here: SocketAddr,
     /// What was read last and asks for a service.
     document: Vec<u8>,
 }
@@ -21,11 +25,13 @@ impl ConfigurationFile {
         host: HostRuntime,
         alloc: Global,
         path: &str,
+        here: SocketAddr,
     ) -> Result<ConfigurationFile, AllocError> {
         Ok(ConfigurationFile {
             host,
             alloc,
             path: String::from_str(alloc, path)?,
+            here,
             document: Vec::new(alloc),
         })
     }
@@ -34,7 +40,8 @@ impl ConfigurationFile {
     fn valid_document(&self) -> Result<Vec<u8>, Fault> {
         let path = self.path.as_str();
         let document = read_document(&self.host, self.alloc, path)?;
-        let _ = service_in(self.alloc, path, document.as_slice())?;
+        let service = service_in(self.alloc, path, document.as_slice())?;
+        let _ = admission_at(&self.host, path, service.doors(), self.here)?;
         warn_of(&self.host, self.alloc, document.as_slice())?;
         Ok(document)
     }
@@ -64,6 +71,10 @@ impl Configuration for ConfigurationFile {
     }
 
     fn service(&self) -> Option<Service> {
-        service_of_parts(self.alloc, self.path.as_str(), self.document.as_slice()).ok()
+        let path = self.path.as_str();
+        let mut service = service_of_parts(self.alloc, path, self.document.as_slice()).ok()?;
+        let doors = admission_at(&self.host, path, service.doors(), self.here).ok()?;
+        service.set_doors(self.alloc, doors).ok()?;
+        Some(service)
     }
 }

@@ -1,9 +1,12 @@
 //! The configuration file.
 use config_faults::faults_of;
+use config_secrets::without_secrets;
 use durable_journal::configuration_line;
 use journal_files::Fault;
+use json_values::{parse, text_of};
 use lists::Text;
 use sd_documents::{Config, SdError, read_config};
+use serde_json::Value;
 use service_settings::{Settings, SettingsError, read_settings};
 use service_tasks::{Service, ServiceError};
 use std::alloc::{AllocError, Global};
@@ -14,6 +17,10 @@ use std::rt::Files;
 
 /// The most bytes of a configuration: 64 MiB.
 const LONGEST_CONFIGURATION: u64 = 67_108_864;
+
+/// What is told of a configuration without jobs.
+const NO_JOBS: &str =
+    "scrape_configs: no job: all targets would be dropped; set allocator.allow_no_jobs to true where that is meant";
 
 /// Reads the document of a configuration file.
 pub(crate) fn read_document<R: Files<File = File>>(
@@ -45,8 +52,32 @@ pub(crate) fn service_of_parts(
     path: &str,
     document: &[u8],
 ) -> Result<Service, Fault> {
+    match shown_text(alloc, path, document) {
+        Ok(text) => service_of_shown(alloc, path, text.as_str().as_bytes()),
+        Err(fault) => Err(fault),
+    }
+}
+
+/// A document without its secrets: nobody is shown them, no journal has them, and nothing that is read here is another.
+fn shown_text(alloc: Global, path: &str, document: &[u8]) -> Result<Text, Fault> {
+    match parse(alloc, document)? {
+        Some(value) => Ok(shown_text_of(alloc, &value)?),
+        None => Err(Fault::Told(format!(in alloc; "{path}: no JSON")?)),
+    }
+}
+
+fn shown_text_of(alloc: Global, value: &Value) -> Result<Text, AllocError> {
+    let shown = without_secrets(alloc, value)?;
+    text_of(alloc, &shown)
+}
+
+/// The service of a document without secrets.
+fn service_of_shown(alloc: Global, path: &str, document: &[u8]) -> Result<Service, Fault> {
     let config = config_in(alloc, path, document)?;
     let settings = settings_in(alloc, path, document)?;
+    if config.jobs.is_empty() && !settings.allow_no_jobs {
+        return Err(Fault::Told(format!(in alloc; "{path}: {NO_JOBS}")?));
+    }
     match line_in(alloc, path, document) {
         Ok(line) => service_of(alloc, path, line, config, settings),
         Err(fault) => Err(fault),

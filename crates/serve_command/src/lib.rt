@@ -5,9 +5,10 @@ mod command;
 mod configuration;
 mod descriptors;
 mod documents;
+mod doors;
 mod listening;
 mod not_followed;
 mod running;
 mod standard_streams;
 
-pub use command::{VERSION, serve};
+pub use command::serve;

@@ -1,8 +1,9 @@
 //! Where the service listens.
+use command_words::ServeOptions;
 use journal_files::Fault;
 use log::error;
 use logfmt::Logfmt;
-use service_settings::{Address, ServeOptions, address_of};
+use service_settings::{Address, address_of};
 use service_tasks::Service;
 use std::alloc::AllocGlobal;
 use std::io;

@@ -42,6 +42,7 @@ where
     match open_journals(rt, alloc, &service, &journal) {
         Ok((opened, mut journals)) => {
             tell_what_is_kept(rt, &journal);
+            tell_who_is_missed(rt, &service);
             let core = serve_opened(
                 rt,
                 alloc,
@@ -66,6 +67,13 @@ fn log_end<R: Clock + Eprint + Copy>(rt: &R, samples: u128) {
 fn tell_what_is_kept<R: Clock + Eprint + Copy>(rt: &R, journal: &Option<String>) {
     if journal.is_none() {
         warn!(Logfmt(*rt); "no journal is given: what collectors were given and what was booked ends with this process");
+    }
+}
+
+/// Tells where nobody notices that a collector is dead.
+fn tell_who_is_missed<R: Clock + Eprint + Copy>(rt: &R, service: &Service) {
+    if !service.notices_absence() {
+        warn!(Logfmt(*rt); "collector_timeout is not set: nobody notices a collector that is dead, and its targets stay with it");
     }
 }
 
@@ -95,7 +103,7 @@ fn journals_at<R: Files<File = File> + AllocGlobal + Clock + Eprint + Copy + Dro
     journal: &Option<String>,
 ) -> Result<(Opened<File>, Journals<R>), Fault> {
     let path = copied(alloc, journal)?;
-    let journals = Journals::open(*rt, alloc, path, service.keep())?;
+    let journals = Journals::open(*rt, alloc, path, Some(service.keep()))?;
     match open_allocator(&journals, service.line(), service.jobs()) {
         Ok(opened) => Ok((opened, journals)),
         Err(fault) => Err(fault),
@@ -133,7 +141,12 @@ where
         + Copy
         + Drop,
 {
-    let Opened { core, file, bytes } = opened;
+    let Opened {
+        core,
+        file,
+        bytes,
+        chain,
+    } = opened;
     if let Ok(here) = listener.local_addr() {
         log_address(rt, here);
     }
@@ -142,7 +155,7 @@ where
         alloc,
         service,
         listener,
-        file.map(|file| JournalFile::new(file, bytes)),
+        file.map(|file| JournalFile::new(file, bytes, chain)),
         journals,
         configuration,
         core,

@@ -1,6 +1,7 @@
 //! A desk of one job to be served.
 ghost use Rattle.std.specs.Prelude.{◌≡◌};
 
+use admission::Admission;
 use alloc_desk::{Desk, DeskName, Pass};
 use allocation_core::{Answer, Core, JobSpec};
 use fleet_events::read_event;
@@ -114,8 +115,9 @@ fn with_pages<R: Copy, L: Ledger, B: Ledger, N: DeskName>(
         pages_of(alloc),
         state,
         Arc::new(alloc, ListTexts::new(alloc)),
+        Arc::new(alloc, Admission::open()),
     ) {
-        (Some(pages), Ok(state), Ok(texts)) => Some(Handler {
+        (Some(pages), Ok(state), Ok(texts), Ok(doors)) => Some(Handler {
             rt: *rt,
             alloc,
             desk,
@@ -124,6 +126,8 @@ fn with_pages<R: Copy, L: Ledger, B: Ledger, N: DeskName>(
             state,
             kept: None,
             texts,
+            doors,
+            peer: None,
         }),
         _ => None,
     }

@@ -9,7 +9,7 @@ pub(crate) const ROWS: [Row; 16] = [
     },
     Row {
         request: "POST /jobs HTTP/1.1\r\nhost: h\r\ncontent-length: 0\r\n\r\n",
-        begins: "HTTP/1.1 405 Method Not Allowed\r\ncontent-type: application/json\r\nallow: GET\r\n",
+        begins: "HTTP/1.1 405 Method Not Allowed\r\ncontent-type: application/json\r\nx-content-type-options: nosniff\r\nallow: GET\r\n",
         ends: "\r\n\r\n{\"refused\":\"Method\"}",
     },
     Row {
@@ -33,12 +33,12 @@ pub(crate) const ROWS: [Row; 16] = [
         ends: "\r\n\r\n{\"refused\":\"UnknownCollector\"}",
     },
     Row {
-        request: "POST /collectors HTTP/1.1\r\nhost: h\r\ncontent-length: 23\r\n\r\n{\"name\":\"a\",\"reach\":[]}",
+        request: "POST /collectors HTTP/1.1\r\nhost: h\r\ncontent-type: application/json\r\ncontent-length: 23\r\n\r\n{\"name\":\"a\",\"reach\":[]}",
         begins: "HTTP/1.1 200 OK\r\n",
         ends: "\r\n\r\n{\"answer\":\"Joined 1\"}",
     },
     Row {
-        request: "POST /collectors HTTP/1.1\r\nhost: h\r\ncontent-length: 23\r\n\r\n{\"name\":\"a\",\"reach\":[]}",
+        request: "POST /collectors HTTP/1.1\r\nhost: h\r\ncontent-type: application/json\r\ncontent-length: 23\r\n\r\n{\"name\":\"a\",\"reach\":[]}",
         begins: "HTTP/1.1 409 Conflict\r\n",
         ends: "\r\n\r\n{\"refused\":\"AlreadyJoined 1\"}",
     },
@@ -64,7 +64,7 @@ pub(crate) const ROWS: [Row; 16] = [
     },
     Row {
         request: "GET /jobs/j/uncovered HTTP/1.1\r\nhost: h\r\n\r\n",
-        begins: "HTTP/1.1 200 OK\r\ncontent-type: application/json\r\n",
+        begins: "HTTP/1.1 200 OK\r\ncontent-type: application/json\r\nx-content-type-options: nosniff\r\n",
         ends: "\r\n\r\n{\"full\":[],\"unreached\":[]}",
     },
     Row {
@@ -74,12 +74,12 @@ pub(crate) const ROWS: [Row; 16] = [
     },
     Row {
         request: "GET / HTTP/1.1\r\nhost: h\r\n\r\n",
-        begins: "HTTP/1.1 200 OK\r\ncontent-type: text/html; charset=utf-8\r\n",
+        begins: "HTTP/1.1 200 OK\r\ncontent-type: text/html; charset=utf-8\r\nx-content-type-options: nosniff\r\n",
         ends: "</body>\n</html>\n",
     },
     Row {
         request: "POST /-/reload HTTP/1.1\r\nhost: h\r\ncontent-length: 0\r\n\r\n",
-        begins: "HTTP/1.1 403 Forbidden\r\ncontent-type: text/plain; charset=utf-8\r\n",
+        begins: "HTTP/1.1 403 Forbidden\r\ncontent-type: text/plain; charset=utf-8\r\nx-content-type-options: nosniff\r\n",
         ends: "\r\n\r\nThe lifecycle API is not enabled.\n",
     },
 ];
@@ -88,31 +88,31 @@ pub(crate) const ROWS: [Row; 16] = [
 pub(crate) const HELD_ROWS: [Row; 8] = [
     Row {
         request: "GET /jobs/j/targets?collector_id=h HTTP/1.1\r\nhost: h\r\n\r\n",
-        begins: "HTTP/1.1 200 OK\r\ncontent-type: application/json\r\nx-allocation-number: 1\r\nx-scrape-round: 1\r\n",
+        begins: "HTTP/1.1 200 OK\r\ncontent-type: application/json\r\nx-content-type-options: nosniff\r\nx-allocation-number: 1\r\nx-scrape-round: 1\r\n",
         ends: "\r\n\r\n[{\"labels\":{\"__meta_allocator_target\":\"0\",\"instance\":\"e1:9100\",\"zone\":\"east\"},\"targets\":[\"e1:9100\"]}]",
     },
     Row {
         request: "GET /jobs/j/targets HTTP/1.1\r\nhost: h\r\n\r\n",
-        begins: "HTTP/1.1 200 OK\r\ncontent-type: application/json\r\n",
+        begins: "HTTP/1.1 200 OK\r\ncontent-type: application/json\r\nx-content-type-options: nosniff\r\n",
         ends: "\r\n\r\n{\"h\":{\"_link\":\"/jobs/j/targets?collector_id=h\",\"targets\":[{\"labels\":{\"__meta_allocator_target\":\"0\",\"instance\":\"e1:9100\",\"zone\":\"east\"},\"targets\":[\"e1:9100\"]}]}}",
     },
     Row {
         request: "GET /certificate HTTP/1.1\r\nhost: h\r\n\r\n",
-        begins: "HTTP/1.1 200 OK\r\ncontent-type: application/json\r\n",
+        begins: "HTTP/1.1 200 OK\r\ncontent-type: application/json\r\nx-content-type-options: nosniff\r\n",
         ends: "\r\n\r\n{\"before\":[],\"bin_prices\":[0],\"bins\":[1],\"draining\":[],\"item_prices\":[6],\"pairs\":[[0,0]],\"reach\":[[0]],\"version\":2}",
     },
     Row {
-        request: "POST /reports HTTP/1.1\r\nhost: h\r\ncontent-length: 69\r\n\r\n{\"collector\":1,\"number\":1,\"target\":0,\"round\":1,\"up\":true,\"samples\":9}",
+        request: "POST /reports HTTP/1.1\r\nhost: h\r\ncontent-type: application/json\r\ncontent-length: 69\r\n\r\n{\"collector\":1,\"number\":1,\"target\":0,\"round\":1,\"up\":true,\"samples\":9}",
         begins: "HTTP/1.1 200 OK\r\n",
         ends: "\r\n\r\n{\"answer\":\"Booked\"}",
     },
     Row {
-        request: "POST /reports HTTP/1.1\r\nhost: h\r\ncontent-length: 69\r\n\r\n{\"collector\":1,\"number\":1,\"target\":0,\"round\":1,\"up\":true,\"samples\":9}",
+        request: "POST /reports HTTP/1.1\r\nhost: h\r\ncontent-type: application/json\r\ncontent-length: 69\r\n\r\n{\"collector\":1,\"number\":1,\"target\":0,\"round\":1,\"up\":true,\"samples\":9}",
         begins: "HTTP/1.1 409 Conflict\r\n",
         ends: "\r\n\r\n{\"refused\":\"AlreadyBooked\"}",
     },
     Row {
-        request: "PUT /collectors/1/limits HTTP/1.1\r\nhost: h\r\ncontent-length: 18\r\n\r\n{\"limits\":{\"j\":1}}",
+        request: "PUT /collectors/1/limits HTTP/1.1\r\nhost: h\r\ncontent-type: application/json\r\ncontent-length: 18\r\n\r\n{\"limits\":{\"j\":1}}",
         begins: "HTTP/1.1 200 OK\r\n",
         ends: "\r\n\r\n{\"answer\":\"LimitsSet\"}",
     },

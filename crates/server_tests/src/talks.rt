@@ -69,7 +69,7 @@ pub(crate) const TALKS: [Talk; 17] = [
     // a reset in mid-body
     Talk {
         row: Row {
-            request: "POST /collectors HTTP/1.1\r\nhost: h\r\nexpect: 100-continue\r\ncontent-length: 1000\r\n\r\n{",
+            request: "POST /collectors HTTP/1.1\r\nhost: h\r\ncontent-type: application/json\r\nexpect: 100-continue\r\ncontent-length: 1000\r\n\r\n{",
             begins: "",
             ends: "",
         },
@@ -79,7 +79,7 @@ pub(crate) const TALKS: [Talk; 17] = [
     // a length that promises more than comes
     Talk {
         row: Row {
-            request: "POST /collectors HTTP/1.1\r\nhost: h\r\nconnection: close\r\ncontent-length: 100\r\n\r\n{\"name\":\"a\",\"reach\":[]}",
+            request: "POST /collectors HTTP/1.1\r\nhost: h\r\ncontent-type: application/json\r\nconnection: close\r\ncontent-length: 100\r\n\r\n{\"name\":\"a\",\"reach\":[]}",
             begins: "HTTP/1.1 400 Bad Request\r\n",
             ends: "\r\n\r\n{\"refused\":\"Shape\"}",
         },
@@ -89,7 +89,7 @@ pub(crate) const TALKS: [Talk; 17] = [
     // a length that promises less
     Talk {
         row: Row {
-            request: "POST /collectors HTTP/1.1\r\nhost: h\r\nconnection: close\r\ncontent-length: 22\r\n\r\n{\"name\":\"a\",\"reach\":[]}",
+            request: "POST /collectors HTTP/1.1\r\nhost: h\r\ncontent-type: application/json\r\nconnection: close\r\ncontent-length: 22\r\n\r\n{\"name\":\"a\",\"reach\":[]}",
             begins: "HTTP/1.1 400 Bad Request\r\n",
             ends: "\r\n\r\n{\"refused\":\"Shape\"}",
         },
@@ -99,7 +99,7 @@ pub(crate) const TALKS: [Talk; 17] = [
     // the longest body, which is no JSON
     Talk {
         row: Row {
-            request: "POST /collectors HTTP/1.1\r\nhost: h\r\nconnection: close\r\ncontent-length: 1048576\r\n\r\n",
+            request: "POST /collectors HTTP/1.1\r\nhost: h\r\ncontent-type: application/json\r\nconnection: close\r\ncontent-length: 1048576\r\n\r\n",
             begins: "HTTP/1.1 400 Bad Request\r\n",
             ends: "\r\n\r\n{\"refused\":\"Shape\"}",
         },
@@ -109,7 +109,7 @@ pub(crate) const TALKS: [Talk; 17] = [
     // one byte more
     Talk {
         row: Row {
-            request: "POST /collectors HTTP/1.1\r\nhost: h\r\nconnection: close\r\ncontent-length: 1048577\r\n\r\n",
+            request: "POST /collectors HTTP/1.1\r\nhost: h\r\ncontent-type: application/json\r\nconnection: close\r\ncontent-length: 1048577\r\n\r\n",
             begins: "HTTP/1.1 413 Payload Too Large\r\n",
             ends: "\r\n\r\n{\"refused\":\"TooLong\"}",
         },
@@ -119,7 +119,7 @@ pub(crate) const TALKS: [Talk; 17] = [
     // limits of a collector that is not there
     Talk {
         row: Row {
-            request: "PUT /collectors/9/limits HTTP/1.1\r\nhost: h\r\nconnection: close\r\ncontent-length: 13\r\n\r\n{\"limits\":{}}",
+            request: "PUT /collectors/9/limits HTTP/1.1\r\nhost: h\r\ncontent-type: application/json\r\nconnection: close\r\ncontent-length: 13\r\n\r\n{\"limits\":{}}",
             begins: "HTTP/1.1 404 Not Found\r\n",
             ends: "\r\n\r\n{\"refused\":\"UnknownCollector\"}",
         },
@@ -129,9 +129,9 @@ pub(crate) const TALKS: [Talk; 17] = [
     // limits that are none
     Talk {
         row: Row {
-            request: "PUT /collectors/9/limits HTTP/1.1\r\nhost: h\r\nconnection: close\r\ncontent-length: 13\r\n\r\n{\"limits\":[]}",
+            request: "PUT /collectors/9/limits HTTP/1.1\r\nhost: h\r\ncontent-type: application/json\r\nconnection: close\r\ncontent-length: 13\r\n\r\n{\"limits\":[]}",
             begins: "HTTP/1.1 400 Bad Request\r\n",
-            ends: "\r\n\r\n{\"refused\":\"Shape\"}",
+            ends: "\r\n\r\n{\"member\":\"limits\",\"refused\":\"Shape\"}",
         },
         filler: 0,
         then: Then::Reads,
@@ -139,7 +139,7 @@ pub(crate) const TALKS: [Talk; 17] = [
     // a chunked body
     Talk {
         row: Row {
-            request: "POST /collectors HTTP/1.1\r\nhost: h\r\nconnection: close\r\ntransfer-encoding: chunked\r\n\r\n8\r\n{\"name\":\r\nf\r\n\"a\",\"reach\":[]}\r\n0\r\n\r\n",
+            request: "POST /collectors HTTP/1.1\r\nhost: h\r\ncontent-type: application/json\r\nconnection: close\r\ntransfer-encoding: chunked\r\n\r\n8\r\n{\"name\":\r\nf\r\n\"a\",\"reach\":[]}\r\n0\r\n\r\n",
             begins: "HTTP/1.1 200 OK\r\n",
             ends: "\r\n\r\n{\"answer\":\"Joined 1\"}",
         },
@@ -168,7 +168,7 @@ pub(crate) const TALKS: [Talk; 17] = [
     // limits that are all of its own
     Talk {
         row: Row {
-            request: "PUT /collectors/1/limits HTTP/1.1\r\nhost: h\r\nconnection: close\r\ncontent-length: 13\r\n\r\n{\"limits\":{}}",
+            request: "PUT /collectors/1/limits HTTP/1.1\r\nhost: h\r\ncontent-type: application/json\r\nconnection: close\r\ncontent-length: 13\r\n\r\n{\"limits\":{}}",
             begins: "HTTP/1.1 200 OK\r\n",
             ends: "\r\n\r\n{\"answer\":\"LimitsSet\"}",
         },

@@ -21,7 +21,7 @@ use std::time::Clock;
 /// What a full journal is asked for, and what it tells.
 const FULL_ROWS: [Row; 2] = [
     Row {
-        request: "POST /collectors HTTP/1.1\r\nhost: h\r\ncontent-length: 23\r\n\r\n{\"name\":\"a\",\"reach\":[]}",
+        request: "POST /collectors HTTP/1.1\r\nhost: h\r\ncontent-type: application/json\r\ncontent-length: 23\r\n\r\n{\"name\":\"a\",\"reach\":[]}",
         begins: "HTTP/1.1 507 Insufficient Storage\r\n",
         ends: "\r\n\r\n{\"refused\":\"JournalFull\"}",
     },
@@ -184,7 +184,7 @@ fn said_at<L: Ledger, B: Ledger, N: DeskName, R: Wait + Clock + Copy>(
 /// Whether the answer has the row's status code, and its body where the row has the whole of it.
 fn is_told(alloc: Global, said: Option<Said>, row: &Row) -> bool {
     match said {
-        Some(said) => match answer(alloc, said) {
+        Some(said) => match answer(alloc, said, false) {
             Ok(response) => {
                 has_status(alloc, response.status().as_u16(), row.begins)
                     && has_body(alloc, response.body(), row.ends)

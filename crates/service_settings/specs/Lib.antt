@@ -3,10 +3,11 @@ pub mod Digits
 pub mod Durations
 pub mod Spelled
 pub mod Addresses
-pub mod Arguments
 pub mod Lines
 pub mod Reading
 pub mod Members
 pub mod Collectors
+pub mod Doors
+pub mod ReachChanges
 pub mod Settings
 pub mod Beside

@@ -4,7 +4,7 @@ use Rattle.std.specs.Fmt.{decimal}
 use Rattle.service_settings.specs.declared.error.SettingsError.{SettingsError}
 use Rattle.service_settings.specs.declared.error.SettingsError.TheVariants.{NotJson, Shape, Unknown, RepeatedCollector, Memory}
 use Rattle.service_settings.specs.declared.error.Member.{Member}
-use Rattle.service_settings.specs.declared.error.Member.TheVariants.{Document, Global, ScrapeInterval, ScrapeConfigs, ScrapeConfig, HttpSdConfigs, HttpSdConfig, RefreshInterval, Allocator, Listen, Lifecycle, Journal, Keep, Settle, Collectors, Collector, CollectorName, CollectorReach, CollectorLimits, CollectorTimeout, FetchTimeout}
+use Rattle.service_settings.specs.declared.error.Member.TheVariants.{Document, Global, ScrapeInterval, ScrapeConfigs, ScrapeConfig, HttpSdConfigs, HttpSdConfig, RefreshInterval, Allocator, Listen, Lifecycle, Journal, Keep, Settle, GiveUp, Hosts, Host, Tokens, AdminTokens, CollectorTokens, OpenToAll, AllowNoJobs, Collectors, Collector, CollectorName, CollectorReach, CollectorLimits, ReachChanges, CollectorTimeout, FetchTimeout}
 
 -- without indices
 abbrev pub member_path : Member → List ℕ
@@ -22,11 +22,20 @@ member_path Lifecycle = codes "allocator.lifecycle"
 member_path Journal = codes "allocator.journal"
 member_path Keep = codes "allocator.keep"
 member_path Settle = codes "allocator.settle"
+member_path GiveUp = codes "allocator.give_up"
+member_path Hosts = codes "allocator.hosts"
+member_path (Host index) = codes "allocator.hosts"
+member_path Tokens = codes "allocator.tokens"
+member_path AdminTokens = codes "allocator.tokens.admin"
+member_path CollectorTokens = codes "allocator.tokens.collectors"
+member_path OpenToAll = codes "allocator.open_to_all"
+member_path AllowNoJobs = codes "allocator.allow_no_jobs"
 member_path Collectors = codes "allocator.collectors"
 member_path (Collector index) = codes "allocator.collectors"
 member_path (CollectorName index) = codes "allocator.collectors"
 member_path (CollectorReach index) = codes "allocator.collectors"
 member_path (CollectorLimits index) = codes "allocator.collectors"
+member_path ReachChanges = codes "allocator.reach_changes"
 member_path CollectorTimeout = codes "allocator.collector_timeout"
 member_path FetchTimeout = codes "allocator.fetch_timeout"
 
@@ -36,6 +45,7 @@ member_text (ScrapeConfig job) = codes "scrape_configs[" ++ (decimal job ++ code
 member_text (HttpSdConfigs job) = codes "scrape_configs[" ++ (decimal job ++ codes "].http_sd_configs")
 member_text (HttpSdConfig job entry) = codes "scrape_configs[" ++ (decimal job ++ (codes "].http_sd_configs[" ++ (decimal entry ++ codes "]")))
 member_text (RefreshInterval job entry) = codes "scrape_configs[" ++ (decimal job ++ (codes "].http_sd_configs[" ++ (decimal entry ++ codes "].refresh_interval")))
+member_text (Host index) = codes "allocator.hosts[" ++ (decimal index ++ codes "]")
 member_text (Collector index) = codes "allocator.collectors[" ++ (decimal index ++ codes "]")
 member_text (CollectorName index) = codes "allocator.collectors[" ++ (decimal index ++ codes "].name")
 member_text (CollectorReach index) = codes "allocator.collectors[" ++ (decimal index ++ codes "].reach")
@@ -58,11 +68,20 @@ missing Lifecycle = codes "neither true nor false"
 missing Journal = codes "no text"
 missing Keep = codes "no whole number of 32 bits"
 missing Settle = codes "no duration"
+missing GiveUp = codes "no duration above 0"
+missing Hosts = codes "no list"
+missing (Host index) = codes "no name of a host in small letters, without a port"
+missing Tokens = codes "no object"
+missing AdminTokens = codes "no path of a file"
+missing CollectorTokens = codes "no path of a file"
+missing OpenToAll = codes "neither true nor false"
+missing AllowNoJobs = codes "neither true nor false"
 missing Collectors = codes "no list"
 missing (Collector index) = codes "no object"
 missing (CollectorName index) = codes "no name of a collector"
 missing (CollectorReach index) = codes "no list of reach rules"
 missing (CollectorLimits index) = codes "no object of limits"
+missing ReachChanges = codes "neither \"drained\" nor \"now\""
 missing CollectorTimeout = codes "no duration above 0"
 missing FetchTimeout = codes "no duration above 0"
 

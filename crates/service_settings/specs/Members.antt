@@ -9,12 +9,14 @@ use Rattle.service_settings.specs.declared.error.SettingsError.{SettingsError}
 use Rattle.service_settings.specs.declared.error.SettingsError.TheVariants.{Shape, Unknown}
 use Rattle.service_settings.specs.declared.error.Member.{Member}
 use Rattle.service_settings.specs.declared.settings.members.Kind.{Kind}
-use Rattle.service_settings.specs.declared.settings.members.Kind.TheVariants.{Allocator, Collector}
+use Rattle.service_settings.specs.declared.settings.members.Kind.TheVariants.{Allocator, Tokens, Collector}
 use Rattle.service_settings.specs.Reading.{◌>>=◌}
 
 abbrev pub names_of : Kind → List (List ℕ)
 names_of Allocator =
-    codes "listen" ∷ codes "lifecycle" ∷ codes "journal" ∷ codes "keep" ∷ codes "settle" ∷ codes "collectors" ∷ codes "collector_timeout" ∷ codes "fetch_timeout" ∷ []
+    codes "listen" ∷ codes "lifecycle" ∷ codes "journal" ∷ codes "keep" ∷ codes "settle" ∷ codes "give_up" ∷ codes "hosts" ∷ codes "tokens" ∷ codes "open_to_all"
+    ∷ codes "allow_no_jobs" ∷ codes "collectors" ∷ codes "reach_changes" ∷ codes "collector_timeout" ∷ codes "fetch_timeout" ∷ []
+names_of Tokens = codes "admin" ∷ codes "collectors" ∷ []
 names_of Collector = codes "name" ∷ codes "reach" ∷ codes "limits" ∷ []
 
 abbrev pub has_member : Kind → List ℕ → Bool

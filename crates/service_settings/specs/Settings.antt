@@ -7,11 +7,14 @@ use Rattle.service_settings.specs.declared.error.SettingsError.{SettingsError}
 use Rattle.service_settings.specs.declared.error.SettingsError.TheVariants.{Shape}
 use Rattle.service_settings.specs.declared.error.Member.TheVariants as part
 use Rattle.service_settings.specs.declared.settings.Settings.{Settings}
-use Rattle.service_settings.specs.declared.settings.TheConstants.{DEFAULT_INTERVAL, DEFAULT_SETTLE, DEFAULT_FETCH_TIMEOUT, DEFAULT_LISTEN}
+use Rattle.service_settings.specs.declared.settings.TheConstants.{DEFAULT_INTERVAL, DEFAULT_SETTLE, DEFAULT_KEEP, DEFAULT_GIVE_UP, DEFAULT_FETCH_TIMEOUT, DEFAULT_LISTEN}
 use Rattle.service_settings.specs.declared.settings.allocator.Housekeeping.{Housekeeping}
 use Rattle.service_settings.specs.declared.settings.allocator.Collecting.{Collecting}
 use Rattle.service_settings.specs.declared.settings.members.Kind.TheVariants as kind
+use Rattle.service_settings.specs.declared.settings.doors.Doors.{Doors}
 use Rattle.service_settings.specs.Collectors.{collectors_said}
+use Rattle.service_settings.specs.Doors.{doors_said}
+use Rattle.service_settings.specs.ReachChanges.{reach_changes_said}
 use Rattle.service_settings.specs.Members.{known_said}
 use Rattle.service_settings.specs.Reading.{◌>>=◌, json_said, member_at, duration_in, time_in, address_in, said_or, said_or_none, object_said, items_said, each_from}
 
@@ -44,21 +47,24 @@ housekeeping_said allocator =
     said_or DEFAULT_LISTEN address_in part.Listen (member_at (codes "listen") allocator) >>= λ listen.
     said_or false as_bool part.Lifecycle (member_at (codes "lifecycle") allocator) >>= λ lifecycle.
     said_or_none as_str part.Journal (member_at (codes "journal") allocator) >>= λ journal.
-    said_or_none number_in part.Keep (member_at (codes "keep") allocator) >>= λ keep.
+    said_or DEFAULT_KEEP number_in part.Keep (member_at (codes "keep") allocator) >>= λ keep.
     said_or DEFAULT_SETTLE duration_in part.Settle (member_at (codes "settle") allocator) >>= λ settle.
-    Ok (record { listen = listen; lifecycle = lifecycle; journal = journal; keep = keep; settle = settle })
+    said_or DEFAULT_GIVE_UP time_in part.GiveUp (member_at (codes "give_up") allocator) >>= λ give_up.
+    Ok (record { listen = listen; lifecycle = lifecycle; journal = journal; keep = keep; settle = settle; give_up = give_up })
 
 unfoldable pub collecting_said : Option Data → Result Collecting SettingsError
 collecting_said allocator =
+    said_or false as_bool part.AllowNoJobs (member_at (codes "allow_no_jobs") allocator) >>= λ allow_no_jobs.
     collectors_said (member_at (codes "collectors") allocator) >>= λ collectors.
+    reach_changes_said (member_at (codes "reach_changes") allocator) >>= λ reach_changes.
     said_or_none time_in part.CollectorTimeout (member_at (codes "collector_timeout") allocator) >>= λ collector_timeout.
     said_or DEFAULT_FETCH_TIMEOUT time_in part.FetchTimeout (member_at (codes "fetch_timeout") allocator) >>= λ fetch_timeout.
-    Ok (record { collectors = collectors; collector_timeout = collector_timeout; fetch_timeout = fetch_timeout })
+    Ok (record { allow_no_jobs = allow_no_jobs; collectors = collectors; reach_changes = reach_changes; collector_timeout = collector_timeout; fetch_timeout = fetch_timeout })
 
 -- ---- all of them
 
-abbrev pub settings_of : ℕ → List (List ℕ) → Housekeeping → Collecting → Settings
-settings_of scrape_interval refresh house fleet = record {
+abbrev pub settings_of : ℕ → List (List ℕ) → Housekeeping → Doors → Collecting → Settings
+settings_of scrape_interval refresh house doors fleet = record {
   scrape_interval = scrape_interval;
   refresh = refresh;
   listen = house.listen;
@@ -66,7 +72,11 @@ settings_of scrape_interval refresh house fleet = record {
   journal = house.journal;
   keep = house.keep;
   settle = house.settle;
+  give_up = house.give_up;
+  doors = doors;
+  allow_no_jobs = fleet.allow_no_jobs;
   collectors = fleet.collectors;
+  reach_changes = fleet.reach_changes;
   collector_timeout = fleet.collector_timeout;
   fetch_timeout = fleet.fetch_timeout;
 }
@@ -77,8 +87,9 @@ members_said d =
     refresh_said d >>= λ refresh.
     known_said kind.Allocator part.Allocator (get (codes "allocator") d) >>= λ allocator.
     housekeeping_said allocator >>= λ house.
+    doors_said allocator >>= λ doors.
     collecting_said allocator >>= λ fleet.
-    Ok (settings_of scrape_interval refresh house fleet)
+    Ok (settings_of scrape_interval refresh house doors fleet)
 
 unfoldable pub settings_said : Data → Result Settings SettingsError
 settings_said d = if is_some (as_object d) then members_said d else Err (Shape part.Document)

@@ -36,11 +36,21 @@ pub enum Member {
     Journal,
     Keep,
     Settle,
+    GiveUp,
+    Hosts,
+    /// A name of `allocator.hosts`, by its index.
+    Host(usize),
+    Tokens,
+    AdminTokens,
+    CollectorTokens,
+    OpenToAll,
+    AllowNoJobs,
     Collectors,
     Collector(usize),
     CollectorName(usize),
     CollectorReach(usize),
     CollectorLimits(usize),
+    ReachChanges,
     CollectorTimeout,
     FetchTimeout,
 }
@@ -99,6 +109,7 @@ impl Member {
             Member::RefreshInterval(job, entry) => {
                 format!(in alloc; "scrape_configs[{job}].http_sd_configs[{entry}].refresh_interval")
             }
+            Member::Host(index) => format!(in alloc; "allocator.hosts[{index}]"),
             Member::Collector(index) => format!(in alloc; "allocator.collectors[{index}]"),
             Member::CollectorName(index) => format!(in alloc; "allocator.collectors[{index}].name"),
             Member::CollectorReach(index) => {
@@ -130,11 +141,19 @@ impl Member {
             Member::Journal => "allocator.journal",
             Member::Keep => "allocator.keep",
             Member::Settle => "allocator.settle",
+            Member::GiveUp => "allocator.give_up",
+            Member::Hosts | Member::Host(_) => "allocator.hosts",
+            Member::Tokens => "allocator.tokens",
+            Member::AdminTokens => "allocator.tokens.admin",
+            Member::CollectorTokens => "allocator.tokens.collectors",
+            Member::OpenToAll => "allocator.open_to_all",
+            Member::AllowNoJobs => "allocator.allow_no_jobs",
             Member::Collectors
             | Member::Collector(_)
             | Member::CollectorName(_)
             | Member::CollectorReach(_)
             | Member::CollectorLimits(_) => "allocator.collectors",
+            Member::ReachChanges => "allocator.reach_changes",
             Member::CollectorTimeout => "allocator.collector_timeout",
             Member::FetchTimeout => "allocator.fetch_timeout",
         }
@@ -150,16 +169,22 @@ impl Member {
             | Member::ScrapeConfig(_)
             | Member::HttpSdConfig(_, _)
             | Member::Allocator
+            | Member::Tokens
             | Member::Collector(_) => "no object",
-            Member::ScrapeConfigs | Member::HttpSdConfigs(_) | Member::Collectors => "no list",
+            Member::ScrapeConfigs | Member::HttpSdConfigs(_) | Member::Hosts | Member::Collectors =>
+                "no list",
             Member::ScrapeInterval
             | Member::RefreshInterval(_, _)
+            | Member::GiveUp
             | Member::CollectorTimeout
             | Member::FetchTimeout => "no duration above 0",
             Member::Settle => "no duration",
             Member::Listen => "no address with a port",
-            Member::Lifecycle => "neither true nor false",
+            Member::Lifecycle | Member::OpenToAll | Member::AllowNoJobs => "neither true nor false",
             Member::Journal => "no text",
+            Member::Host(_) => "no name of a host in small letters, without a port",
+            Member::AdminTokens | Member::CollectorTokens => "no path of a file",
+            Member::ReachChanges => "neither \"drained\" nor \"now\"",
             Member::Keep => "no whole number of 32 bits",
             Member::CollectorName(_) => "no name of a collector",
             Member::CollectorReach(_) => "no list of reach rules",

@@ -133,15 +133,16 @@ pub(crate) fn text_or_none(
     Ok(Some(text))
 }
 
-pub(crate) fn number_or_none(
+pub(crate) fn number_or(
+    absent: u32,
     member: Member,
     found: Option<&Value>,
-) -> Result<Option<u32>, SettingsError>
-    ensures { Gives (λ o. o) result (said_or_none number_in member (option_map (λ v. view v.now) found.entry)) }
+) -> Result<u32, SettingsError>
+    ensures { Gives (λ n. n) result (said_or absent number_in member (option_map (λ v. view v.now) found.entry)) }
 {
     match found {
-        Some(value) => Ok(Some(number(value).ok_or(SettingsError::Shape(member))?)),
-        None => Ok(None),
+        Some(value) => number(value).ok_or(SettingsError::Shape(member)),
+        None => Ok(absent),
     }
 }
 

@@ -7,7 +7,9 @@ ghost use Rattle.service_settings.specs.Settings.{settings_of as settings_made, 
 
 mod allocator;
 mod collectors;
+mod doors;
 mod members;
+mod reach_changes;
 mod scrapes;
 
 use crate::address::Address;
@@ -15,8 +17,11 @@ use crate::error::{Member, SettingsError};
 use crate::reading::json_in;
 use allocator::{Collecting, Housekeeping, collecting_in, housekeeping_in};
 pub use collectors::Collector;
+pub use doors::Doors;
+use doors::doors_in;
 use lists::{List, Text};
 use members::{Kind, known_or_none};
+pub use reach_changes::ReachChanges;
 use scrapes::{refresh_in, scrape_interval_in};
 use serde_json::Value;
 use std::alloc::Global;
@@ -25,6 +30,10 @@ use std::alloc::Global;
 pub const DEFAULT_INTERVAL: u64 = 60_000;
 /// How long changes settle before a plan is made, in milliseconds.
 pub const DEFAULT_SETTLE: u64 = 1_000;
+/// How many old journals are kept.
+pub const DEFAULT_KEEP: u32 = 16;
+/// How long after a failed write the service ends, in milliseconds.
+pub const DEFAULT_GIVE_UP: u64 = 30_000;
 /// How long a fetch may take, in milliseconds.
 pub const DEFAULT_FETCH_TIMEOUT: u64 = 10_000;
 /// Where HTTP is served.
@@ -46,12 +55,20 @@ pub struct Settings {
     pub lifecycle: bool,
     /// The path of the journal.
     pub journal: Option<Text>,
-    /// How many old journals are kept. All, if there is no number.
-    pub keep: Option<u32>,
+    /// How many old journals are kept.
+    pub keep: u32,
     /// How long changes settle before a plan is made.
     pub settle: u64,
+    /// How long after a failed write of the journal the service ends. Above 0.
+    pub give_up: u64,
+    /// Who may ask.
+    pub doors: Doors,
+    /// Whether a configuration without jobs is taken.
+    pub allow_no_jobs: bool,
     /// Collectors that join when the service starts. Their names differ.
     pub collectors: List<Collector>,
+    /// When another reach of a collector of the configuration is taken.
+    pub reach_changes: ReachChanges,
     /// After how long without a word a collector leaves. Above 0, and never, if there is none.
     pub collector_timeout: Option<u64>,
     /// How long a fetch may take. Above 0.
@@ -81,17 +98,19 @@ fn settings_in(alloc: Global, document: &Value) -> Result<Settings, SettingsErro
     let found = document.get("allocator");
     let allocator = known_or_none(alloc, Kind::Allocator, Member::Allocator, found)?;
     let housekeeping = housekeeping_in(alloc, allocator)?;
+    let doors = doors_in(alloc, allocator)?;
     let collecting = collecting_in(alloc, allocator)?;
-    Ok(settings_of(scrape_interval, refresh, housekeeping, collecting))
+    Ok(settings_of(scrape_interval, refresh, housekeeping, doors, collecting))
 }
 
 fn settings_of(
     scrape_interval: u64,
     refresh: List<List<u64>>,
     housekeeping: Housekeeping,
+    doors: Doors,
     collecting: Collecting,
 ) -> Settings
-    ensures { result ≡ settings_made scrape_interval refresh housekeeping collecting }
+    ensures { result ≡ settings_made scrape_interval refresh housekeeping doors collecting }
 {
     Settings {
         scrape_interval,
@@ -101,7 +120,11 @@ fn settings_of(
         journal: housekeeping.journal,
         keep: housekeeping.keep,
         settle: housekeeping.settle,
+        give_up: housekeeping.give_up,
+        doors,
+        allow_no_jobs: collecting.allow_no_jobs,
         collectors: collecting.collectors,
+        reach_changes: collecting.reach_changes,
         collector_timeout: collecting.collector_timeout,
         fetch_timeout: collecting.fetch_timeout,
     }

@@ -3,7 +3,7 @@ use fleet_events::{Answer, Event, Refusal};
 use sd_routes::Ask;
 
 /// The routes as they are told, and what no route has.
-pub(crate) const ROUTES: [&str; 18] = [
+pub(crate) const ROUTES: [&str; 19] = [
     "/",
     "/scrape_configs",
     "/jobs",
@@ -17,6 +17,7 @@ pub(crate) const ROUTES: [&str; 18] = [
     "PUT /collectors/{id}/limits",
     "POST /reports",
     "/-/healthy",
+    "/livez",
     "/-/ready",
     "/metrics",
     "POST /-/reload",
@@ -25,7 +26,9 @@ pub(crate) const ROUTES: [&str; 18] = [
 ];
 
 /// The status codes of responses, and 0 for any other.
-pub(crate) const STATUSES: [u16; 11] = [200, 400, 403, 404, 405, 409, 413, 500, 503, 507, 0];
+pub(crate) const STATUSES: [u16; 15] = [
+    200, 400, 401, 403, 404, 405, 409, 413, 415, 417, 500, 501, 503, 507, 0,
+];
 
 /// The kinds of events by the names of their JSON.
 pub(crate) const KINDS: [&str; 9] = [
@@ -96,6 +99,14 @@ impl EventKind {
         }
     }
 
+    /// The name of the kind's JSON.
+    pub fn name(self) -> &'static str {
+        match KINDS.get(self.place()) {
+            Some(name) => name,
+            None => "",
+        }
+    }
+
     /// The place among the kinds.
     fn place(self) -> usize {
         match self {
@@ -116,7 +127,7 @@ impl EventKind {
 #[derive(Clone, Copy, Debug, Drop)]
 pub(crate) struct Counts {
     /// Of requests that were answered, at the places of their routes and statuses.
-    pub(crate) requests: [[u64; 11]; 18],
+    pub(crate) requests: [[u64; 15]; 19],
     /// Of events, at the places of their kinds and answers.
     pub(crate) events: [[u64; 28]; 9],
 }
@@ -124,7 +135,7 @@ pub(crate) struct Counts {
 impl Counts {
     pub(crate) fn new() -> Counts {
         Counts {
-            requests: [[0; 11]; 18],
+            requests: [[0; 15]; 19],
             events: [[0; 28]; 9],
         }
     }
@@ -147,6 +158,12 @@ impl Counts {
             count(of_kind, answer_place(answer));
         }
     }
+}
+
+/// Whether the line of an answer says that an event was done.
+pub(crate) fn is_done(line: &str) -> bool {
+    let name = line.split(' ').next().unwrap_or("");
+    ANSWERS.iter().take(DONE).any(|done| *done == name)
 }
 
 /// How many events of a kind were refused, by the counts of its answers.
@@ -180,10 +197,11 @@ fn place_of(ask: &Ask) -> usize {
         Ask::SetLimits(_) => 10,
         Ask::Report => 11,
         Ask::Healthy => 12,
-        Ask::Ready => 13,
-        Ask::Metrics => 14,
-        Ask::Reload => 15,
-        Ask::Quit => 16,
+        Ask::Live => 13,
+        Ask::Ready => 14,
+        Ask::Metrics => 15,
+        Ask::Reload => 16,
+        Ask::Quit => 17,
     }
 }
 

@@ -1,7 +1,7 @@
 //! How much of a desk's journal a device keeps.
 use std::alloc::AllocError;
 use std::sync::{Arc, Condvar, Mutex, Wait};
-use std::time::{Clock, Duration};
+use std::time::{Clock, Duration, Instant};
 
 /// How long is waited for an entry at most, in milliseconds: a device that does not come back holds nobody for longer.
 pub const LONGEST_WAIT_MILLIS: u64 = 20_000;
@@ -21,6 +21,10 @@ struct Progress {
     kept: u64,
     /// Whether the device failed. Then no further entry is kept.
     is_broken: bool,
+    /// When the write began that has not come back.
+    begun: Option<Instant>,
+    /// Whether that was so long ago that nobody waits for it.
+    is_hanging: bool,
 }
 
 impl Kept {
@@ -31,6 +35,8 @@ impl Kept {
                 wanted: 0,
                 kept: 0,
                 is_broken: false,
+                begun: None,
+                is_hanging: false,
             }),
             changed: Condvar::new(),
         }
@@ -44,7 +50,8 @@ impl Kept {
         }
     }
 
-    /// Waits until the entry at this position is kept, and says whether it is: it is not where the device failed before, or takes too long.
+    /// Waits until the entry at this position is kept, and says whether it is: it is not where the device failed
+    /// before, hangs, or takes too long.
     pub fn wait<R: Wait + Clock>(&self, rt: &R, position: u64) -> bool {
         let mut progress = self.progress.lock(rt);
         progress.wanted = progress.wanted.max(position.saturating_add(1));
@@ -53,21 +60,46 @@ impl Kept {
         let (progress, _) = self
             .changed
             .wait_timeout_while(rt, progress, longest, |progress| {
-                progress.kept <= position && !progress.is_broken
+                progress.kept <= position && !progress.is_broken && !progress.is_hanging
             });
         progress.kept > position
     }
 
+    /// A write begins. It ends by `keep` or by `fail`.
+    pub fn begin<R: Wait + Clock>(&self, rt: &R) {
+        let now = Instant::now(rt).ok();
+        self.progress.lock(rt).begun = now;
+    }
+
     /// So many entries from the first on are kept. Each call names at least as many as the one before.
     pub fn keep(&self, rt: &impl Wait, entries: u64) {
-        self.progress.lock(rt).kept = entries;
+        let mut progress = self.progress.lock(rt);
+        progress.kept = entries;
+        progress.begun = None;
+        progress.is_hanging = false;
         self.changed.notify_all();
     }
 
     /// The device failed.
     pub fn fail(&self, rt: &impl Wait) {
-        self.progress.lock(rt).is_broken = true;
+        let mut progress = self.progress.lock(rt);
+        progress.is_broken = true;
+        progress.begun = None;
+        progress.is_hanging = false;
         self.changed.notify_all();
+    }
+
+    /// Whether a write that began has not come back for so long. From then on nobody waits for an entry until it comes back.
+    pub fn is_hanging(&self, rt: &impl Wait, now: Instant, longest: Duration) -> bool {
+        let mut progress = self.progress.lock(rt);
+        progress.is_hanging = match progress.begun {
+            Some(begun) => now.saturating_duration_since(begun) >= longest,
+            None => false,
+        };
+        if progress.is_hanging {
+            self.changed.notify_all();
+        }
+        progress.is_hanging
     }
 
     /// Whether the device failed.

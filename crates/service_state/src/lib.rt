@@ -1,10 +1,12 @@
 //! What the threads of a service share with those that answer requests: what it counts and notes while it runs, its metrics, its page for
-//! people, the pages of its configuration, how much of its journal is kept, and how a request has it read its configuration again.
+//! people, the pages of its configuration, how much of its journal is kept, how a request has it read its configuration again, and what was
+//! asked of its fleet.
 //!
 //! Contracts say what the pages of a configuration are. They say nothing of figures: these are what the threads of a service wrote, and
 //! what a desk showed.
 #![tactic(auto)]
 
+mod changes;
 mod config_pages;
 mod counts;
 mod figures;
@@ -15,6 +17,7 @@ mod page;
 mod reloading;
 mod service_state;
 
+pub use changes::{ChangeNote, Changes};
 pub use config_pages::ConfigPages;
 pub use counts::EventKind;
 pub use figures::{Figures, figures_of};

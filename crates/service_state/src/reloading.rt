@@ -21,8 +21,8 @@ struct Talk {
     answered: u64,
     /// Whether the service answers.
     is_open: bool,
-    /// Why the configuration that was read last is not taken, where it is not.
-    fault: Option<Text>,
+    /// The line of what the configuration that was read last changes, or why it is not taken. Nothing before the first.
+    outcome: Option<Result<Text, Text>>,
 }
 
 impl Reloading {
@@ -32,14 +32,14 @@ impl Reloading {
                 asked: 0,
                 answered: 0,
                 is_open: false,
-                fault: None,
+                outcome: None,
             }),
             changed: Condvar::new(),
         }
     }
 
-    /// Waits until the configuration is read again, and gives the line that tells why it is not taken, where it is not.
-    pub fn ask(&self, rt: &impl Wait, alloc: Global) -> Result<Option<Text>, AllocError> {
+    /// Waits until the configuration is read again, and gives the line that tells what it changes, or the line that tells why it is not taken.
+    pub fn ask(&self, rt: &impl Wait, alloc: Global) -> Result<Result<Text, Text>, AllocError> {
         let mut talk = self.talk.lock(rt);
         talk.asked = talk.asked.saturating_add(1);
         let turn = talk.asked;
@@ -47,11 +47,12 @@ impl Reloading {
             .changed
             .wait_while(rt, talk, |talk| talk.is_open && talk.answered < turn);
         if talk.answered < turn {
-            return Ok(Some(Text::from_str(alloc, CLOSED)?));
+            return Ok(Err(Text::from_str(alloc, CLOSED)?));
         }
-        match &talk.fault {
-            Some(fault) => Ok(Some(fault.copy()?)),
-            None => Ok(None),
+        match &talk.outcome {
+            Some(Ok(changes)) => Ok(Ok(changes.copy()?)),
+            Some(Err(fault)) => Ok(Err(fault.copy()?)),
+            None => Ok(Err(Text::from_str(alloc, CLOSED)?)),
         }
     }
 
@@ -61,11 +62,11 @@ impl Reloading {
         talk.answered < talk.asked
     }
 
-    /// Tells all who wait that the configuration is taken, or by a line why it is not.
-    pub fn answer(&self, rt: &impl Wait, fault: Option<Text>) {
+    /// Tells all who wait by a line what the configuration changes, or why it is not taken.
+    pub fn answer(&self, rt: &impl Wait, outcome: Result<Text, Text>) {
         let mut talk = self.talk.lock(rt);
         talk.answered = talk.asked;
-        talk.fault = fault;
+        talk.outcome = Some(outcome);
         self.changed.notify_all();
     }
 

@@ -1,4 +1,5 @@
 //! What a service says of itself beside its desk.
+use crate::changes::{ChangeNote, Changes};
 use crate::counts::EventKind;
 use crate::notes::{AllocationNote, Notes, SourceNote};
 use crate::reloading::Reloading;
@@ -19,6 +20,8 @@ pub struct ServiceState {
     is_reloaded: AtomicBool,
     /// Whether what is submitted cannot be kept.
     is_broken: AtomicBool,
+    /// Whether the device that keeps it does not come back.
+    is_hanging: AtomicBool,
     /// Whether all that was found first was given out.
     has_begun: AtomicBool,
     untried: AtomicU64,
@@ -32,6 +35,7 @@ pub struct ServiceState {
     /// How many are served.
     connections: AtomicU64,
     notes: Mutex<Notes>,
+    changes: Mutex<Changes>,
 }
 
 impl ServiceState {
@@ -43,6 +47,7 @@ impl ServiceState {
             reloading: Reloading::new(),
             is_reloaded: AtomicBool::new(true),
             is_broken: AtomicBool::new(false),
+            is_hanging: AtomicBool::new(false),
             has_begun: AtomicBool::new(false),
             untried: AtomicU64::new(sources),
             refreshes: AtomicU64::new(0),
@@ -52,12 +57,15 @@ impl ServiceState {
             workers: AtomicU64::new(0),
             connections: AtomicU64::new(0),
             notes: Mutex::new(Notes::new(alloc)),
+            changes: Mutex::new(Changes::new(alloc)),
         }
     }
 
-    /// Whether each source was tried once, what they list was given out, and what is submitted is kept.
+    /// Whether each source was tried once, what they list was given out, and what is submitted is kept in time.
     pub fn is_ready(&self) -> bool {
-        self.has_begun.load(Ordering::SeqCst) && !self.is_broken.load(Ordering::SeqCst)
+        self.has_begun.load(Ordering::SeqCst)
+            && !self.is_broken()
+            && !self.is_hanging.load(Ordering::SeqCst)
     }
 
     /// So many sources are to be tried by a service that has not begun.
@@ -108,6 +116,16 @@ impl ServiceState {
     /// What is submitted cannot be kept any more.
     pub fn break_down(&self) {
         self.is_broken.store(true, Ordering::SeqCst);
+    }
+
+    /// Whether what is submitted cannot be kept any more.
+    pub fn is_broken(&self) -> bool {
+        self.is_broken.load(Ordering::SeqCst)
+    }
+
+    /// The device that keeps what is submitted does not come back, or has come back.
+    pub fn set_hanging(&self, is_hanging: bool) {
+        self.is_hanging.store(is_hanging, Ordering::SeqCst);
     }
 
     /// A source was tried for the first time, and what it lists was entered.
@@ -203,6 +221,16 @@ impl ServiceState {
     /// Other sources are refreshed from now on.
     pub fn forget_sources(&self, rt: &impl Wait) {
         self.notes.lock(rt).sources.clear();
+    }
+
+    /// Somebody asked something of the fleet over HTTP. Of many between two looks the last ones are only counted.
+    pub fn note_change(&self, rt: &impl Wait, note: ChangeNote) {
+        self.changes.lock(rt).note(note);
+    }
+
+    /// What was asked of the fleet over HTTP since the last look.
+    pub fn take_changes(&self, rt: &impl Wait) -> Changes {
+        self.changes.lock(rt).take()
     }
 
     /// What it notes, as it is now.

@@ -9,10 +9,9 @@ use label_sets::Target;
 use lists::{List, Plain};
 use relabel::{Found, Rules};
 use sd_documents::Job;
-use service_settings::Collector;
 use std::alloc::{AllocError, Global};
-use std::sync::Wait;
 use std::sync::ledger::Ledger;
+use std::sync::{Arc, Wait};
 use std::time::Clock;
 
 impl<R: Wait + Clock + Eprint + Copy, L: Ledger, B: Ledger, N: DeskName> Shared<R, L, B, N> {
@@ -29,7 +28,9 @@ impl<R: Wait + Clock + Eprint + Copy, L: Ledger, B: Ledger, N: DeskName> Shared<
         } else if office.is_new {
             self.state.forget_sources(&self.rt);
             self.enter_static_groups(pass, service.jobs())?;
-            self.enter_collectors(pass, service.settings.collectors.as_slice())?;
+            let schedule = &mut office.schedule;
+            self.follow_collectors(pass, &service.settings, &mut schedule.roster)?;
+            schedule.jobs = Arc::try_clone(&service.job_texts)?;
             office.is_new = false;
         }
         Ok(())
@@ -77,38 +78,6 @@ impl<R: Wait + Clock + Eprint + Copy, L: Ledger, B: Ledger, N: DeskName> Shared<
             |record| is_listed(record.core(), place, targets),
         )
     }
-
-    /// Has the collectors of the settings join that are not live.
-    fn enter_collectors(
-        &self,
-        pass: &mut Pass<L, B, N>,
-        collectors: &[Collector],
-    ) -> Result<(), AllocError> {
-        for collector in collectors {
-            let name = collector.name.as_str();
-            if self.desk.named(&self.rt, pass, name).is_none() {
-                let event = joining(collector)?;
-                self.enter_first(pass, name, event)?;
-            }
-        }
-        Ok(())
-    }
-
-    /// Enters what a service begins with. It does not begin without it.
-    fn enter_first(
-        &self,
-        pass: &mut Pass<L, B, N>,
-        about: &str,
-        event: Event,
-    ) -> Result<(), AllocError> {
-        match self.enter(pass, event) {
-            Some(answer) => {
-                self.log_answer(about, &answer);
-                Ok(())
-            }
-            None => Err(AllocError),
-        }
-    }
 }
 
 fn is_listed(core: &Core, place: usize, targets: &[Target]) -> bool {
@@ -139,17 +108,6 @@ fn is_target(core: &Core, number: usize, target: &Target) -> bool {
         },
         Err(_) => false,
     }
-}
-
-fn joining(collector: &Collector) -> Result<Event, AllocError> {
-    let name = collector.name.copy()?;
-    let reach = collector.reach.copy()?;
-    let limits = collector.limits.copy()?;
-    Ok(Event::Join {
-        name,
-        reach,
-        limits,
-    })
 }
 
 /// What the static groups of a job list.

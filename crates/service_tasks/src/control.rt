@@ -11,6 +11,8 @@ pub enum Ending {
     Reload,
     /// The service is to end.
     Quit,
+    /// The service is to end since its journal is broken.
+    Broken,
 }
 
 /// Whether a desk is to be closed, and how its threads are told.

@@ -7,6 +7,7 @@ use fleet_events::{Answer, Event};
 use log::{info, warn};
 use logfmt::{Logfmt, Quoted};
 use service_state::EventKind;
+use std::alloc::AllocError;
 use std::sync::Wait;
 use std::sync::ledger::Ledger;
 use std::time::Clock;
@@ -32,6 +33,31 @@ impl<R: Wait + Clock + Eprint + Copy, L: Ledger, B: Ledger, N: DeskName> Shared<
                 log_warning(&self.rt, "no memory for an event");
                 None
             }
+        }
+    }
+
+    /// Enters an event about something, logs what it is answered, and says whether it was entered.
+    pub(crate) fn enter_told(&self, pass: &mut Pass<L, B, N>, about: &str, event: Event) -> bool {
+        match self.enter(pass, event) {
+            Some(answer) => {
+                self.log_answer(about, &answer);
+                true
+            }
+            None => false,
+        }
+    }
+
+    /// Enters what a service begins with. It does not begin without it.
+    pub(crate) fn enter_first(
+        &self,
+        pass: &mut Pass<L, B, N>,
+        about: &str,
+        event: Event,
+    ) -> Result<(), AllocError> {
+        if self.enter_told(pass, about, event) {
+            Ok(())
+        } else {
+            Err(AllocError)
         }
     }
 

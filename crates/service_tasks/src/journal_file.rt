@@ -1,5 +1,6 @@
 //! The file of a journal.
-use durable_journal::append;
+use durable_journal::{Lines, append};
+use sealed_lines::Chain;
 use std::fs::OpenFile;
 use std::io;
 use std::io::Write;
@@ -14,6 +15,8 @@ pub struct JournalFile<F> {
     file: F,
     /// How many bytes the journal has.
     grown: u64,
+    /// The digest of its last line, where its lines have digests.
+    pub(crate) chain: Option<Chain>,
     /// How many it may have before another one begins.
     most: u64,
     /// Whether nothing can be kept any more.
@@ -21,21 +24,24 @@ pub struct JournalFile<F> {
 }
 
 impl<F> JournalFile<F> {
-    /// The file of a journal of so many bytes.
-    pub fn new(file: F, bytes: u64) -> JournalFile<F> {
+    /// The file of a journal of so many bytes, with the digest of its last line, where its lines have digests.
+    pub fn new(file: F, bytes: u64, chain: Option<Chain>) -> JournalFile<F> {
         JournalFile {
             file,
             grown: bytes,
+            chain,
             most: MOST_GROWN,
             is_broken: false,
         }
     }
 
-    /// The file of a journal that has its first line, of so many bytes. Where that is long, the journal may grow to twice of it.
-    pub(crate) fn begun(file: F, bytes: u64) -> JournalFile<F> {
+    /// The file of a journal that has this first line. Where that is long, the journal may grow to twice of it.
+    pub(crate) fn begun(file: F, first: &Lines) -> JournalFile<F> {
+        let bytes = first.bytes.len() as u64;
         JournalFile {
             file,
             grown: bytes,
+            chain: first.chain,
             most: MOST_GROWN.max(bytes.saturating_mul(2)),
             is_broken: false,
         }
@@ -49,12 +55,13 @@ impl<F> JournalFile<F> {
 
 impl<F: Write + OpenFile> JournalFile<F> {
     /// Writes lines behind those that are there, and has the device keep them. A file that no folder has any more keeps nothing.
-    pub(crate) fn append(&mut self, lines: &[u8]) -> io::Result<()> {
+    pub(crate) fn append(&mut self, lines: &Lines) -> io::Result<()> {
         if self.file.metadata()?.nlink() == 0 {
             return Err(io::ErrorKind::NotFound.into());
         }
-        append(&mut self.file, lines)?;
-        self.grown = self.grown.saturating_add(lines.len() as u64);
+        append(&mut self.file, lines.bytes.as_slice())?;
+        self.grown = self.grown.saturating_add(lines.bytes.len() as u64);
+        self.chain = lines.chain;
         Ok(())
     }
 }

@@ -3,8 +3,7 @@ use crate::journal_file::JournalFile;
 use crate::logging::{log_error_of, log_warning};
 use crate::shared::Shared;
 use alloc_desk::{DeskName, Pass};
-use durable_journal::journal_lines;
-use lists::List;
+use durable_journal::{Lines, journal_lines};
 use service_state::Kept;
 use std::alloc::AllocError;
 use std::fs::OpenFile;
@@ -36,7 +35,7 @@ struct Keeper<'a, L: Ledger, B: Ledger, N: DeskName, F> {
 struct News {
     /// How many entries.
     entries: usize,
-    lines: List<u8>,
+    lines: Lines,
 }
 
 impl<R: Wait + Clock + Eprint + Copy, L: Ledger, B: Ledger, N: DeskName> Shared<R, L, B, N> {
@@ -82,7 +81,7 @@ impl<R: Wait + Clock + Eprint + Copy, L: Ledger, B: Ledger, N: DeskName> Shared<
         }
     }
 
-    /// The lines of some entries from a position on.
+    /// The lines of some entries from a position on. What was refused has none.
     fn news<F>(
         &self,
         keeper: &mut Keeper<'_, L, B, N, F>,
@@ -93,7 +92,7 @@ impl<R: Wait + Clock + Eprint + Copy, L: Ledger, B: Ledger, N: DeskName> Shared<
             .entries(&self.rt, self.alloc, keeper.pass, from, MOST_AT_ONCE)?;
         Ok(News {
             entries: entries.len(),
-            lines: journal_lines(self.alloc, entries.as_slice())?,
+            lines: journal_lines(self.alloc, keeper.file.chain, entries.as_slice())?,
         })
     }
 
@@ -105,14 +104,27 @@ impl<R: Wait + Clock + Eprint + Copy, L: Ledger, B: Ledger, N: DeskName> Shared<
         news: &News,
     ) -> io::Result<usize> {
         if news.entries > 0 {
-            keeper.file.append(news.lines.as_slice())?;
-            self.state.count_written(news.lines.len() as u64);
-            self.is_long.store(keeper.file.is_long(), Ordering::SeqCst);
+            keeper.kept.begin(&self.rt);
+            self.write_lines(keeper, &news.lines)?;
             keeper
                 .kept
                 .keep(&self.rt, from.saturating_add(news.entries) as u64);
         }
         Ok(news.entries)
+    }
+
+    /// Writes lines, if there are some.
+    fn write_lines<F: Write + OpenFile>(
+        &self,
+        keeper: &mut Keeper<'_, L, B, N, F>,
+        lines: &Lines,
+    ) -> io::Result<()> {
+        if !lines.bytes.is_empty() {
+            keeper.file.append(lines)?;
+            self.state.count_written(lines.bytes.len() as u64);
+            self.is_long.store(keeper.file.is_long(), Ordering::SeqCst);
+        }
+        Ok(())
     }
 
     /// Nothing is written until there is memory, for which the last turn does not wait.

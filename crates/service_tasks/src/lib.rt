@@ -6,17 +6,22 @@
 
 mod attendance;
 mod beginning;
+mod changing;
 mod configuration;
 mod control;
 mod crew;
+mod differences;
 mod entering;
+mod journal_device;
 mod journal_file;
 mod keeping;
 mod logging;
 mod office;
 mod publishing;
 mod refreshing;
+mod reloading;
 mod renewing;
+mod roster;
 mod scheduling;
 mod service;
 mod shared;

@@ -4,8 +4,9 @@ use crate::journal_file::JournalFile;
 use crate::logging::{log_error, log_warning};
 use crate::refreshing::Watch;
 use crate::scheduling::Schedule;
-use crate::service::Service;
+use crate::service::{JobText, Service};
 use crate::source::Source;
+use admission::Admission;
 use http_get::Scrape;
 use lists::List;
 use sd_documents::Job;
@@ -21,6 +22,7 @@ use std::time::{Clock, Instant};
 pub struct Office<S, F, C> {
     pub listener: TcpListener,
     pub pages: Arc<ConfigPages>,
+    pub doors: Arc<Admission>,
     pub state: Arc<ServiceState>,
     pub schedule: Schedule<C>,
     pub watch: Watch<S>,
@@ -45,8 +47,9 @@ impl<S: Scrape + Drop, F: Drop, C: Configuration + Drop> Office<S, F, C> {
             Ok(parts) => Ok(Office {
                 listener,
                 pages: parts.pages,
+                doors: parts.doors,
                 state: parts.state,
-                schedule: Schedule::new(alloc, parts.now, configuration),
+                schedule: Schedule::new(alloc, parts.now, parts.job_texts, configuration),
                 watch: Watch {
                     jobs: parts.jobs,
                     scrape,
@@ -92,6 +95,7 @@ impl<S: Scrape + Drop, F: Drop, C: Configuration + Drop> Office<S, F, C> {
         sources: Vec<Source>,
     ) -> Result<(), AllocError> {
         self.pages = Arc::try_clone(&service.pages)?;
+        self.doors = Arc::try_clone(&service.doors)?;
         self.watch.jobs = Arc::try_clone(&service.jobs)?;
         self.state.await_sources(sources.len() as u64);
         self.watch.sources = sources;
@@ -104,8 +108,10 @@ impl<S: Scrape + Drop, F: Drop, C: Configuration + Drop> Office<S, F, C> {
 #[derive(Drop)]
 struct Parts {
     pages: Arc<ConfigPages>,
+    doors: Arc<Admission>,
     state: Arc<ServiceState>,
     now: Instant,
+    job_texts: Arc<List<JobText>>,
     jobs: Arc<List<Job>>,
     sources: Vec<Source>,
 }
@@ -113,14 +119,18 @@ struct Parts {
 impl Parts {
     fn of<R: Clock>(rt: &R, alloc: Global, service: &Service) -> io::Result<Parts> {
         let pages = Arc::try_clone(&service.pages)?;
+        let doors = Arc::try_clone(&service.doors)?;
         let state = Arc::new(alloc, state_of(alloc, service))?;
         let now = Instant::now(rt)?;
+        let job_texts = Arc::try_clone(&service.job_texts)?;
         let jobs = Arc::try_clone(&service.jobs)?;
         let sources = sources_of(alloc, service)?;
         Ok(Parts {
             pages,
+            doors,
             state,
             now,
+            job_texts,
             jobs,
             sources,
         })

@@ -9,7 +9,7 @@ use crate::office::{Office, sources_of};
 use crate::service::Service;
 use crate::source::Source;
 use allocation_core::{Core, JobSpec, NotRenewed};
-use durable_journal::{Archive, are_jobs_of, renewed_line};
+use durable_journal::{Archive, are_jobs_of, first_lines, renewed_line};
 use http_get::Scrape;
 use lists::copies;
 use replay_lines::resume;
@@ -183,11 +183,10 @@ fn begin_journal<R: Clock + Eprint + Copy, F: Drop, A: Archive<F>>(
     let Some(line) = renewed_line(alloc, service.line().as_bytes(), core)? else {
         return Err(io::ErrorKind::InvalidData.into());
     };
-    let line = line.as_str();
-    let first = format!(in alloc; "{line}\n")?;
-    match archive.begin(first.as_bytes()) {
+    let first = first_lines(alloc, line.as_str().as_bytes())?;
+    match archive.begin(first.bytes.as_slice()) {
         Ok(next) => {
-            *file = JournalFile::begun(next, first.len() as u64);
+            *file = JournalFile::begun(next, &first);
             Ok(())
         }
         Err(error) => break_down(rt, file, error),

@@ -3,17 +3,19 @@ use crate::attendance::Attendance;
 use crate::configuration::Configuration;
 use crate::control::Ending;
 use crate::logging::{log_error, log_info, log_warning};
+use crate::roster::Roster;
+use crate::service::JobText;
 use crate::shared::Shared;
 use alloc_desk::{DeskName, MOST_ENTRIES, Pass, ReallocateError, Reallocated};
 use fleet::MOST_KNOWN_TARGETS;
 use fleet_events::{Answer, CollectorId, Event, TargetId};
-use lists::Text;
-use log::{info, warn};
-use logfmt::{Logfmt, Quoted};
+use lists::List;
+use log::info;
+use logfmt::Logfmt;
 use std::alloc::Global;
-use std::sync::Wait;
 use std::sync::atomic::Ordering;
 use std::sync::ledger::Ledger;
+use std::sync::{Arc, Wait};
 use std::time::{Clock, Duration, Instant};
 
 /// How long the thread waits between two looks at the desk, in milliseconds.
@@ -42,18 +44,35 @@ pub struct Schedule<C> {
     pub(crate) configuration: C,
     /// Whether the configuration was read again, and is to be followed.
     pub(crate) is_read: bool,
+    /// The jobs of the configuration that is followed.
+    pub(crate) jobs: Arc<List<JobText>>,
+    pub(crate) roster: Roster,
+    /// Whether a write of the journal takes long.
+    pub(crate) is_hanging: bool,
+    /// Since when the journal is known to be broken.
+    pub(crate) broken: Option<Instant>,
     /// Who holds what, as the last allocation had it.
     pub(crate) held: Vec<(TargetId, CollectorId)>,
 }
 
 impl<C> Schedule<C> {
-    pub(crate) fn new(alloc: Global, now: Instant, configuration: C) -> Schedule<C> {
+    /// Of a service with these jobs that begins now.
+    pub(crate) fn new(
+        alloc: Global,
+        now: Instant,
+        jobs: Arc<List<JobText>>,
+        configuration: C,
+    ) -> Schedule<C> {
         Schedule {
             opened: now,
             changed: None,
             attendance: Attendance::new(alloc),
             configuration,
             is_read: false,
+            jobs,
+            roster: Roster::new(alloc),
+            is_hanging: false,
+            broken: None,
             held: Vec::new(alloc),
         }
     }
@@ -69,6 +88,7 @@ impl<R: Wait + Clock + Eprint + Copy, L: Ledger, B: Ledger, N: DeskName> Shared<
         self.state.reloading().open(&self.rt);
         self.take_turns(pass, schedule);
         self.state.reloading().close(&self.rt);
+        self.log_changes();
     }
 
     fn take_turns<C: Configuration>(&self, pass: &mut Pass<L, B, N>, schedule: &mut Schedule<C>) {
@@ -82,45 +102,18 @@ impl<R: Wait + Clock + Eprint + Copy, L: Ledger, B: Ledger, N: DeskName> Shared<
             {
                 return;
             }
+            self.log_changes();
+            self.watch_device(schedule);
             if self.state.is_quitting() {
                 self.control.end(&self.rt, Ending::Quit);
             }
             if self.state.reloading().is_asked(&self.rt) {
-                self.reload(schedule);
+                self.reload(pass, schedule);
             }
             if !self.is_broken() {
                 self.take_turn(pass, schedule);
             }
         }
-    }
-
-    /// Reads the configuration again. Where it is faulty, or nothing can be kept, nothing changes.
-    fn reload<C: Configuration>(&self, schedule: &mut Schedule<C>) {
-        if self.is_broken() {
-            self.refuse_reload(line_of(self.alloc, "the journal cannot be written\n"));
-            return;
-        }
-        match schedule.configuration.read() {
-            Ok(()) => {
-                schedule.is_read = true;
-                log_info(&self.rt, "the configuration is read again");
-                self.state.set_reloaded(true);
-                self.state.reloading().answer(&self.rt, None);
-                self.control.end(&self.rt, Ending::Reload);
-            }
-            Err(fault) => self.refuse_reload(fault),
-        }
-    }
-
-    fn refuse_reload(&self, fault: Text) {
-        self.log_refused(fault.as_str());
-        self.state.set_reloaded(false);
-        self.state.reloading().answer(&self.rt, Some(fault));
-    }
-
-    fn log_refused(&self, fault: &str) {
-        let why = Quoted(fault);
-        warn!(Logfmt(self.rt); why:% = why; "the configuration is not taken");
     }
 
     /// Does what is due.
@@ -129,6 +122,7 @@ impl<R: Wait + Clock + Eprint + Copy, L: Ledger, B: Ledger, N: DeskName> Shared<
             self.open_round_when_due(pass, schedule, now);
             self.dismiss_absent(pass, schedule, now);
             self.reallocate_when_settled(pass, schedule, now);
+            self.follow_departures(pass, &mut schedule.roster, now);
         }
         self.close_when_full(pass);
     }
@@ -224,13 +218,5 @@ impl<R: Wait + Clock + Eprint + Copy, L: Ledger, B: Ledger, N: DeskName> Shared<
 
     fn log_full(&self, entries: usize, known: usize) {
         info!(Logfmt(self.rt); entries, known; "nearly full: the allocator is renewed, and another desk is opened");
-    }
-}
-
-/// A line as a text, which is empty where there is no memory for it.
-fn line_of(alloc: Global, line: &str) -> Text {
-    match Text::from_str(alloc, line) {
-        Ok(text) => text,
-        Err(_) => Text::from_string(String::new(alloc)),
     }
 }

@@ -1,8 +1,9 @@
 //! What a service is to do.
-use lists::{List, Text};
+use admission::Admission;
+use lists::{List, Plain, Text};
 use relabel::{Rules, RulesError};
 use sd_documents::{Config, Job};
-use service_settings::{Address, Settings};
+use service_settings::{Address, Doors, Settings};
 use service_state::ConfigPages;
 use std::alloc::{AllocError, Global};
 use std::sync::Arc;
@@ -14,11 +15,23 @@ pub struct Service {
     /// The document of the configuration, as one line.
     line: Text,
     pub(crate) jobs: Arc<List<Job>>,
+    /// The jobs as the configuration has them.
+    pub(crate) job_texts: Arc<List<JobText>>,
     /// What requests are told of the configuration.
     pub(crate) pages: Arc<ConfigPages>,
+    /// Who may ask for what.
+    pub(crate) doors: Arc<Admission>,
     pub(crate) settings: Settings,
     /// The discovery sources, job by job.
     pub(crate) sources: Vec<SourceSettings>,
+}
+
+/// A job as the configuration has it.
+#[derive(Drop)]
+pub(crate) struct JobText {
+    pub(crate) name: Text,
+    /// The compact JSON of its scrape config.
+    pub(crate) text: Text,
 }
 
 /// A discovery source: entry `number - 1` of the `http_sd_configs` of the job at a place in the configuration.
@@ -54,17 +67,32 @@ impl Service {
     ) -> Result<Service, ServiceError> {
         match parts_of(alloc, &config, &settings) {
             Ok((pages, sources)) => {
+                let job_texts = shared(alloc, job_texts_of(alloc, &config)?)?;
                 let jobs = shared(alloc, config.jobs)?;
+                let doors = shared(alloc, Admission::open())?;
                 Ok(Service {
                     line,
                     jobs,
+                    job_texts,
                     pages,
+                    doors,
                     settings,
                     sources,
                 })
             }
             Err(error) => Err(error),
         }
+    }
+
+    /// Lets in from now on whom these doors let in.
+    pub fn set_doors(&mut self, alloc: Global, doors: Admission) -> Result<(), AllocError> {
+        self.doors = shared(alloc, doors)?;
+        Ok(())
+    }
+
+    /// Who may ask, as the settings say it.
+    pub fn doors(&self) -> &Doors {
+        &self.settings.doors
     }
 
     /// The document of the configuration, as one line.
@@ -82,13 +110,18 @@ impl Service {
         self.settings.listen
     }
 
+    /// Whether a collector that asks for nothing is drained, and leaves.
+    pub fn notices_absence(&self) -> bool {
+        self.settings.collector_timeout.is_some()
+    }
+
     /// How long a source may take to answer.
     pub fn fetch_timeout(&self) -> Duration {
         Duration::from_millis(self.settings.fetch_timeout)
     }
 
-    /// How many old journals are kept, or all.
-    pub fn keep(&self) -> Option<u32> {
+    /// How many old journals are kept.
+    pub fn keep(&self) -> u32 {
         self.settings.keep
     }
 
@@ -112,6 +145,25 @@ fn parts_of(
     let pages = ConfigPages::of(alloc, config)?;
     let pages = shared(alloc, pages)?;
     Ok((pages, sources))
+}
+
+fn job_texts_of(alloc: Global, config: &Config) -> Result<List<JobText>, AllocError> {
+    let mut texts = List::new(alloc);
+    for job in config.jobs.as_slice() {
+        texts.push(job_text_of(alloc, config, job)?)?;
+    }
+    Ok(texts)
+}
+
+fn job_text_of(alloc: Global, config: &Config, job: &Job) -> Result<JobText, AllocError> {
+    let text = match config.as_read.get(job.name.as_str()) {
+        Some(read) => read.to_string(alloc)?,
+        None => String::new(alloc),
+    };
+    Ok(JobText {
+        name: job.name.copy()?,
+        text: Text::from_string(text),
+    })
 }
 
 fn shared<T: Drop>(alloc: Global, value: T) -> Result<Arc<T>, AllocError> {

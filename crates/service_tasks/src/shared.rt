@@ -22,6 +22,8 @@ pub struct Shared<R, L: Ledger, B: Ledger, N: DeskName> {
     pub(crate) settle: Duration,
     /// After how long a collector that takes nothing is drained, if ever.
     pub(crate) absence: Option<Duration>,
+    /// How long after its journal broke the service ends.
+    pub(crate) give_up: Duration,
     pub(crate) control: Control,
     pub(crate) state: Arc<ServiceState>,
     /// How many targets the lists have that were entered.
@@ -51,6 +53,7 @@ impl<R: Wait + Copy, L: Ledger, B: Ledger, N: DeskName> Shared<R, L, B, N> {
             round: Duration::from_millis(settings.scrape_interval),
             settle: Duration::from_millis(settings.settle),
             absence: settings.collector_timeout.map(Duration::from_millis),
+            give_up: Duration::from_millis(settings.give_up),
             control: Control::new(),
             state,
             listed: AtomicU64::new(0),
@@ -61,7 +64,10 @@ impl<R: Wait + Copy, L: Ledger, B: Ledger, N: DeskName> Shared<R, L, B, N> {
 
     /// Whether the service is to end. Else another desk follows.
     pub fn is_quitting(&self) -> bool {
-        self.control.ending(&self.rt) == Some(Ending::Quit)
+        matches!(
+            self.control.ending(&self.rt),
+            Some(Ending::Quit | Ending::Broken)
+        )
     }
 
     /// The service is to end, unless the desk is closed for another reason.

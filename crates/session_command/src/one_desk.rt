@@ -6,6 +6,7 @@ ghost use Rattle.session_command.specs.Totals.{IsEnded, IsReached};
 use crate::asking::ask_all;
 use crate::ended::Halt;
 use crate::staff::{Staff, device};
+use admission::Admission;
 use alloc_desk::{Desk, DeskName, Pass};
 use allocation_core::Core;
 use collector_pool::Open;
@@ -139,6 +140,7 @@ fn handler_of<R: Copy, L: Ledger, B: Ledger, N: DeskName>(
     let pages = pages_of(alloc, session)?;
     let state = shared(alloc, ServiceState::new(alloc, false, 0))?;
     let texts = shared(alloc, ListTexts::new(alloc))?;
+    let doors = shared(alloc, Admission::open())?;
     let desk = shared(alloc, desk)?;
     let pass = shared(alloc, Mutex::new(pass))?;
     Ok(Handler {
@@ -150,6 +152,8 @@ fn handler_of<R: Copy, L: Ledger, B: Ledger, N: DeskName>(
         state,
         kept: None,
         texts,
+        doors,
+        peer: None,
     })
 }
 
@@ -349,6 +353,8 @@ fn closed<R: Drop, L: Ledger, B: Ledger, N: DeskName>(
         state: _,
         kept: _,
         texts: _,
+        doors: _,
+        peer: _,
     } = handler;
     let (Some(desk), Some(pass)) = (Arc::into_inner(desk), Arc::into_inner(pass)) else {
         return Err(Halt::Device);

@@ -7,11 +7,13 @@ ghost use Rattle.service_settings.specs.Settings.{housekeeping_said, collecting_
 use crate::address::Address;
 use crate::error::{Member, SettingsError};
 use crate::reading::{
-    address_or, duration_or, flag_or, member_of, number_or_none, text_or_none, time_or,
-    time_or_none,
+    address_or, duration_or, flag_or, member_of, number_or, text_or_none, time_or, time_or_none,
 };
 use crate::settings::collectors::{Collector, collectors_in};
-use crate::settings::{DEFAULT_FETCH_TIMEOUT, DEFAULT_LISTEN, DEFAULT_SETTLE};
+use crate::settings::reach_changes::{ReachChanges, reach_changes_in};
+use crate::settings::{
+    DEFAULT_FETCH_TIMEOUT, DEFAULT_GIVE_UP, DEFAULT_KEEP, DEFAULT_LISTEN, DEFAULT_SETTLE,
+};
 use lists::{List, Text};
 use serde_json::Value;
 use std::alloc::Global;
@@ -22,14 +24,17 @@ pub(crate) struct Housekeeping {
     pub(crate) listen: Address,
     pub(crate) lifecycle: bool,
     pub(crate) journal: Option<Text>,
-    pub(crate) keep: Option<u32>,
+    pub(crate) keep: u32,
     pub(crate) settle: u64,
+    pub(crate) give_up: u64,
 }
 
-/// Who collects, and how long it may take.
+/// What is collected, who collects, and how long it may take.
 #[derive(Drop)]
 pub(crate) struct Collecting {
+    pub(crate) allow_no_jobs: bool,
     pub(crate) collectors: List<Collector>,
+    pub(crate) reach_changes: ReachChanges,
     pub(crate) collector_timeout: Option<u64>,
     pub(crate) fetch_timeout: u64,
 }
@@ -45,15 +50,18 @@ pub(crate) fn housekeeping_in(
     let listen = address_or(DEFAULT_LISTEN, Member::Listen, listen)?;
     let lifecycle = flag_or(false, Member::Lifecycle, member_of(allocator, "lifecycle"))?;
     let journal = text_or_none(alloc, Member::Journal, member_of(allocator, "journal"))?;
-    let keep = number_or_none(Member::Keep, member_of(allocator, "keep"))?;
+    let keep = number_or(DEFAULT_KEEP, Member::Keep, member_of(allocator, "keep"))?;
     let settle = member_of(allocator, "settle");
     let settle = duration_or(DEFAULT_SETTLE, Member::Settle, settle)?;
+    let give_up = member_of(allocator, "give_up");
+    let give_up = time_or(DEFAULT_GIVE_UP, Member::GiveUp, give_up)?;
     Ok(Housekeeping {
         listen,
         lifecycle,
         journal,
         keep,
         settle,
+        give_up,
     })
 }
 
@@ -64,13 +72,18 @@ pub(crate) fn collecting_in(
 ) -> Result<Collecting, SettingsError>
     ensures { Gives (λ c. c) result (collecting_said (option_map (λ v. view v.now) allocator.entry)) }
 {
+    let allow_no_jobs = member_of(allocator, "allow_no_jobs");
+    let allow_no_jobs = flag_or(false, Member::AllowNoJobs, allow_no_jobs)?;
     let collectors = collectors_in(alloc, member_of(allocator, "collectors"))?;
+    let reach_changes = reach_changes_in(member_of(allocator, "reach_changes"))?;
     let collector_timeout = member_of(allocator, "collector_timeout");
     let collector_timeout = time_or_none(Member::CollectorTimeout, collector_timeout)?;
     let fetch_timeout = member_of(allocator, "fetch_timeout");
     let fetch_timeout = time_or(DEFAULT_FETCH_TIMEOUT, Member::FetchTimeout, fetch_timeout)?;
     Ok(Collecting {
+        allow_no_jobs,
         collectors,
+        reach_changes,
         collector_timeout,
         fetch_timeout,
     })

@@ -13,6 +13,7 @@ use std::alloc::Global;
 #[derive(Clone, Copy, Debug, PartialEq, Eq)]
 pub(crate) enum Kind {
     Allocator,
+    Tokens,
     Collector,
 }
 
@@ -70,9 +71,19 @@ fn has_member(kind: Kind, name: &str) -> bool
             | "journal"
             | "keep"
             | "settle"
+            | "give_up"
+            | "hosts"
+            | "tokens"
+            | "open_to_all"
+            | "allow_no_jobs"
             | "collectors"
+            | "reach_changes"
             | "collector_timeout"
             | "fetch_timeout" => true,
+            _ => false,
+        },
+        Kind::Tokens => match name {
+            "admin" | "collectors" => true,
             _ => false,
         },
         Kind::Collector => match name {

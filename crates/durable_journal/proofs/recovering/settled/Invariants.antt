@@ -1,5 +1,5 @@
 use Rattle.std.proofs.Common.{◌≤◌, length, drop}
-use Rattle.durable_journal.specs.Lines.{HasNoFeed}
+use Rattle.sealed_lines.specs.Lines.{HasNoFeed}
 use Rattle.durable_journal.proofs.recovering.settled.Given as goal
 
 abbrev pub invariant-loop-end : goal.invariant-loop-end

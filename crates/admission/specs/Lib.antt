@@ -1,0 +1,4 @@
+pub mod Sites
+pub mod Bodies
+pub mod Authorizing
+pub mod Admission

@@ -1,0 +1,137 @@
+//! What a command line asks for.
+ghost use Rattle.std.specs.Prelude.{◌≡◌, ◌⊎◌, None, Some, true, IfOk, IfSome, map, option_map, string_bytes};
+ghost use Rattle.clap.specs.Words.{found_of, rows_of, subcommand_rows_of};
+ghost use Rattle.command_words.specs.Asked.{Answers, are_taken, asked_by, asked_in, audits_by, command_in, is_set as is_set_by, named, said, seals_by, serves_by};
+
+use crate::commands::program;
+use crate::refusal::{no_command, refused};
+use clap::ArgMatches;
+use std::alloc::{AllocError, Global};
+
+/// What a command line asks for.
+#[derive(Debug, Drop)]
+pub enum Asked<'a> {
+    /// A command that answers standard input.
+    Answer(InputCommand),
+    Session,
+    /// The paths of the journals of an audit, one at the least.
+    Audit(Vec<&'a str>),
+    /// The path of a journal that is to have its digests anew.
+    Seal(&'a str),
+    Serve(ServeOptions<'a>),
+    /// Help or the version, for standard output.
+    Shown(String),
+    /// What is wrong with the words, for standard error.
+    Refused(String),
+}
+
+/// The commands that answer one input.
+#[derive(Clone, Copy, Debug, PartialEq, Eq)]
+pub enum InputCommand {
+    Check,
+    Plan,
+    Relabel,
+    Replay,
+}
+
+/// The options of `allocd serve`.
+#[derive(Clone, Copy, Debug, PartialEq, Eq)]
+pub struct ServeOptions<'a> {
+    /// The path of the configuration file.
+    pub config: &'a str,
+    /// In place of the configuration's `listen`.
+    pub listen: Option<&'a str>,
+    /// In place of the configuration's `journal`.
+    pub journal: Option<&'a str>,
+    /// Whether the configuration is only to be read and checked.
+    pub check_config: bool,
+}
+
+/// Reads the words behind the program's name: what `clap` takes for a command is asked for, and everything else is shown or refused.
+pub fn read_words<'a>(alloc: Global, words: &'a [String]) -> Result<Asked<'a>, AllocError>
+    ensures taken { are_taken (map string_bytes words.entry.now) ≡ true → IfOk result (λ a. said a ≡ asked_in (map string_bytes words.entry.now)) }
+    ensures others { IfOk result (λ a. (said a ≡ None) ⊎ (said a ≡ asked_in (map string_bytes words.entry.now))) }
+    ensures alone { IfSome (command_in words.entry.now) (λ c. IfOk result (λ a. said a ≡ Some (Answers c))) }
+{
+    let command = program(alloc)?;
+    match command.try_get_matches_from(words) {
+        Ok(matches) => asked_of(alloc, &matches),
+        Err(error) => refused(alloc, words, &error),
+    }
+}
+
+/// What the matches ask for.
+fn asked_of<'a>(alloc: Global, matches: &ArgMatches<'a>) -> Result<Asked<'a>, AllocError>
+    ensures { IfOk result (λ a. said a ≡ asked_by (subcommand_rows_of matches.now)) }
+{
+    match matches.subcommand() {
+        Some((name, matches)) => command_named(alloc, name, matches),
+        None => no_command(alloc),
+    }
+}
+
+fn command_named<'a>(
+    alloc: Global,
+    name: &str,
+    matches: &ArgMatches<'a>,
+) -> Result<Asked<'a>, AllocError>
+    ensures { IfOk result (λ a. said a ≡ named name.now (rows_of (found_of matches.now))) }
+{
+    match name {
+        "check" => Ok(Asked::Answer(InputCommand::Check)),
+        "plan" => Ok(Asked::Answer(InputCommand::Plan)),
+        "relabel" => Ok(Asked::Answer(InputCommand::Relabel)),
+        "replay" => Ok(Asked::Answer(InputCommand::Replay)),
+        "session" => Ok(Asked::Session),
+        "audit" => audit_of(alloc, matches),
+        "seal" => seal_of(alloc, matches),
+        "serve" => serve_of(alloc, matches),
+        _ => no_command(alloc),
+    }
+}
+
+fn audit_of<'a>(alloc: Global, matches: &ArgMatches<'a>) -> Result<Asked<'a>, AllocError>
+    ensures { IfOk result (λ a. said a ≡ audits_by (rows_of (found_of matches.now))) }
+{
+    match matches.get_strs("FILE") {
+        Some(paths) => {
+            let mut files = Vec::new(alloc);
+            files.extend_from_slice(paths)?;
+            Ok(Asked::Audit(files))
+        }
+        None => no_command(alloc),
+    }
+}
+
+fn seal_of<'a>(alloc: Global, matches: &ArgMatches<'a>) -> Result<Asked<'a>, AllocError>
+    ensures { IfOk result (λ a. said a ≡ seals_by (rows_of (found_of matches.now))) }
+{
+    match matches.get_str("FILE") {
+        Some(path) => Ok(Asked::Seal(path)),
+        None => no_command(alloc),
+    }
+}
+
+fn serve_of<'a>(alloc: Global, matches: &ArgMatches<'a>) -> Result<Asked<'a>, AllocError>
+    ensures { IfOk result (λ a. said a ≡ serves_by (rows_of (found_of matches.now))) }
+{
+    match matches.get_str("config") {
+        Some(config) => Ok(Asked::Serve(ServeOptions {
+            config,
+            listen: matches.get_str("listen"),
+            journal: matches.get_str("journal"),
+            check_config: is_set(matches.get_str("check-config")),
+        })),
+        None => no_command(alloc),
+    }
+}
+
+/// Whether the text of a flag says that it is used.
+fn is_set(text: Option<&str>) -> bool
+    ensures { result ≡ is_set_by (option_map (λ s. s.now) text.entry) }
+{
+    match text {
+        Some(word) => word == "true",
+        None => false,
+    }
+}

@@ -1,0 +1,4 @@
+pub mod Texts
+pub mod SealedTexts
+pub mod AcceptedTexts
+pub mod LineByLine

@@ -1,0 +1,118 @@
+//! Who may ask for what, as the configuration says it.
+use admission::{Admission, Key, read_keys};
+use journal_files::Fault;
+use lists::{List, Plain, Text};
+use service_settings::Doors;
+use std::alloc::{AllocError, AllocGlobal, Global};
+use std::fs::File;
+use std::io;
+use std::io::Read;
+use std::net::SocketAddr;
+use std::os::unix::fs::PermissionsExt;
+use std::rt::Files;
+
+/// The most bytes of a file of tokens: 1 MiB.
+const LONGEST_TOKENS: u64 = 1_048_576;
+
+/// The bits of a file's mode by which others than its owner may do something.
+const OTHERS: u32 = 0o077;
+
+/// Who may ask for what where a service listens at an address. The path is that of the configuration.
+pub(crate) fn admission_at<R: Files<File = File> + AllocGlobal>(
+    rt: &R,
+    path: &str,
+    doors: &Doors,
+    here: SocketAddr,
+) -> Result<Admission, Fault> {
+    check_openness(rt.alloc(), path, doors, here)?;
+    let admin = keys_at(rt, path, "admin", &doors.admin_tokens)?;
+    match keys_at(rt, path, "collectors", &doors.collector_tokens) {
+        Ok(collectors) => Ok(Admission {
+            hosts: own_hosts(rt.alloc(), doors, here)?,
+            admin,
+            collectors,
+        }),
+        Err(fault) => Err(fault),
+    }
+}
+
+/// Refuses an address at which other machines may ask, where no tokens are named and nobody says that all may ask.
+fn check_openness(alloc: Global, path: &str, doors: &Doors, here: SocketAddr) -> Result<(), Fault> {
+    let is_guarded = doors.admin_tokens.is_some() && doors.collector_tokens.is_some();
+    if here.ip().is_loopback() || is_guarded || doors.open_to_all {
+        return Ok(());
+    }
+    Err(Fault::Told(format!(in alloc;
+        "{path}: allocator.listen: other machines can ask at {here}: name files in allocator.tokens.admin and allocator.tokens.collectors, or set allocator.open_to_all to true"
+    )?))
+}
+
+/// The names under which the service may be asked. All, where it listens for other machines and none is named.
+fn own_hosts(
+    alloc: Global,
+    doors: &Doors,
+    here: SocketAddr,
+) -> Result<Option<List<Text>>, AllocError> {
+    if !here.ip().is_loopback() && doors.hosts.is_empty() {
+        return Ok(None);
+    }
+    let mut hosts = List::new(alloc);
+    hosts.push(Text::from_str(alloc, "localhost")?)?;
+    let address = here.ip();
+    hosts.push(Text::from_string(format!(in alloc; "{address}")?))?;
+    for host in doors.hosts.as_slice() {
+        hosts.push(host.copy()?)?;
+    }
+    Ok(Some(hosts))
+}
+
+/// The keys of a file that the configuration names.
+fn keys_at<R: Files<File = File> + AllocGlobal>(
+    rt: &R,
+    path: &str,
+    member: &str,
+    file: &Option<Text>,
+) -> Result<Option<List<Key>>, Fault> {
+    let Some(file) = file else {
+        return Ok(None);
+    };
+    let file = file.as_str();
+    match text_at(rt, file) {
+        Ok(Some(text)) => match read_keys(rt.alloc(), text.as_str())? {
+            Some(keys) => Ok(Some(keys)),
+            None => told(
+                rt.alloc(),
+                path,
+                member,
+                file,
+                "a line has a token, or the name of a collector, a space and a token; and at least one line",
+            ),
+        },
+        Ok(None) => told(
+            rt.alloc(),
+            path,
+            member,
+            file,
+            "others may read or write it: chmod 600 it",
+        ),
+        Err(error) => {
+            let why = format!(in rt.alloc(); "{error}")?;
+            told(rt.alloc(), path, member, file, why.as_str())
+        }
+    }
+}
+
+fn told<T>(alloc: Global, path: &str, member: &str, file: &str, why: &str) -> Result<T, Fault> {
+    Err(Fault::Told(format!(in alloc; "{path}: allocator.tokens.{member}: {file}: {why}")?))
+}
+
+/// The text of a file that nobody but its owner may read.
+fn text_at<R: Files<File = File> + AllocGlobal>(rt: &R, path: &str) -> io::Result<Option<String>> {
+    let file = File::open(rt, path)?;
+    if file.metadata()?.permissions().mode() & OTHERS != 0 {
+        return Ok(None);
+    }
+    let mut text = String::new(rt.alloc());
+    file.take(LONGEST_TOKENS).read_to_string(&mut text)?;
+    Ok(Some(text))
+}

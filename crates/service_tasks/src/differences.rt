@@ -1,0 +1,191 @@
+//! What another configuration changes, in words.
+use crate::service::JobText;
+use lists::{List, Plain, Text};
+use service_settings::Collector;
+use std::alloc::{AllocError, Global};
+
+/// How many names are told one by one of those that are alike.
+const MOST_NAMES: usize = 16;
+
+/// What is told where jobs and collectors are the same.
+const NOTHING: &str = "nothing of jobs and collectors";
+
+/// The names of what is alike in a list and the list before it.
+#[derive(Drop)]
+struct Differences {
+    removed: List<Text>,
+    added: List<Text>,
+    /// Of jobs, those of another text. Of collectors, those of other limits.
+    changed: List<Text>,
+    /// Of collectors, those of another reach.
+    moved: List<Text>,
+}
+
+/// What the jobs and the collectors of a configuration are beside those of the one before: a line without its line feed, as
+/// `jobs 8 -> 7, removed redis, added api, changed node; collectors +1 -1, removed d, added c, limits of a, reach of b`.
+pub(crate) fn line_of_differences(
+    alloc: Global,
+    jobs: (&[JobText], &[JobText]),
+    collectors: (&[Collector], &[Collector]),
+) -> Result<Text, AllocError> {
+    let of_jobs = job_differences(alloc, jobs.0, jobs.1)?;
+    let of_collectors = collector_differences(alloc, collectors.0, collectors.1)?;
+    if of_jobs.is_empty() && of_collectors.is_empty() {
+        return Text::from_str(alloc, NOTHING);
+    }
+    let (before, after) = (jobs.0.len(), jobs.1.len());
+    let (added, removed) = (of_collectors.added.len(), of_collectors.removed.len());
+    let mut line = format!(in alloc; "jobs {before} -> {after}")?;
+    push_names(&mut line, alloc, ", removed", of_jobs.removed.as_slice())?;
+    push_names(&mut line, alloc, ", added", of_jobs.added.as_slice())?;
+    push_names(&mut line, alloc, ", changed", of_jobs.changed.as_slice())?;
+    let collectors = format!(in alloc; "; collectors +{added} -{removed}")?;
+    line.push_str(collectors.as_str())?;
+    push_names(
+        &mut line,
+        alloc,
+        ", removed",
+        of_collectors.removed.as_slice(),
+    )?;
+    push_names(&mut line, alloc, ", added", of_collectors.added.as_slice())?;
+    push_names(
+        &mut line,
+        alloc,
+        ", limits of",
+        of_collectors.changed.as_slice(),
+    )?;
+    push_names(
+        &mut line,
+        alloc,
+        ", reach of",
+        of_collectors.moved.as_slice(),
+    )?;
+    Ok(Text::from_string(line))
+}
+
+impl Differences {
+    fn none(alloc: Global) -> Differences {
+        Differences {
+            removed: List::new(alloc),
+            added: List::new(alloc),
+            changed: List::new(alloc),
+            moved: List::new(alloc),
+        }
+    }
+
+    fn is_empty(&self) -> bool {
+        self.removed.is_empty()
+            && self.added.is_empty()
+            && self.changed.is_empty()
+            && self.moved.is_empty()
+    }
+}
+
+fn job_differences(
+    alloc: Global,
+    before: &[JobText],
+    after: &[JobText],
+) -> Result<Differences, AllocError> {
+    let mut found = Differences::none(alloc);
+    for job in before {
+        if job_named(after, job.name.as_str()).is_none() {
+            found.removed.push(job.name.copy()?)?;
+        }
+    }
+    for job in after {
+        match job_named(before, job.name.as_str()) {
+            Some(former) if former.text.same(&job.text) => {}
+            Some(_) => found.changed.push(job.name.copy()?)?,
+            None => found.added.push(job.name.copy()?)?,
+        }
+    }
+    Ok(found)
+}
+
+fn job_named<'a>(jobs: &'a [JobText], name: &str) -> Option<&'a JobText> {
+    for job in jobs {
+        if job.name.as_str() == name {
+            return Some(job);
+        }
+    }
+    None
+}
+
+fn collector_differences(
+    alloc: Global,
+    before: &[Collector],
+    after: &[Collector],
+) -> Result<Differences, AllocError> {
+    let mut found = Differences::none(alloc);
+    for collector in before {
+        if collector_named(after, collector.name.as_str()).is_none() {
+            let name = Text::from_str(alloc, collector.name.as_str())?;
+            found.removed.push(name)?;
+        }
+    }
+    for collector in after {
+        let former = collector_named(before, collector.name.as_str());
+        add_collector(alloc, &mut found, former, collector)?;
+    }
+    Ok(found)
+}
+
+fn add_collector(
+    alloc: Global,
+    found: &mut Differences,
+    former: Option<&Collector>,
+    collector: &Collector,
+) -> Result<(), AllocError> {
+    let Some(former) = former else {
+        return found
+            .added
+            .push(Text::from_str(alloc, collector.name.as_str())?);
+    };
+    if !former.limits.same(&collector.limits) {
+        found
+            .changed
+            .push(Text::from_str(alloc, collector.name.as_str())?)?;
+    }
+    if !former.reach.same(&collector.reach) {
+        found
+            .moved
+            .push(Text::from_str(alloc, collector.name.as_str())?)?;
+    }
+    Ok(())
+}
+
+/// The collector of a name.
+pub(crate) fn collector_named<'a>(
+    collectors: &'a [Collector],
+    name: &str,
+) -> Option<&'a Collector> {
+    for collector in collectors {
+        if collector.name.as_str() == name {
+            return Some(collector);
+        }
+    }
+    None
+}
+
+/// Writes the first names behind words, and how many more there are, where there are any.
+fn push_names(
+    line: &mut String,
+    alloc: Global,
+    words: &str,
+    names: &[Text],
+) -> Result<(), AllocError> {
+    if names.is_empty() {
+        return Ok(());
+    }
+    line.push_str(words)?;
+    for name in names.iter().take(MOST_NAMES) {
+        line.push_str(" ")?;
+        line.push_str(name.as_str())?;
+    }
+    if names.len() > MOST_NAMES {
+        let others = names.len().saturating_sub(MOST_NAMES);
+        let others = format!(in alloc; " and {others} more")?;
+        line.push_str(others.as_str())?;
+    }
+    Ok(())
+}
