@@ -91,14 +91,22 @@ where
     let mut core = core;
     for _turn in rt.forever() {
         let (later, ending) = serve_once(rt, alloc, service, office, core)?;
-        match ending {
-            Ending::Quit => return Ok(later),
-            Ending::Broken => return Err(io::Error::other("the journal cannot be written")),
-            Ending::Full | Ending::Reload => {}
+        if ending.is_last() {
+            return ended(ending, later);
         }
         core = continued(rt, alloc, service, office, archive, later)?;
     }
     unreachable!()
+}
+
+/// The allocator of a service that ended so, unless that is a failure.
+fn ended(ending: Ending, core: Core) -> io::Result<Core>
+    ensures { IfOk result (λ c. c ≡ core) }
+{
+    match ending {
+        Ending::Broken => Err(io::Error::other("the journal cannot be written")),
+        Ending::Full | Ending::Reload | Ending::Quit => Ok(core),
+    }
 }
 
 /// Serves over one desk.

@@ -23,9 +23,9 @@ use Rattle.sd_server.specs.declared.reply.Stage.TheVariants as stage
 use Rattle.sd_server.specs.declared.service.Begun.{Begun}
 use Rattle.sd_server.specs.declared.service.Begun.TheVariants as begun
 
--- the written form of what is said, whether it tells the end of the connection or not
-abbrev pub Writes : Said → Response (Full (List ℕ)) → Type 0
-Writes said response = (closes : Bool) × IsResponse (status_said said) (closing closes (headers_said said)) (body_said said) response
+-- the written form of what is said, where the connection ends with it or not
+abbrev pub Writes : Bool → Said → Response (Full (List ℕ)) → Type 0
+Writes closes said response = IsResponse (status_said said) (closing closes (headers_said said)) (body_said said) response
 
 -- what is said once a body was read, or could not be
 abbrev pub SaysRead : State → ConfigPages → Ask → Said → Type 0
@@ -79,7 +79,7 @@ module _ {R L B N I : Type 0} {l : Ledger.Ghosts L} {b : Ledger.Ghosts B} {n : D
 
   -- the written form of something that it may say
   abbrev pub Gives : Reply R L B N I l b n → Result (Response (Full (List ℕ))) AllocError → Type 0
-  Gives reply given = IfOk given (λ response. (said : Said) × MaySay reply.stage said × Writes said response)
+  Gives reply given = IfOk given (λ response. (said : Said) × MaySay reply.stage said × Writes reply.closes said response)
 
   -- whatever the reply to such a request says is what is said to it
   abbrev pub IsReplyTo : State → ConfigPages → Result Ask RequestError → Reply R L B N I l b n → Type 0

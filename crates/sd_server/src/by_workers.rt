@@ -85,6 +85,7 @@ where
                 if workers.is_stopped() {
                     return Ok(());
                 }
+                handler.state.count_failed_accept();
                 thread::sleep(rt, Duration::from_millis(PAUSE_MILLIS));
             }
             ended => return ended,
@@ -158,7 +159,10 @@ where
                 handler.state.end_connection();
                 workers.release();
             }
-            Err(_) => thread::sleep(rt, Duration::from_millis(PAUSE_MILLIS)),
+            Err(_) => {
+                handler.state.count_failed_accept();
+                thread::sleep(rt, Duration::from_millis(PAUSE_MILLIS));
+            }
         }
     }
     unreachable!()

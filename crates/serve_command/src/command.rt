@@ -10,6 +10,7 @@ use crate::standard_streams::hold_streams;
 use command_words::ServeOptions;
 use journal_files::{Fault, is_same_file};
 use log::error;
+use log_queue::{LogQueue, Queued, start_log};
 use logfmt::Logfmt;
 use service_tasks::Service;
 use std::alloc::{AllocError, AllocGlobal, Global};
@@ -20,12 +21,19 @@ use std::net::{Net, SocketAddr, TcpListener, TcpStream};
 use std::process::ExitCode;
 use std::random::RandomSource;
 use std::rt::Files;
-use std::sync::Wait;
+use std::sync::atomic::AtomicU64;
+use std::sync::{Arc, Wait};
 use std::thread::Threads;
-use std::time::Clock;
+use std::time::{Clock, Duration};
+
+/// The status where the machine failed.
+const MACHINE: u8 = 3;
+
+/// How long the end waits for the last lines to be read, in milliseconds.
+const LAST_LINES: u64 = 1_000;
 
 /// Does what the options ask for, and gives the exit status: 0 where the service was told to end, 2 where it is not
-/// told what to do, 3 where the machine failed it. The configuration is read again by a thread of its own handle, `host`.
+/// told what to do, 3 where the machine failed it. Threads of its own read the configuration again, and write what is logged, by `host`.
 pub fn serve<R>(rt: &R, host: HostRuntime, options: &ServeOptions<'_>) -> ExitCode
 where
     R: Wait
@@ -43,24 +51,65 @@ where
         + Drop,
 {
     let _streams = hold_streams(rt, rt.alloc());
-    match serve_by(rt, host, options) {
+    match start_log(&host) {
+        Ok(queue) => serve_logged(rt, host, options, &queue),
+        Err(refused) => {
+            tell(rt, &Fault::from(refused));
+            ExitCode::from(MACHINE)
+        }
+    }
+}
+
+/// Serves where standard error is a queue. The last fault is told past it, if somebody has read all before.
+fn serve_logged<R>(
+    rt: &R,
+    host: HostRuntime,
+    options: &ServeOptions<'_>,
+    queue: &LogQueue,
+) -> ExitCode
+where
+    R: Wait
+        + Threads
+        + Clock
+        + Net<Listener = TcpListener, Stream = TcpStream>
+        + Files<File = File>
+        + RandomSource
+        + AllocGlobal
+        + Print
+        + Eprint
+        + Sync
+        + Send
+        + Copy
+        + Drop,
+{
+    let ended = serve_by(&Queued::new(*rt, queue), host, options, queue.lost());
+    let is_read = queue.close(rt, Duration::from_millis(LAST_LINES));
+    match ended {
         Ok(()) => ExitCode::from(0),
-        Err(fault) => ended(rt, fault),
+        Err(fault) => {
+            if is_read {
+                tell(rt, &fault);
+            }
+            status_of(&fault)
+        }
     }
 }
 
 /// Tells a fault on standard error.
-fn ended<R: Eprint + Clock + Copy>(rt: &R, fault: Fault) -> ExitCode {
+fn tell<R: Eprint + Clock + Copy>(rt: &R, fault: &Fault) {
     match fault {
         Fault::Told(line) => {
             // Nobody can be told that a line was not written.
             let _ = rt.eprintln(line.as_str());
-            ExitCode::from(2)
         }
-        Fault::Machine(error) => {
-            log_failure(rt, &error);
-            ExitCode::from(3)
-        }
+        Fault::Machine(error) => log_failure(rt, error),
+    }
+}
+
+fn status_of(fault: &Fault) -> ExitCode {
+    match fault {
+        Fault::Told(_) => ExitCode::from(2),
+        Fault::Machine(_) => ExitCode::from(MACHINE),
     }
 }
 
@@ -75,7 +124,12 @@ fn written<R: Print>(rt: &R, text: &str) -> Result<(), Fault> {
     Ok(())
 }
 
-fn serve_by<R>(rt: &R, host: HostRuntime, options: &ServeOptions<'_>) -> Result<(), Fault>
+fn serve_by<R>(
+    rt: &R,
+    host: HostRuntime,
+    options: &ServeOptions<'_>,
+    lost_lines: &Arc<AtomicU64>,
+) -> Result<(), Fault>
 where
     R: Wait
         + Threads
@@ -92,8 +146,22 @@ where
         + Drop,
 {
     let document = read_document(rt, rt.alloc(), options.config)?;
-    match service_in(rt.alloc(), options.config, document.as_slice()) {
+    match service_of(rt.alloc(), options.config, document.as_slice(), lost_lines) {
         Ok(service) => serve_service(rt, host, options, document.as_slice(), service),
+        Err(fault) => Err(fault),
+    }
+}
+
+/// The service of a document, with where the log counts what it loses.
+fn service_of(
+    alloc: Global,
+    path: &str,
+    document: &[u8],
+    lost_lines: &Arc<AtomicU64>,
+) -> Result<Service, Fault> {
+    let lost_lines = Arc::try_clone(lost_lines)?;
+    match service_in(alloc, path, document) {
+        Ok(service) => Ok(service.with_log(lost_lines)),
         Err(fault) => Err(fault),
     }
 }

@@ -127,7 +127,13 @@ fn write_state(page: &mut Exposition, state: &ServiceState) -> Result<(), AllocE
         "allocd_http_connections_max",
         "Connections that are served at once at most.",
         u128::from(state.workers()),
-    )
+    )?;
+    let name = "allocd_http_accept_failures_total";
+    let count = u128::from(state.failed_accepts());
+    write_counter(page, name, "Connections that could not be taken.", count)?;
+    let name = "allocd_log_lines_lost_total";
+    let count = u128::from(state.lost_lines());
+    write_counter(page, name, "Log lines that nobody read in time.", count)
 }
 
 /// What the last published allocation came to, and how long reallocations took.

@@ -7,7 +7,7 @@ use fleet_events::Answer;
 use sd_routes::Ask;
 use std::alloc::{AllocError, Global};
 use std::sync::atomic::{AtomicBool, AtomicU64, Ordering};
-use std::sync::{Mutex, Wait};
+use std::sync::{Arc, Mutex, Wait};
 
 /// What a service says of itself beside its desk. The threads of the service write it, and requests read it.
 #[derive(Drop)]
@@ -34,6 +34,10 @@ pub struct ServiceState {
     workers: AtomicU64,
     /// How many are served.
     connections: AtomicU64,
+    /// How many could not be taken.
+    failed_accepts: AtomicU64,
+    /// How many lines the log lost, where it may lose some.
+    lost_lines: Option<Arc<AtomicU64>>,
     notes: Mutex<Notes>,
     changes: Mutex<Changes>,
 }
@@ -56,6 +60,8 @@ impl ServiceState {
             written: AtomicU64::new(0),
             workers: AtomicU64::new(0),
             connections: AtomicU64::new(0),
+            failed_accepts: AtomicU64::new(0),
+            lost_lines: None,
             notes: Mutex::new(Notes::new(alloc)),
             changes: Mutex::new(Changes::new(alloc)),
         }
@@ -190,6 +196,28 @@ impl ServiceState {
 
     pub(crate) fn connections(&self) -> u64 {
         self.connections.load(Ordering::SeqCst)
+    }
+
+    /// A connection could not be taken.
+    pub fn count_failed_accept(&self) {
+        self.failed_accepts.fetch_add(1, Ordering::SeqCst);
+    }
+
+    /// How many connections could not be taken.
+    pub fn failed_accepts(&self) -> u64 {
+        self.failed_accepts.load(Ordering::SeqCst)
+    }
+
+    /// The log counts here the lines that it loses.
+    pub fn set_log(&mut self, lost_lines: Arc<AtomicU64>) {
+        self.lost_lines = Some(lost_lines);
+    }
+
+    pub(crate) fn lost_lines(&self) -> u64 {
+        match &self.lost_lines {
+            Some(lost_lines) => lost_lines.load(Ordering::SeqCst),
+            None => 0,
+        }
     }
 
     /// A request that asks for this, or has no route, is answered with this status code.

@@ -15,6 +15,13 @@ pub enum Ending {
     Broken,
 }
 
+impl Ending {
+    /// Whether no other desk follows.
+    pub fn is_last(self) -> bool {
+        matches!(self, Ending::Quit | Ending::Broken)
+    }
+}
+
 /// Whether a desk is to be closed, and how its threads are told.
 #[derive(Drop)]
 pub(crate) struct Control {

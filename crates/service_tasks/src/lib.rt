@@ -12,6 +12,7 @@ mod control;
 mod crew;
 mod differences;
 mod entering;
+mod failed_accepts;
 mod journal_device;
 mod journal_file;
 mod keeping;

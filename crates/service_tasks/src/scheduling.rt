@@ -2,6 +2,7 @@
 use crate::attendance::Attendance;
 use crate::configuration::Configuration;
 use crate::control::Ending;
+use crate::failed_accepts::FailedAccepts;
 use crate::logging::{log_error, log_info, log_warning};
 use crate::roster::Roster;
 use crate::service::JobText;
@@ -51,6 +52,7 @@ pub struct Schedule<C> {
     pub(crate) is_hanging: bool,
     /// Since when the journal is known to be broken.
     pub(crate) broken: Option<Instant>,
+    pub(crate) failed_accepts: FailedAccepts,
     /// Who holds what, as the last allocation had it.
     pub(crate) held: Vec<(TargetId, CollectorId)>,
 }
@@ -73,6 +75,7 @@ impl<C> Schedule<C> {
             roster: Roster::new(alloc),
             is_hanging: false,
             broken: None,
+            failed_accepts: FailedAccepts::new(),
             held: Vec::new(alloc),
         }
     }
@@ -103,6 +106,7 @@ impl<R: Wait + Clock + Eprint + Copy, L: Ledger, B: Ledger, N: DeskName> Shared<
                 return;
             }
             self.log_changes();
+            self.log_failed_accepts(schedule);
             self.watch_device(schedule);
             if self.state.is_quitting() {
                 self.control.end(&self.rt, Ending::Quit);

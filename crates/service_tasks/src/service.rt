@@ -7,6 +7,7 @@ use service_settings::{Address, Doors, Settings};
 use service_state::ConfigPages;
 use std::alloc::{AllocError, Global};
 use std::sync::Arc;
+use std::sync::atomic::AtomicU64;
 use std::time::Duration;
 
 /// What a service is to do: the jobs of its configuration, whose rules can be read, and its settings.
@@ -22,6 +23,8 @@ pub struct Service {
     /// Who may ask for what.
     pub(crate) doors: Arc<Admission>,
     pub(crate) settings: Settings,
+    /// Where the log counts the lines that it loses, if it may lose some.
+    pub(crate) lost_lines: Option<Arc<AtomicU64>>,
     /// The discovery sources, job by job.
     pub(crate) sources: Vec<SourceSettings>,
 }
@@ -77,6 +80,7 @@ impl Service {
                     pages,
                     doors,
                     settings,
+                    lost_lines: None,
                     sources,
                 })
             }
@@ -88,6 +92,13 @@ impl Service {
     pub fn set_doors(&mut self, alloc: Global, doors: Admission) -> Result<(), AllocError> {
         self.doors = shared(alloc, doors)?;
         Ok(())
+    }
+
+    /// A service whose log counts here the lines that it loses.
+    pub fn with_log(self, lost_lines: Arc<AtomicU64>) -> Service {
+        let mut service = self;
+        service.lost_lines = Some(lost_lines);
+        service
     }
 
     /// Who may ask, as the settings say it.

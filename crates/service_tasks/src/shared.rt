@@ -64,10 +64,9 @@ impl<R: Wait + Copy, L: Ledger, B: Ledger, N: DeskName> Shared<R, L, B, N> {
 
     /// Whether the service is to end. Else another desk follows.
     pub fn is_quitting(&self) -> bool {
-        matches!(
-            self.control.ending(&self.rt),
-            Some(Ending::Quit | Ending::Broken)
-        )
+        self.control
+            .ending(&self.rt)
+            .is_some_and(|ending| ending.is_last())
     }
 
     /// The service is to end, unless the desk is closed for another reason.
