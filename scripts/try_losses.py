@@ -676,7 +676,7 @@ def unread(folder):
 # The machine.
 
 
-@row("started with closed standard streams, it writes no log into the journal", later=True)
+@row("started with closed standard streams, it writes no log into the journal")
 def closed_streams(folder):
     def close():
         for one in (0, 1, 2):
@@ -693,7 +693,7 @@ def closed_streams(folder):
         return (ended, status) == (0, 0), f"status {ended}, replay {out.decode()[-60:]}"
 
 
-@row("standard error that nobody reads holds up no end", later=True)
+@row("standard error that nobody reads holds up no end")
 def unread_stderr(folder):
     read, written = os.pipe()
     fcntl.fcntl(written, 1031, 4096)    # F_SETPIPE_SZ
@@ -710,6 +710,51 @@ def unread_stderr(folder):
     finally:
         os.close(read)
         os.close(written)
+
+
+@row("log lines that nobody reads are counted, and told once somebody reads again")
+def lost_lines(folder):
+    read, written = os.pipe()
+    fcntl.fcntl(written, 1031, 4096)    # F_SETPIPE_SZ
+    try:
+        with served(folder, stderr=written) as it:
+            it.published()
+            one = http.client.HTTPConnection("127.0.0.1", it.port, timeout=5)
+            for _ in range(8):
+                for _ in range(256):
+                    one.request("DELETE", "/collectors/9999")
+                    one.getresponse().read()
+                time.sleep(0.3)
+            one.close()
+            lost = it.figure("allocd_log_lines_lost_total")
+            told = threading.Event()
+
+            def read_all():
+                found = b""
+                while b"log lines are lost" not in found:
+                    found += os.read(read, 65536)
+                told.set()
+            threading.Thread(target=read_all, daemon=True).start()
+            is_told = told.wait(5)
+            it.ask("POST", "/-/quit")
+            ended = it.ended(3)
+            return lost > 0 and is_told and ended == 0, f"{lost} lost, told {is_told}, status {ended}"
+    finally:
+        os.close(written)
+        os.close(read)
+
+
+@row("connections that cannot be taken are counted and told")
+def failed_accepts(folder):
+    with served(folder) as it:
+        open_ones = len(os.listdir(f"/proc/{it.it.pid}/fd"))
+        most = resource.prlimit(it.it.pid, resource.RLIMIT_NOFILE)
+        resource.prlimit(it.it.pid, resource.RLIMIT_NOFILE, (open_ones, most[1]))
+        with socket.create_connection(("127.0.0.1", it.port), timeout=5):
+            told = comes(lambda: "connections could not be taken" in it.said(), 5)
+            resource.prlimit(it.it.pid, resource.RLIMIT_NOFILE, most)
+        counted = comes(lambda: it.figure("allocd_http_accept_failures_total") > 0, 5)
+        return told and counted, f"told {told}, counted {counted}: {it.said()[-200:]}"
 
 
 @row("too few descriptors: said at the start, or refused")
