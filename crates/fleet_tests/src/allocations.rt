@@ -31,7 +31,7 @@ fn jobs(alloc: Global, name: Result<Text, AllocError>) -> Result<Vec<JobSpec>, A
                 target_limit: 1,
                 sources: 2,
             };
-            vec![in alloc; job]
+            Ok(vec![in alloc; job]?)
         }
         Err(error) => Err(error),
     }
