@@ -1,5 +1,5 @@
 //! Events are copied and compared, and answers are told.
-use crate::allocations::event_in;
+use crate::allocations::{JOIN, event_in};
 use fleet_events::{Answer, Event, Outcome, Refusal, Report};
 use lists::{List, Plain};
 use price_certificate::Fault;
@@ -8,10 +8,24 @@ use std::test::Fail;
 
 /// Whether the event of a text is the same as its copy, and whether it is that of another text.
 fn compared(alloc: Global, text: &str, other: &str) -> Result<(bool, bool), AllocError> {
-    match (event_in(alloc, text), event_in(alloc, other)) {
-        (Ok(event), Ok(other)) => Ok((is_copied(&event)?, event.same(&other))),
-        _ => Err(AllocError),
+    match event_in(alloc, text) {
+        Ok(event) => compared_with(&event, event_in(alloc, other)),
+        Err(error) => Err(error),
     }
+}
+
+fn compared_with(
+    event: &Event,
+    other: Result<Event, AllocError>,
+) -> Result<(bool, bool), AllocError> {
+    match other {
+        Ok(other) => with_copy(event, event.same(&other)),
+        Err(error) => Err(error),
+    }
+}
+
+fn with_copy(event: &Event, is_other: bool) -> Result<(bool, bool), AllocError> {
+    Ok((is_copied(event)?, is_other))
 }
 
 fn is_copied<T: Plain + Drop>(value: &T) -> Result<bool, AllocError> {
@@ -21,7 +35,10 @@ fn is_copied<T: Plain + Drop>(value: &T) -> Result<bool, AllocError> {
     }
 }
 
-const JOIN: &str = r#"{"event":"join","name":"a","reach":[{"allow":true,"test":"any"}]}"#;
+fn is_like_itself_alone(alloc: Global, text: &str, other: &str) -> Result<bool, AllocError> {
+    let with_other = compared(alloc, text, other)?;
+    Ok(with_other == (true, false) && compared(alloc, text, text)? == (true, true))
+}
 
 #[test]
 fn copies_and_compares_events(rt: HostRuntime) -> Result<(), Fail> {
@@ -48,11 +65,7 @@ fn copies_and_compares_events(rt: HostRuntime) -> Result<(), Fail> {
         ),
         (JOIN, r#"{"event":"round"}"#),
     ] {
-        assert!(rt;
-            compared(rt.alloc(), text, other)? == (true, false),
-            "{text}"
-        );
-        assert!(rt; compared(rt.alloc(), text, text)? == (true, true), "{text}");
+        assert!(rt; is_like_itself_alone(rt.alloc(), text, other)?, "{text}");
     }
     Ok(())
 }
@@ -66,8 +79,7 @@ fn copies_a_report(rt: HostRuntime) -> Result<(), Fail> {
         round: 4,
         outcome: Outcome::Up(5),
     };
-    assert!(rt; is_copied(&report)?);
-    assert!(rt; is_the_same(rt.alloc(), Event::Report(report))?);
+    assert!(rt; is_copied(&report)? && is_the_same(rt.alloc(), Event::Report(report))?);
     Ok(())
 }
 
@@ -84,9 +96,18 @@ fn is_the_same(alloc: Global, event: Event) -> Result<bool, AllocError> {
 /// Whether an answer and its copy are told by this line.
 fn says(alloc: Global, answer: Answer, line: &str) -> Result<bool, AllocError> {
     match answer.copy() {
-        Ok(copy) => Ok(has_line(alloc, &copy, line)? && has_line(alloc, &answer, line)?),
+        Ok(copy) => have_line(alloc, &copy, &answer, line),
         Err(error) => Err(error),
     }
+}
+
+fn have_line(
+    alloc: Global,
+    copy: &Answer,
+    answer: &Answer,
+    line: &str,
+) -> Result<bool, AllocError> {
+    Ok(has_line(alloc, copy, line)? && has_line(alloc, answer, line)?)
 }
 
 fn has_line(alloc: Global, answer: &Answer, line: &str) -> Result<bool, AllocError> {
@@ -105,19 +126,16 @@ fn says_taken(
     line: &str,
 ) -> Result<bool, AllocError> {
     match Vec::from_slice(alloc, held) {
-        Ok(held) => {
-            let held = List::from_vec(held);
-            says(
-                alloc,
-                Answer::Taken {
-                    allocation,
-                    round,
-                    held,
-                },
-                line,
-            )
-        }
+        Ok(held) => says(alloc, taken(allocation, round, List::from_vec(held)), line),
         Err(error) => Err(error),
+    }
+}
+
+fn taken(allocation: u32, round: u32, held: List<u32>) -> Answer {
+    Answer::Taken {
+        allocation,
+        round,
+        held,
     }
 }
 
@@ -131,18 +149,28 @@ fn says_discovered(alloc: Global) -> Result<bool, AllocError> {
 
 #[test]
 fn says_answers(rt: HostRuntime) -> Result<(), Fail> {
-    let alloc = rt.alloc();
-    assert!(rt; says_discovered(alloc)?);
-    assert!(rt; says(alloc, Answer::Joined(1), "Joined 1")?);
-    assert!(rt; says(alloc, Answer::Left, "Left")?);
-    assert!(rt; says(alloc, Answer::Draining, "Draining")?);
-    assert!(rt; says(alloc, Answer::LimitsSet, "LimitsSet")?);
-    assert!(rt; says(alloc, Answer::Published(4294967295), "Published 4294967295")?);
-    assert!(rt; says(alloc, Answer::RoundOpen(2), "RoundOpen 2")?);
-    assert!(rt; says_taken(alloc, 1, 2, &[0, 3, 5], "Taken 1 2 0,3,5")?);
-    assert!(rt; says_taken(alloc, 0, 1, &[], "Taken 0 1 -")?);
-    assert!(rt; says(alloc, Answer::Booked, "Booked")?);
+    assert!(rt; says_of_collectors(rt.alloc())? && says_of_allocations(rt.alloc())?);
     Ok(())
+}
+
+fn says_of_collectors(alloc: Global) -> Result<bool, AllocError> {
+    Ok(
+        says(alloc, Answer::Joined(1), "Joined 1")?
+            && says(alloc, Answer::Left, "Left")?
+            && says(alloc, Answer::Draining, "Draining")?
+            && says(alloc, Answer::LimitsSet, "LimitsSet")?
+            && says(alloc, Answer::Booked, "Booked")?,
+    )
+}
+
+fn says_of_allocations(alloc: Global) -> Result<bool, AllocError> {
+    Ok(
+        says_discovered(alloc)?
+            && says(alloc, Answer::Published(4294967295), "Published 4294967295")?
+            && says(alloc, Answer::RoundOpen(2), "RoundOpen 2")?
+            && says_taken(alloc, 1, 2, &[0, 3, 5], "Taken 1 2 0,3,5")?
+            && says_taken(alloc, 0, 1, &[], "Taken 0 1 -")?,
+    )
 }
 
 #[test]

@@ -1,22 +1,12 @@
-//! Tests of the fleet's crates up to the allocator. They stand apart from them, since a crate with tests is proved once more with
-//! them. What events are read from and written to is told by rows (`history_rows`).
+//! Tests of the fleet's crates up to the allocator: what is copied, what answers are told as, laws, the greatest fleet, and want of memory. They stand apart
+//! from those crates, since a crate with tests is proved once more with them. What comes of events is told by rows (`history_rows`).
 #![tactic(auto)]
 
 #[cfg(test)]
 mod allocations;
 #[cfg(test)]
-mod assignments;
-#[cfg(test)]
 mod events;
 #[cfg(test)]
-mod fleets;
+mod limits;
 #[cfg(test)]
 mod memory;
-#[cfg(test)]
-mod own_limits;
-#[cfg(test)]
-mod reached;
-#[cfg(test)]
-mod renewals;
-#[cfg(test)]
-mod steps;
