@@ -9,52 +9,16 @@ set -u
 here=$(cd "$(dirname "$0")" && pwd)
 program=$(realpath "${1:-$here/../dist/allocd}") || exit 2
 given=${2:-}
-suite=bookworm
-mirror=${ALLOCD_MIRROR:-http://deb.debian.org/debian}
-passed=0
-failed=0
-
-need() {
-    command -v "$1" > /dev/null || { echo "try_package: $1 is not here: apt-get install $2" >&2; exit 2; }
-}
-need dpkg-deb dpkg
-need debootstrap debootstrap
-need systemd-analyze systemd
-need unshare util-linux
+. "$here/told.sh" || exit 2
+need try_package dpkg-deb dpkg
+need try_package debootstrap debootstrap
+need try_package systemd-analyze systemd
+need try_package unshare util-linux
 [ "$(id -u)" = 0 ] || { echo "try_package: only root can install a package" >&2; exit 2; }
 
 top=$(mktemp -d)
 trap 'rm -rf "$top"' EXIT
 root=$top/root
-
-tell() {
-    if [ "$2" = 0 ]; then
-        echo "ok: $1"
-        passed=$((passed + 1))
-    else
-        echo "NOT: $1: ${3:-status $2}"
-        failed=$((failed + 1))
-    fi
-}
-
-# holds NAME WORD..: tells whether a command does, with what it said where it does not.
-holds() {
-    local name=$1 said
-    shift
-    said=$("$@" 2>&1)
-    tell "$name" $? "$(echo "$said" | tail -n 5 | tr '\n' ' ')"
-}
-
-# says NAME TEXT WORD..: the same of a command that is to say this text.
-says() {
-    local name=$1 text=$2 said
-    shift 2
-    said=$("$@" 2>&1)
-    case $said in
-    *"$text"*) tell "$name" 0 ;;
-    *) tell "$name" 1 "$(echo "$said" | tail -n 5 | tr '\n' ' ')" ;;
-    esac
-}
 
 # Each folder, file and link of the clean Debian but those that dpkg keeps its own books in.
 files() {
@@ -67,10 +31,8 @@ name=${package##*/}
 again=$(mkdir "$top/again" && "$here/package.sh" "$program" "$top/again" 2> /dev/null)
 holds "the package is made again byte by byte" cmp "$package" "$again"
 
-if [ -n "$given" ]; then
-    cp -a "$given" "$root"
-elif ! debootstrap --variant=minbase "$suite" "$root" "$mirror" > "$top/debootstrap" 2>&1; then
-    echo "no Debian from $mirror: $(tail -n 1 "$top/debootstrap")"
+if ! clean_debian "$root" "$given" "" "$top/debootstrap"; then
+    echo "no Debian can be made: $(tail -n 1 "$top/debootstrap")"
     rm -rf "$root"
 fi
 if [ -x "$root/usr/bin/dpkg" ]; then
@@ -158,5 +120,4 @@ fi
 files > "$top/after"
 holds "nothing else is left of it" diff "$top/before" "$top/after"
 
-echo "$passed passed, $failed failed"
-[ "$failed" = 0 ]
+told
