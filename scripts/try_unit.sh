@@ -130,8 +130,22 @@ soon is_active
 in_it sh -c 'kill -STOP $(pidof allocd)'
 holds "systemctl stop where it hangs" in_it systemctl stop allocd
 says "ends it, and the unit has not failed" inactive show ActiveState
+
+# With tokens: systemd takes a user of the unit's name where there is one, and that user may own files. The program is to know tokens.
+in_it useradd --system --no-create-home --shell /usr/sbin/nologin allocd
+echo 0123456789abcdef > "$root/tokens"
+in_it install -o allocd -m 600 /tokens /etc/allocd/admin.tokens
+in_it install -o allocd -m 600 /tokens /etc/allocd/collectors.tokens
+sed -i 's|"lifecycle"|"tokens": {"admin": "/etc/allocd/admin.tokens", "collectors": "/etc/allocd/collectors.tokens"},\n    "lifecycle"|; s|127.0.0.1:8080",|0.0.0.0:8080",|' "$config"
+holds "with tokens of a user allocd it starts" in_it systemctl start allocd
+holds "and runs, for other machines too" soon is_active
+says "as that user" "$(in_it id -u allocd)" in_it sh -c 'stat -c %u /proc/$(pidof allocd)'
+holds "and goes on in its journal" test "$(log | grep -c 'msg="the journal is read"')" -gt 4
+in_it systemctl reload allocd
+holds "its supervisor has no token: a reload is refused" soon has_logged 'HUP: POST /-/reload: 401, the configuration that was followed still is'
+cp "$top/config" "$config"
+in_it systemctl restart allocd
 holds "it is enabled" in_it systemctl enable -q allocd
-in_it systemctl start allocd
 soon is_active
 holds "it is removed" in_it dpkg -r allocd
 says "and stopped" inactive show ActiveState
