@@ -1,12 +1,12 @@
 #!/usr/bin/env python3
-"""Runs every command of README and docs/operate that stands behind `$`, and compares what is shown below it: try_documents.py [DOCUMENT ..]
+"""Runs every command of README, docs/operate, CONFIG and RENEWAL that stands behind `$`, and compares what is shown below it: try_documents.py [DOCUMENT ..]
 
 The commands of a document run in order, in one shell and a folder of its own with a copy of README, docs, examples and scripts. `./allocd` and
 `allocd` are the program there (ALLOCD_PROGRAM, or dist/allocd). In what is shown `..` stands for any text. Commands behind `#` are for root on a
 machine of its own: they are counted, and scripts/try_package.sh, try_unit.sh and try_proxy.py try what they do.
 
-Ports are those of the documents, in a network of the script's own where `unshare` makes one; else they are to be free. It needs curl 7.82, jq and
-prometheus (for promtool), and leaves nothing behind."""
+Ports are those of the documents, in a network of the script's own where `unshare` makes one; else they are to be free. It needs curl 7.82, jq, PyYAML
+and prometheus (for promtool), and leaves nothing behind."""
 
 import fcntl
 import glob
@@ -28,19 +28,13 @@ INSIDE = "ALLOCD_IN_A_NETWORK"
 LONGEST = 120
 passed = failed = 0
 
-STARTED = ["python3 examples/targets.py & sleep 1", "./allocd serve --config examples/serve.json --journal allocator.journal & sleep 3"]
+# Four collectors join, and the line of the third is changed.
 DAMAGED = [
     "cp examples/default.json allocd.json",
     "(sleep 4; curl -s -X POST localhost:8080/-/quit) & ./allocd serve --config allocd.json --journal allocator.journal & sleep 1",
     """for name in a b c d; do curl -s --json "{\\"name\\":\\"$name\\",\\"reach\\":[]}" localhost:8080/collectors; done; sleep 5""",
     "sed -i '5s/join/Join/' allocator.journal",
 ]
-# What a section stands on that is not shown in it: README's example is running, or a journal is damaged.
-BEFORE = {
-    ("docs/operate/MONITOR.md", "Ask it"): STARTED,
-    ("docs/operate/RUNBOOK.md", "What it says, and what to do"): STARTED,
-    ("docs/operate/RUNBOOK.md", "A damaged journal"): ["curl -s -X POST localhost:8080/-/quit; sleep 1; rm -f allocator.journal*", *DAMAGED],
-}
 
 
 def tell(what, holds, more=""):
@@ -69,6 +63,21 @@ def commands(document):
         else:
             shown = None
     return found, roots
+
+
+def readme(count):
+    """The first commands of README: its example is started by two, asked and reported to by two more."""
+    return [command for _, command, _ in commands("README.md")[0][:count]]
+
+
+def prepared():
+    """What a section stands on that is not shown in it: README's example is running, or a journal is damaged."""
+    return {
+        ("docs/operate/MONITOR.md", "Ask it"): readme(2),
+        ("docs/operate/RUNBOOK.md", "What it says, and what to do"): readme(2),
+        ("docs/operate/RUNBOOK.md", "A damaged journal"): ["curl -s -X POST localhost:8080/-/quit; sleep 1; rm -f allocator.journal*", *DAMAGED],
+        ("docs/RENEWAL.md", "An audit"): readme(4),
+    }
 
 
 def is_shown(lines, text):
@@ -149,7 +158,7 @@ def tried(document):
             for section, command, shown in found:
                 if section not in begun:
                     begun.add(section)
-                    for hidden in BEFORE.get((document, section), []):
+                    for hidden in prepared().get((document, section), []):
                         shell.run(hidden)
                 said = shell.run(command)
                 if said is None:
@@ -195,13 +204,16 @@ def main():
         if not shutil.which(name):
             print(f"try_documents: {name} is not here: apt-get install {package}", file=sys.stderr)
             return 2
+    if subprocess.run(["python3", "-c", "import yaml"], stderr=subprocess.DEVNULL).returncode:
+        print("try_documents: PyYAML is not here: apt-get install python3-yaml", file=sys.stderr)
+        return 2
     own_network()
     if not ports_are_free():
         print("try_documents: the ports 8080 and 9100 to 9106 are not free, and no network of its own can be made", file=sys.stderr)
         return 2
     before = standing()
     pages = sorted(os.path.relpath(path, ROOT) for path in glob.glob(f"{ROOT}/docs/operate/*.md"))
-    for document in sys.argv[1:] or ["README.md", *pages]:
+    for document in sys.argv[1:] or ["README.md", *pages, "docs/CONFIG.md", "docs/RENEWAL.md"]:
         tried(document)
     tell("nothing is left behind in the repository", standing() == before)
     print(f"{passed} passed, {failed} failed")
