@@ -28,6 +28,7 @@ if not shutil.which("openssl"):
 
 NAME = "allocd.example"
 PASSWORD = "correct horse"
+TOKEN = "0123456789abcdef"
 LIST = "/jobs/node/targets?collector_id=a"
 passed = failed = 0
 
@@ -84,11 +85,11 @@ class Answer:
         it.close()
 
 
-def config(port):
+def config(port, **settings):
     return {
         "scrape_configs": [{"job_name": "node", "static_configs": [{"targets": ["127.0.0.1:9"]}]}],
         "allocator": {"listen": f"127.0.0.1:{port}", "hosts": [NAME], "settle": "100ms", "lifecycle": True,
-                      "collectors": [{"name": "a", "reach": [{"allow": True, "test": "any"}]}]},
+                      "collectors": [{"name": "a", "reach": [{"allow": True, "test": "any"}]}], **settings},
     }
 
 
@@ -122,6 +123,7 @@ def tried(folder, it, port):
     tell("another name: 403 Host", (other.status, other.text) == (403, '{"refused":"Host"}'), other.text)
     plain = ask(port, "GET", LIST)
     tell("without TLS: 400", plain[0] == 400, plain)
+    tell("a health check without a password, by the line for it", got("GET", "/livez").status == 200)
     if shutil.which("prometheus"):
         by_prometheus(folder, port)
     else:
@@ -155,20 +157,50 @@ def by_prometheus(folder, port):
         peer.wait()
 
 
-def main():
-    tell("the page shows examples/nginx.conf, ten lines", documented() == text_of("examples/nginx.conf") and documented().count("\n") == 10)
+def server():
+    """nginx's server, with the line for health checks that the page has besides."""
+    line = re.search(r"^    (location = /livez .*)$", text_of("docs/operate/PROXY.md"), re.M).group(1)
+    return text_of("examples/nginx.conf").replace("    location / ", f"    {line}\n    location / ")
+
+
+def with_tokens(folder, it, port):
+    """Without the lines of the password, tokens pass."""
+    def status(token):
+        return Answer(folder, port, "GET", LIST, headers={"Authorization": f"Bearer {token}"} if token else {}).status
+
+    def begun():
+        try:
+            return status("") == 401
+        except OSError:
+            return False
+    tell("with tokens and without passwords: no token is 401 of allocd", comes(begun, 20))
+    comes(lambda: it.ask("GET", "/-/ready")[0] == 200, 20)
+    tell("and the token is passed on", (status("wrong"), status(TOKEN)) == (401, 200), (status("wrong"), status(TOKEN)))
+
+
+def behind(try_it, lines, tokens=False):
+    """Tries a service, with tokens or without, behind nginx with these lines."""
     with tempfile.TemporaryDirectory() as folder:
-        it = Service(folder, config)
+        with open(f"{folder}/tokens", "w", opener=lambda path, flags: os.open(path, flags, 0o600)) as it:
+            it.write(TOKEN)
+        named = {"tokens": {"admin": f"{folder}/tokens", "collectors": f"{folder}/tokens"}} if tokens else {}
+        it = Service(folder, lambda port: config(port, **named))
         port = free_port()
-        configure(folder, port, it.port, text_of("examples/nginx.conf"))
+        configure(folder, port, it.port, lines)
         proxy = subprocess.Popen([NGINX, "-e", f"{folder}/nginx.log", "-c", f"{folder}/nginx.conf", "-p", folder])
         try:
-            tried(folder, it, port)
+            try_it(folder, it, port)
         finally:
             proxy.terminate()
             proxy.wait()
             it.it.kill()
             it.it.wait()
+
+
+def main():
+    tell("the page shows examples/nginx.conf, ten lines", documented() == text_of("examples/nginx.conf") and documented().count("\n") == 10)
+    behind(tried, server())
+    behind(with_tokens, re.sub(r"    auth_basic.*\n", "", text_of("examples/nginx.conf")), tokens=True)
     print(f"{passed} passed, {failed} failed")
     return 1 if failed else 0
 
