@@ -22,11 +22,12 @@ import tempfile
 import time
 
 from allocd_service import PROGRAM, ROOT
+from told_rows import Teller
 
 NEEDED = {"bash": "bash", "curl": "curl", "jq": "jq", "promtool": "prometheus", "dpkg-deb": "dpkg", "sha256sum": "coreutils"}
 INSIDE = "ALLOCD_IN_A_NETWORK"
 LONGEST = 120
-passed = failed = 0
+tell = Teller()
 
 # Four collectors join, and the line of the third is changed.
 DAMAGED = [
@@ -35,13 +36,6 @@ DAMAGED = [
     """for name in a b c d; do curl -s --json "{\\"name\\":\\"$name\\",\\"reach\\":[]}" localhost:8080/collectors; done; sleep 5""",
     "sed -i '5s/join/Join/' allocator.journal",
 ]
-
-
-def tell(what, holds, more=""):
-    global passed, failed
-    passed += bool(holds)
-    failed += not holds
-    print(f"{'ok' if holds else 'NOT'}: {what}{'' if holds else f': {more}'}", flush=True)
 
 
 def commands(document):
@@ -216,8 +210,7 @@ def main():
     for document in sys.argv[1:] or ["README.md", *pages, "docs/CONFIG.md", "docs/RENEWAL.md"]:
         tried(document)
     tell("nothing is left behind in the repository", standing() == before)
-    print(f"{passed} passed, {failed} failed")
-    return 1 if failed else 0
+    return tell.end()
 
 
 if __name__ == "__main__":

@@ -16,6 +16,7 @@ import threading
 import urllib.parse
 
 from allocd_service import ROOT, Service, ask, comes, free_port
+from told_rows import Teller
 
 for name in ("prometheus", "promtool"):
     if not shutil.which(name):
@@ -29,14 +30,7 @@ except ImportError:
 
 ANY = [{"allow": True, "test": "any"}]
 METRIC = re.compile(r"\b(?:allocd|process)_[a-z_]+")
-passed = failed = 0
-
-
-def tell(what, holds, more=""):
-    global passed, failed
-    passed += bool(holds)
-    failed += not holds
-    print(f"{'ok' if holds else 'NOT'}: {what}{'' if holds else f': {more}'}", flush=True)
+tell = Teller()
 
 
 def text_of(name):
@@ -165,8 +159,7 @@ def main():
     tell("the dashboard: panels apart, each variable made", is_dashboard())
     with tempfile.TemporaryDirectory() as folder:
         live(folder)
-    print(f"{passed} passed, {failed} failed")
-    return 1 if failed else 0
+    return tell.end()
 
 
 if __name__ == "__main__":

@@ -17,6 +17,7 @@ import sys
 import tempfile
 
 from allocd_service import ROOT, Service, ask, comes, free_port
+from told_rows import Teller
 
 NGINX = shutil.which("nginx") or shutil.which("nginx", path="/usr/sbin")
 if not NGINX:
@@ -30,14 +31,7 @@ NAME = "allocd.example"
 PASSWORD = "correct horse"
 TOKEN = "0123456789abcdef"
 LIST = "/jobs/node/targets?collector_id=a"
-passed = failed = 0
-
-
-def tell(what, holds, more=""):
-    global passed, failed
-    passed += bool(holds)
-    failed += not holds
-    print(f"{'ok' if holds else 'NOT'}: {what}{'' if holds else f': {more}'}", flush=True)
+tell = Teller()
 
 
 def text_of(name):
@@ -201,8 +195,7 @@ def main():
     tell("the page shows examples/nginx.conf, ten lines", documented() == text_of("examples/nginx.conf") and documented().count("\n") == 10)
     behind(tried, server())
     behind(with_tokens, re.sub(r"    auth_basic.*\n", "", text_of("examples/nginx.conf")), tokens=True)
-    print(f"{passed} passed, {failed} failed")
-    return 1 if failed else 0
+    return tell.end()
 
 
 if __name__ == "__main__":
