@@ -81,7 +81,15 @@ soon() {
     done
     return 1
 }
-is_active() { [ "$(show ActiveState)" = active ] && in_it pidof allocd > /dev/null; }
+# Whether the unit is active, and the service ready.
+is_active() { [ "$(show ActiveState)" = active ] && is_ready 2> /dev/null; }
+is_ready() {
+    nsenter -t "$first" -n bash -c '
+        exec 3<> /dev/tcp/127.0.0.1/8080 || exit
+        printf "GET /-/ready HTTP/1.1\r\nhost: localhost\r\nconnection: close\r\n\r\n" >&3
+        read -r -t 4 _ status _ <&3
+        [ "$status" = 200 ]'
+}
 is_failed() { [ "$(show ActiveState)" = failed ]; }
 has_logged() { log | grep -q "$1"; }
 # logs NAME TEXT: tells whether the log has a text soon, with the end of the log where it has not.
@@ -114,7 +122,7 @@ logs "reads the configuration again" 'HUP: POST /-/reload: The configuration is 
 sed -i 's/"lifecycle"/"lifecycl"/' "$config"
 holds "systemctl reload with a faulty one" in_it systemctl reload allocd
 logs "says why, in the log" 'HUP: POST /-/reload: 500, the configuration that was followed still is: .*allocator.lifecycl'
-holds "and the service goes on" is_active
+holds "and the service goes on" soon is_active
 cp "$top/config" "$config"
 in_it sh -c 'kill -KILL $(pidof allocd)'
 sleep 1
@@ -124,7 +132,7 @@ sleep 1
 holds "the supervisor is killed: it starts again" soon is_active
 in_it sh -c 'kill -HUP $(pidof allocd)'
 sleep 1
-holds "a HUP to the program ends nothing" is_active
+holds "a HUP to the program ends nothing" soon is_active
 says "so it was started twice again" 2 show NRestarts
 holds "its journal is read each time" soon has_read 2
 holds "it installs over itself" in_it dpkg -i /allocd.deb
