@@ -163,6 +163,9 @@ COUNTED = {
     'allocd_collector_targets{collector="a"}': 4,
     'allocd_collector_targets{collector="b"}': 0,
     'allocd_collector_draining{collector="a"}': 0,
+    'allocd_collector_taken_allocation{collector="a"}': 1,
+    'allocd_collector_taken_allocation{collector="b"}': 0,
+    "allocd_journal_broken": 0,
 }
 READ_ONLY = ("/", "/jobs", "/scrape_configs", "/jobs/n/targets", "/jobs/n/uncovered", "/certificate", "/-/healthy", "/-/ready", "/metrics", "/nothing")
 

@@ -4,6 +4,5 @@ mod Ahead
 mod Tallying
 mod Opened
 mod Telling
-mod InFiles
 mod InRow
 mod Results

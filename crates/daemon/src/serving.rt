@@ -91,25 +91,15 @@ where
     let mut core = core;
     for _turn in rt.forever() {
         let (later, ending) = serve_once(rt, alloc, service, office, core)?;
-        if ending.is_last() {
-            return ended(ending, later);
+        if ending == Ending::Quit {
+            return Ok(later);
         }
         core = continued(rt, alloc, service, office, archive, later)?;
     }
     unreachable!()
 }
 
-/// The allocator of a service that ended so, unless that is a failure.
-fn ended(ending: Ending, core: Core) -> io::Result<Core>
-    ensures { IfOk result (λ c. c ≡ core) }
-{
-    match ending {
-        Ending::Broken => Err(io::Error::other("the journal cannot be written")),
-        Ending::Full | Ending::Reload | Ending::Quit => Ok(core),
-    }
-}
-
-/// Serves over one desk.
+/// Serves over one desk. It fails where its journal is broken.
 fn serve_once<R, S, F, C>(
     rt: &R,
     alloc: Global,
@@ -135,7 +125,7 @@ where
     ensures { IfOk result (λ r. IsLater core r.0) }
 {
     let seats = u64::from(SEATS);
-    serve_desk::<R, Brand, Brand, Brand, S, F, C>(
+    let ended = serve_desk::<R, Brand, Brand, Brand, S, F, C>(
         rt,
         alloc,
         service,
@@ -143,5 +133,9 @@ where
         core,
         Blank::new(seats),
         Blank::new(seats),
-    )
+    );
+    match ended {
+        Ok((_, Ending::Broken)) => Err(io::Error::other("the journal cannot be written")),
+        other => other,
+    }
 }

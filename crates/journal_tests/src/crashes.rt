@@ -93,7 +93,9 @@ fn finds(alloc: Global, file: &[u8], wanted: &str, behind: usize) -> bool {
                 torn,
             },
         ) => {
-            lines.as_slice() == wanted.as_bytes() && torn == behind && whole + torn == file.len()
+            lines.as_slice() == wanted.as_bytes()
+                && torn == behind
+                && whole.checked_add(torn) == Some(file.len())
         }
         _ => false,
     }

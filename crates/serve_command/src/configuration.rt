@@ -5,13 +5,16 @@ use crate::not_followed::warn_of;
 use journal_files::Fault;
 use lists::Text;
 use service_tasks::{Configuration, Service};
-use std::alloc::{AllocError, Global};
+use std::alloc::{AllocError, AllocGlobal, Global};
+use std::fs::File;
 use std::net::SocketAddr;
+use std::rt::Files;
+use std::time::Clock;
 
 /// The configuration file at a path.
 #[derive(Drop)]
-pub(crate) struct ConfigurationFile {
-    host: HostRuntime,
+pub(crate) struct ConfigurationFile<R> {
+    rt: R,
     alloc: Global,
     path: String,
     /// Where the service listens.
@@ -20,15 +23,15 @@ pub(crate) struct ConfigurationFile {
     document: Vec<u8>,
 }
 
-impl ConfigurationFile {
+impl<R: Files<File = File> + AllocGlobal + Clock + Eprint + Copy> ConfigurationFile<R> {
     pub(crate) fn new(
-        host: HostRuntime,
+        rt: R,
         alloc: Global,
         path: &str,
         here: SocketAddr,
-    ) -> Result<ConfigurationFile, AllocError> {
+    ) -> Result<ConfigurationFile<R>, AllocError> {
         Ok(ConfigurationFile {
-            host,
+            rt,
             alloc,
             path: String::from_str(alloc, path)?,
             here,
@@ -39,10 +42,10 @@ impl ConfigurationFile {
     /// The document of the file, which asks for a service.
     fn valid_document(&self) -> Result<Vec<u8>, Fault> {
         let path = self.path.as_str();
-        let document = read_document(&self.host, self.alloc, path)?;
+        let document = read_document(&self.rt, self.alloc, path)?;
         let service = service_in(self.alloc, path, document.as_slice())?;
-        let _ = admission_at(&self.host, path, service.doors(), self.here)?;
-        warn_of(&self.host, self.alloc, document.as_slice())?;
+        let _ = admission_at(&self.rt, path, service.doors(), self.here)?;
+        warn_of(&self.rt, self.alloc, document.as_slice())?;
         Ok(document)
     }
 
@@ -59,7 +62,8 @@ impl ConfigurationFile {
     }
 }
 
-impl Configuration for ConfigurationFile {
+impl<R: Files<File = File> + AllocGlobal + Clock + Eprint + Copy> Configuration
+    for ConfigurationFile<R> {
     fn read(&mut self) -> Result<(), Text> {
         match self.valid_document() {
             Ok(document) => {
@@ -73,7 +77,7 @@ impl Configuration for ConfigurationFile {
     fn service(&self) -> Option<Service> {
         let path = self.path.as_str();
         let mut service = service_of_parts(self.alloc, path, self.document.as_slice()).ok()?;
-        let doors = admission_at(&self.host, path, service.doors(), self.here).ok()?;
+        let doors = admission_at(&self.rt, path, service.doors(), self.here).ok()?;
         service.set_doors(self.alloc, doors).ok()?;
         Some(service)
     }

@@ -73,6 +73,16 @@ fn write_collectors(
         let name = collector.name.as_str();
         page.labelled_sample(draining, "collector", name, u128::from(collector.draining))?;
     }
+    let taken = "allocd_collector_taken_allocation";
+    page.family(
+        taken,
+        Kind::Gauge,
+        "Number of the allocation that the collector took last.",
+    )?;
+    for collector in collectors {
+        let name = collector.name.as_str();
+        page.labelled_sample(taken, "collector", name, u128::from(collector.taken))?;
+    }
     Ok(())
 }
 
@@ -103,6 +113,12 @@ fn write_allocation(page: &mut Exposition, figures: &Figures) -> Result<(), Allo
 }
 
 fn write_state(page: &mut Exposition, state: &ServiceState) -> Result<(), AllocError> {
+    write_gauge(
+        page,
+        "process_start_time_seconds",
+        "When the process began, in seconds since 1970.",
+        u128::from(state.started()),
+    )?;
     let name = "allocd_reallocations_total";
     let count = u128::from(state.reallocations());
     write_counter(page, name, "Searches for an allocation.", count)?;
@@ -112,6 +128,12 @@ fn write_state(page: &mut Exposition, state: &ServiceState) -> Result<(), AllocE
         "allocd_config_last_reload_successful",
         "Whether the configuration that was read last is followed.",
         followed,
+    )?;
+    write_gauge(
+        page,
+        "allocd_journal_broken",
+        "Whether what is submitted cannot be kept any more.",
+        u128::from(state.is_broken()),
     )?;
     let name = "allocd_journal_written_bytes_total";
     let count = u128::from(state.written());

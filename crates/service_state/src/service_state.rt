@@ -14,6 +14,8 @@ use std::sync::{Arc, Mutex, Wait};
 pub struct ServiceState {
     /// Whether a request may end the service.
     has_lifecycle: bool,
+    /// When it began, in seconds since 1970. 0 where nobody knows.
+    started: u64,
     is_quitting: AtomicBool,
     reloading: Reloading,
     /// Whether the configuration that was read last is the one that is followed.
@@ -47,6 +49,7 @@ impl ServiceState {
     pub fn new(alloc: Global, has_lifecycle: bool, sources: u64) -> ServiceState {
         ServiceState {
             has_lifecycle,
+            started: 0,
             is_quitting: AtomicBool::new(false),
             reloading: Reloading::new(),
             is_reloaded: AtomicBool::new(true),
@@ -206,6 +209,15 @@ impl ServiceState {
     /// How many connections could not be taken.
     pub fn failed_accepts(&self) -> u64 {
         self.failed_accepts.load(Ordering::SeqCst)
+    }
+
+    /// It began so many seconds after 1970.
+    pub fn set_started(&mut self, seconds: u64) {
+        self.started = seconds;
+    }
+
+    pub(crate) fn started(&self) -> u64 {
+        self.started
     }
 
     /// The log counts here the lines that it loses.

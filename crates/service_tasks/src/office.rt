@@ -120,7 +120,7 @@ impl Parts {
     fn of<R: Clock>(rt: &R, alloc: Global, service: &Service) -> io::Result<Parts> {
         let pages = Arc::try_clone(&service.pages)?;
         let doors = Arc::try_clone(&service.doors)?;
-        let state = Arc::new(alloc, state_of(alloc, service)?)?;
+        let state = Arc::new(alloc, state_of(rt, alloc, service)?)?;
         let now = Instant::now(rt)?;
         let job_texts = Arc::try_clone(&service.job_texts)?;
         let jobs = Arc::try_clone(&service.jobs)?;
@@ -138,12 +138,19 @@ impl Parts {
 }
 
 /// The state of a service that has tried none of its sources.
-fn state_of(alloc: Global, service: &Service) -> Result<ServiceState, AllocError> {
+fn state_of<R: Clock>(
+    rt: &R,
+    alloc: Global,
+    service: &Service,
+) -> Result<ServiceState, AllocError> {
     let mut state = ServiceState::new(
         alloc,
         service.settings.lifecycle,
         service.sources.len() as u64,
     );
+    if let Ok(since) = rt.since_1970() {
+        state.set_started(since.as_secs());
+    }
     if let Some(lost_lines) = &service.lost_lines {
         state.set_log(Arc::try_clone(lost_lines)?);
     }

@@ -2,7 +2,7 @@
 use crate::instances::is_copied;
 use lists::Plain;
 use scrape_books::{Books, BooksError, Entry, Outcome, Page, rounds_rise};
-use std::alloc::Global;
+use std::alloc::{AllocError, Global};
 use std::test::Fail;
 
 /// An entry of collector 9, which scraped by allocation 8.
@@ -15,13 +15,29 @@ fn entry(round: u32, outcome: Outcome) -> Entry {
     }
 }
 
-/// Books of these entries.
-fn booked(alloc: Global, entries: &[(u32, Entry)]) -> Result<Books, BooksError> {
+/// What books are tried for.
+#[derive(Clone, Copy)]
+enum Tried {
+    TwoTargets,
+    NoOther,
+    Refusals,
+}
+
+/// Whether books of these entries do what they are tried for.
+fn pass(alloc: Global, entries: &[(u32, Entry)], tried: Tried) -> Result<bool, BooksError> {
     let mut books = Books::open(alloc);
     for (target, entry) in entries {
         books.book(*target, *entry)?;
     }
-    Ok(books)
+    Ok(does(&mut books, entries, tried))
+}
+
+fn does(books: &mut Books, entries: &[(u32, Entry)], tried: Tried) -> bool {
+    match tried {
+        Tried::TwoTargets => are_two_targets(books, entries),
+        Tried::NoOther => knows_no_other(books),
+        Tried::Refusals => refuses_rounds(books),
+    }
 }
 
 /// Whether the books have this page of a target, and this last round of it.
@@ -44,13 +60,8 @@ fn books_two_targets(rt: HostRuntime) -> Result<(), Fail> {
         (3, entry(1, Outcome::Down)),
         (0, entry(4, Outcome::Up(u32::MAX))),
     ];
-    match booked(rt.alloc(), entries.as_slice()) {
-        Ok(books) => {
-            assert!(rt; are_two_targets(&books, entries.as_slice()));
-            Ok(())
-        }
-        Err(_) => Err("no memory".into()),
-    }
+    assert!(rt; pass(rt.alloc(), entries.as_slice(), Tried::TwoTargets)?);
+    Ok(())
 }
 
 fn are_two_targets(books: &Books, entries: &[(u32, Entry)]) -> bool {
@@ -63,27 +74,29 @@ fn are_two_targets(books: &Books, entries: &[(u32, Entry)]) -> bool {
 
 #[test]
 fn knows_no_other_target(rt: HostRuntime) -> Result<(), Fail> {
-    assert!(rt; Books::open(rt.alloc()).total() == 0);
-    match booked(rt.alloc(), &[(3, entry(2, Outcome::Up(5)))]) {
-        Ok(books) => {
-            assert!(rt;
-                has_page(&books, 2, 0, page(0, 0, 0)) && has_page(&books, 4, 0, page(0, 0, 0))
-            );
-            Ok(())
-        }
-        Err(_) => Err("no memory".into()),
-    }
+    assert!(rt; is_empty(rt.alloc()));
+    assert!(rt; pass(rt.alloc(), &[(3, entry(2, Outcome::Up(5)))], Tried::NoOther)?);
+    Ok(())
+}
+
+fn is_empty(alloc: Global) -> bool {
+    Books::open(alloc).total() == 0
+}
+
+fn knows_no_other(books: &Books) -> bool {
+    has_page(books, 2, 0, page(0, 0, 0)) && has_page(books, 4, 0, page(0, 0, 0))
 }
 
 #[test]
 fn refuses_a_round_that_is_not_later(rt: HostRuntime) -> Result<(), Fail> {
-    match booked(rt.alloc(), &[(2, entry(3, Outcome::Up(1)))]) {
-        Ok(mut books) => {
-            assert!(rt; refuses_rounds(&mut books));
-            Ok(())
-        }
-        Err(_) => Err("no memory".into()),
-    }
+    assert!(rt;
+        pass(
+            rt.alloc(),
+            &[(2, entry(3, Outcome::Up(1)))],
+            Tried::Refusals
+        )?
+    );
+    Ok(())
 }
 
 fn refuses_rounds(books: &mut Books) -> bool {
@@ -104,9 +117,15 @@ fn refuses(books: &mut Books, target: u32, entry: Entry, last_round: u32) -> boo
 
 #[test]
 fn says_up_to_which_round(rt: HostRuntime) -> Result<(), Fail> {
-    let refusal = format!(in rt.alloc(); "{}", BooksError::AlreadyBooked(3))?;
-    assert!(rt; refusal.as_str() == "the target is booked up to round 3");
+    assert!(rt; is_said(rt.alloc())?);
     Ok(())
+}
+
+fn is_said(alloc: Global) -> Result<bool, AllocError> {
+    match format!(in alloc; "{}", BooksError::AlreadyBooked(3)) {
+        Ok(refusal) => Ok(refusal.as_str() == "the target is booked up to round 3"),
+        Err(error) => Err(error),
+    }
 }
 
 #[test]

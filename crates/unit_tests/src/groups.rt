@@ -1,19 +1,21 @@
 //! Target groups are copied.
 use lists::{List, Plain};
 use sd_documents::{Group, read_groups};
-use std::alloc::AllocError;
+use std::alloc::{AllocError, Global};
 use std::test::Fail;
 
 const TWO_GROUPS: &[u8] = br#"[{"targets":["h:1"],"labels":{"a":"b"}},{}]"#;
 
 #[test]
 fn copies_groups(rt: HostRuntime) -> Result<(), Fail> {
-    match read_groups(rt.alloc(), TWO_GROUPS) {
-        Ok(groups) => {
-            assert!(rt; copies_two(&groups)?);
-            Ok(())
-        }
-        Err(_) => Err("no groups".into()),
+    assert!(rt; copies(rt.alloc())?);
+    Ok(())
+}
+
+fn copies(alloc: Global) -> Result<bool, AllocError> {
+    match read_groups(alloc, TWO_GROUPS) {
+        Ok(groups) => copies_two(&groups),
+        Err(_) => Err(AllocError),
     }
 }
 

@@ -32,9 +32,23 @@ fn publish_both(
 ) -> Result<u32, HoldersError>
     requires { length collectors.now ≤ 16 }
 {
-    let list = list_of(alloc, collectors)?;
-    whole.publish(list.copy()?)?;
-    holders.publish(list)
+    match list_of(alloc, collectors) {
+        Ok(list) => publish_list(holders, whole, list),
+        Err(_) => Err(HoldersError::Memory),
+    }
+}
+
+fn publish_list(
+    holders: &mut Holders,
+    whole: &mut WholeLists,
+    list: List<(u32, u32)>,
+) -> Result<u32, HoldersError>
+    requires { AllPairs (λ (a b : ℕ × ℕ). a.0 < b.0) list }
+{
+    match whole.publish(list.copy()) {
+        Ok(()) => holders.publish(list),
+        Err(_) => Err(HoldersError::Memory),
+    }
 }
 
 /// Whether both name the same holders and the same targets at a number that is given.
@@ -45,28 +59,33 @@ fn agree(
     number: u32,
 ) -> Result<bool, HoldersError> {
     for id in 0..8 {
-        if holders.holder(number, id) != whole.holder(number, id) {
-            return Ok(false);
-        }
-        let held = holders.held(number, id)?;
-        if !held.same(&whole.held(alloc, number, id)?) {
+        if !agree_on(alloc, holders, whole, number, id)? {
             return Ok(false);
         }
     }
     Ok(true)
 }
 
-/// The next number of a sequence that looks random.
-fn next(state: u32) -> u32 {
-    ((state as u64 * 1_103_515_245 + 12_345) % 2_147_483_648) as u32
+fn agree_on(
+    alloc: Global,
+    holders: &Holders,
+    whole: &WholeLists,
+    number: u32,
+    id: u32,
+) -> Result<bool, HoldersError> {
+    let holder = holders.holder(number, id) == whole.holder(number, id);
+    match whole.held(alloc, number, id) {
+        Ok(held) => match holds(holders, number, id, held.as_slice()) {
+            Ok(same) => Ok(holder && same),
+            Err(error) => Err(error),
+        },
+        Err(_) => Err(HoldersError::Memory),
+    }
 }
 
-/// The holders of no allocation, as spans and as whole lists.
-fn none(alloc: Global) -> (Holders, WholeLists) {
-    let whole = WholeLists {
-        published: Vec::new(alloc),
-    };
-    (Holders::open(alloc), whole)
+/// The next number of a sequence that looks random.
+fn next(state: u32) -> u32 {
+    state.wrapping_mul(1_103_515_245).wrapping_add(12_345) % 2_147_483_648
 }
 
 /// Whether both say the same of the numbers up to this one.
@@ -86,16 +105,27 @@ fn agree_up_to(
 
 #[test]
 fn each_number_keeps_its_holders(rt: HostRuntime) -> Result<(), Fail> {
-    let alloc = rt.alloc();
-    let (mut holders, mut whole) = none(alloc);
+    assert!(rt; keeps_thousand(rt.alloc())?);
+    Ok(())
+}
+
+fn keeps_thousand(alloc: Global) -> Result<bool, HoldersError> {
+    let mut holders = Holders::open(alloc);
+    let mut whole = WholeLists::open(alloc);
     match publish_thousand(alloc, &mut holders, &mut whole) {
-        Ok(numbered) => {
-            assert!(rt; numbered && agree_up_to(alloc, &holders, &whole, 1000)?);
-            assert!(rt; are_thousand(&holders) && knows_no_other(&holders)?);
-            Ok(())
-        }
-        Err(_) => Err("no memory".into()),
+        Ok(numbered) => are_kept(alloc, &holders, &whole, numbered),
+        Err(error) => Err(error),
     }
+}
+
+fn are_kept(
+    alloc: Global,
+    holders: &Holders,
+    whole: &WholeLists,
+    numbered: bool,
+) -> Result<bool, HoldersError> {
+    let kept = numbered && agree_up_to(alloc, holders, whole, 1000)?;
+    Ok(kept && are_thousand(holders) && knows_no_other(holders)?)
 }
 
 /// Whether a thousand allocations got the numbers 1 to 1,000.
@@ -140,14 +170,16 @@ fn holds(holders: &Holders, number: u32, id: u32, targets: &[u32]) -> Result<boo
 
 #[test]
 fn exchanged_collectors_are_told_apart(rt: HostRuntime) -> Result<(), Fail> {
-    let alloc = rt.alloc();
-    let (mut holders, mut whole) = none(alloc);
+    assert!(rt; tells_apart(rt.alloc())?);
+    Ok(())
+}
+
+fn tells_apart(alloc: Global) -> Result<bool, HoldersError> {
+    let mut holders = Holders::open(alloc);
+    let mut whole = WholeLists::open(alloc);
     match publish_sixty(alloc, &mut holders, &mut whole) {
-        Ok(()) => {
-            assert!(rt; agree_up_to(alloc, &holders, &whole, 60)?);
-            Ok(())
-        }
-        Err(_) => Err("no memory".into()),
+        Ok(()) => agree_up_to(alloc, &holders, &whole, 60),
+        Err(error) => Err(error),
     }
 }
 
@@ -171,27 +203,40 @@ fn publish_sixty(
 
 #[test]
 fn takes_only_what_is_published(rt: HostRuntime) -> Result<(), Fail> {
-    let mut holders = Holders::open(rt.alloc());
-    assert!(rt; holders.current() == 0 && holders.current_pairs().is_empty());
-    match list_of(rt.alloc(), &[7, 0, 7]) {
-        Ok(list) => {
-            assert!(rt; takes_once(&mut holders, list)?);
-            Ok(())
-        }
-        Err(_) => Err("no memory".into()),
+    assert!(rt; takes_one(rt.alloc())?);
+    Ok(())
+}
+
+fn takes_one(alloc: Global) -> Result<bool, HoldersError> {
+    let mut holders = Holders::open(alloc);
+    let was_empty = holders.current() == 0 && holders.current_pairs().is_empty();
+    match publish(alloc, &mut holders) {
+        Ok(()) => takes_once(&mut holders, was_empty),
+        Err(error) => Err(error),
     }
 }
 
-fn takes_once(holders: &mut Holders, list: List<(u32, u32)>) -> Result<bool, HoldersError>
-    requires { AllPairs (λ (a b : ℕ × ℕ). a.0 < b.0) list }
-{
-    holders.publish(list)?;
+fn publish(alloc: Global, holders: &mut Holders) -> Result<(), HoldersError> {
+    match list_of(alloc, &[7, 0, 7]) {
+        Ok(list) => published(holders.publish(list)),
+        Err(_) => Err(HoldersError::Memory),
+    }
+}
+
+fn published(number: Result<u32, HoldersError>) -> Result<(), HoldersError> {
+    match number {
+        Ok(_) => Ok(()),
+        Err(error) => Err(error),
+    }
+}
+
+fn takes_once(holders: &mut Holders, was_empty: bool) -> Result<bool, HoldersError> {
     let was_taken = holders.taken(7);
     holders.take(7, 1)?;
     holders.take(8, 0)?;
     let unknown = holders.taken(7) == 1 && is_unknown(holders.take(7, 2));
     let published = was_taken == 0 && holders.current() == 1 && holders.taken(7) == 1;
-    Ok(unknown && published && holds(holders, 1, 7, &[0, 2])?)
+    Ok(was_empty && unknown && published && holds(holders, 1, 7, &[0, 2])?)
 }
 
 fn is_unknown<T: Drop>(answer: Result<T, HoldersError>) -> bool {

@@ -1,85 +1,18 @@
-//! Instances, plans and lists of given parts, and what is copied.
-use lists::{List, Plain};
-use price_certificate::{Instance, InstanceError, Plan};
-use std::alloc::{AllocError, Global};
+//! Documents of instances, and what is copied.
+use lists::Plain;
+use std::alloc::AllocError;
 
-/// The parts of an instance.
-#[derive(Clone, Copy)]
-pub(crate) struct Parts<'a> {
-    pub(crate) limits: &'a [u32],
-    pub(crate) draining: &'a [u32],
-    pub(crate) rows: &'a [&'a [u32]],
-    pub(crate) before: &'a [(u32, u32)],
-}
+/// Two items that may use one bin, which takes one of them; the first was there. Its plan is a best one.
+pub(crate) const ONE_OF_TWO: &str =
+    r#"{"version":1,"bins":[1],"reach":[[0],[0]],"before":[[0,0]],"pairs":[[0,0]],"item_prices":[1,0],"bin_prices":[3]}"#;
 
-impl Parts<'_> {
-    /// The instance of version 1, which knows of no draining bins.
-    pub(crate) fn first(&self, alloc: Global) -> Result<Instance, InstanceError> {
-        match self.lists(alloc) {
-            Ok((limits, rows, before)) => Instance::new(alloc, limits, rows, before),
-            Err(_) => Err(InstanceError::Memory),
-        }
-    }
+/// Two bins for one item each, of which the first drains, and one item that may use both and was in the first.
+pub(crate) const FIRST_DRAINS: &str =
+    r#"{"version":2,"bins":[1,1],"draining":[0],"reach":[[0,1]],"before":[[0,0]],"pairs":[],"item_prices":[],"bin_prices":[]}"#;
 
-    /// The instance of version 2.
-    pub(crate) fn second(&self, alloc: Global) -> Result<Instance, InstanceError> {
-        match (self.lists(alloc), list_of(alloc, self.draining)) {
-            (Ok((limits, rows, before)), Ok(draining)) => {
-                Instance::new2(alloc, limits, draining, rows, before)
-            }
-            _ => Err(InstanceError::Memory),
-        }
-    }
-
-    fn lists(
-        &self,
-        alloc: Global,
-    ) -> Result<(List<u32>, List<List<u32>>, List<(u32, u32)>), AllocError> {
-        let limits = list_of(alloc, self.limits);
-        let rows = rows_of(alloc, self.rows);
-        let before = list_of(alloc, self.before);
-        match (limits, rows, before) {
-            (Ok(limits), Ok(rows), Ok(before)) => Ok((limits, rows, before)),
-            _ => Err(AllocError),
-        }
-    }
-}
-
-pub(crate) fn list_of<T: Copy + Drop>(alloc: Global, items: &[T]) -> Result<List<T>, AllocError> {
-    let mut list = List::new(alloc);
-    for item in items {
-        list.push(*item)?;
-    }
-    Ok(list)
-}
-
-fn rows_of(alloc: Global, rows: &[&[u32]]) -> Result<List<List<u32>>, AllocError> {
-    let mut list = List::new(alloc);
-    for row in rows {
-        list.push(list_of(alloc, *row)?)?;
-    }
-    Ok(list)
-}
-
-/// The plan of these pairs and prices.
-pub(crate) fn plan_of(
-    alloc: Global,
-    pairs: &[(u32, u32)],
-    item_prices: &[u32],
-    bin_prices: &[u32],
-) -> Result<Plan, AllocError> {
-    let pairs = list_of(alloc, pairs);
-    let item_prices = list_of(alloc, item_prices);
-    let bin_prices = list_of(alloc, bin_prices);
-    match (pairs, item_prices, bin_prices) {
-        (Ok(pairs), Ok(item_prices), Ok(bin_prices)) => Ok(Plan {
-            pairs,
-            item_prices,
-            bin_prices,
-        }),
-        _ => Err(AllocError),
-    }
-}
+/// The same, where the second drains.
+pub(crate) const SECOND_DRAINS: &str =
+    r#"{"version":2,"bins":[1,1],"draining":[1],"reach":[[0,1]],"before":[[0,0]],"pairs":[],"item_prices":[],"bin_prices":[]}"#;
 
 /// Whether a value is the same as its copy.
 pub(crate) fn is_copied<T: Plain + Drop>(value: &T) -> Result<bool, AllocError> {

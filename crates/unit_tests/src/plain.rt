@@ -6,28 +6,32 @@ use std::test::Fail;
 
 type Row = (u32, Option<Text>);
 
-/// A row with a text, and one without.
-fn two_rows(alloc: Global) -> Result<List<Row>, AllocError> {
-    let mut rows = List::new(alloc);
-    match Text::from_str(alloc, "é") {
+#[test]
+fn copies_are_the_same(rt: HostRuntime) -> Result<(), Fail> {
+    assert!(rt; copies_rows(rt.alloc())?);
+    Ok(())
+}
+
+fn copies_rows(alloc: Global) -> Result<bool, AllocError> {
+    let mut rows: List<Row> = List::new(alloc);
+    let was_empty = rows.is_empty();
+    match push_two(&mut rows, Text::from_str(alloc, "é")) {
+        Ok(()) => copies_two(&rows, was_empty),
+        Err(error) => Err(error),
+    }
+}
+
+/// Pushes a row with a text, and one without.
+fn push_two(rows: &mut List<Row>, text: Result<Text, AllocError>) -> Result<(), AllocError> {
+    match text {
         Ok(text) => rows.push((1, Some(text)))?,
         Err(error) => return Err(error),
     }
-    rows.push((2, None))?;
-    Ok(rows)
+    rows.push((2, None))
 }
 
-#[test]
-fn copies_are_the_same(rt: HostRuntime) -> Result<(), Fail> {
-    let none: List<Row> = List::new(rt.alloc());
-    assert!(rt; none.is_empty());
-    match two_rows(rt.alloc()) {
-        Ok(rows) => {
-            assert!(rt; is_copied(&rows)? && differs_with_a_row_more(&rows)?);
-            Ok(())
-        }
-        Err(_) => Err("no memory".into()),
-    }
+fn copies_two(rows: &List<Row>, was_empty: bool) -> Result<bool, AllocError> {
+    Ok(was_empty && is_copied(rows)? && differs_with_a_row_more(rows)?)
 }
 
 /// Whether a copy of two rows differs from them once it has a third.
@@ -35,8 +39,10 @@ fn differs_with_a_row_more(rows: &List<Row>) -> Result<bool, AllocError> {
     match rows.copy() {
         Ok(mut copy) => {
             let length = copy.len();
-            copy.push((3, None))?;
-            Ok(length == 2 && !rows.same(&copy))
+            match copy.push((3, None)) {
+                Ok(()) => Ok(length == 2 && !rows.same(&copy)),
+                Err(error) => Err(error),
+            }
         }
         Err(error) => Err(error),
     }
@@ -44,20 +50,36 @@ fn differs_with_a_row_more(rows: &List<Row>) -> Result<bool, AllocError> {
 
 #[test]
 fn gives_back_what_a_list_is_made_of(rt: HostRuntime) -> Result<(), Fail> {
-    let list = List::from_vec(vec![in rt.alloc(); true, false]?);
-    assert!(rt; is_copied(&list)?);
-    assert!(rt; list.into_vec().as_slice() == [true, false].as_slice());
+    assert!(rt; gives_back_list(rt.alloc())?);
     Ok(())
+}
+
+fn gives_back_list(alloc: Global) -> Result<bool, AllocError> {
+    match Vec::from_slice(alloc, &[true, false]) {
+        Ok(items) => is_given_back(List::from_vec(items)),
+        Err(error) => Err(error),
+    }
+}
+
+fn is_given_back(list: List<bool>) -> Result<bool, AllocError> {
+    let copied = is_copied(&list);
+    let items = list.into_vec();
+    match copied {
+        Ok(copied) => Ok(copied && items.as_slice() == [true, false].as_slice()),
+        Err(error) => Err(error),
+    }
 }
 
 #[test]
 fn gives_back_what_a_text_is_made_of(rt: HostRuntime) -> Result<(), Fail> {
-    match String::from_str(rt.alloc(), "a\"b") {
-        Ok(string) => {
-            assert!(rt; gives_back(&Text::from_string(string))? && is_copied(&7u64)?);
-            Ok(())
-        }
-        Err(_) => Err("no memory".into()),
+    assert!(rt; gives_back_text(rt.alloc())? && is_copied(&7u64)?);
+    Ok(())
+}
+
+fn gives_back_text(alloc: Global) -> Result<bool, AllocError> {
+    match String::from_str(alloc, "a\"b") {
+        Ok(string) => gives_back(&Text::from_string(string)),
+        Err(error) => Err(error),
     }
 }
 

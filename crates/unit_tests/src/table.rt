@@ -1,6 +1,7 @@
 //! Rows of a table of who reaches what.
 use crate::instances::is_copied;
-use label_sets::{Finished, LabelError, Labels, Target, finish};
+use crate::labels::set_of;
+use label_sets::{Finished, LabelError, Target, finish};
 use reach_rules::{CollectorName, OwnLimits, Reach, ReachError, ReachTable};
 use serde_json::Value;
 use std::alloc::{AllocError, Global};
@@ -51,9 +52,22 @@ fn join(
     rules: &str,
     known: usize,
 ) -> Result<(), AllocError> {
-    match (reach_of(alloc, rules), targets(alloc, 0, known)) {
-        (Ok(reach), Ok(known)) => table.join(id, &reach, known.as_slice()),
-        _ => Err(AllocError),
+    match reach_of(alloc, rules) {
+        Ok(reach) => join_by(alloc, table, id, &reach, known),
+        Err(_) => Err(AllocError),
+    }
+}
+
+fn join_by(
+    alloc: Global,
+    table: &mut ReachTable,
+    id: u32,
+    reach: &Reach,
+    known: usize,
+) -> Result<(), AllocError> {
+    match targets(alloc, 0, known) {
+        Ok(known) => table.join(id, reach, known.as_slice()),
+        Err(error) => Err(error),
     }
 }
 
@@ -95,20 +109,60 @@ fn push_target(alloc: Global, targets: &mut Vec<Target>, zone: &str) -> Result<(
 
 /// A target of the zone.
 fn target_in(alloc: Global, zone: &str) -> Result<Finished, LabelError> {
-    match labels_in(alloc, zone) {
-        Ok(labels) => Ok(finish(alloc, &labels)?),
+    match set_of(alloc, &[("__address__", "h:1"), ("zone", zone)]) {
+        Ok(labels) => finished(finish(alloc, &labels)),
         Err(error) => Err(error),
     }
 }
 
-fn labels_in(alloc: Global, zone: &str) -> Result<Labels, LabelError> {
-    let mut labels = Labels::new(alloc);
-    labels.set("__address__", "h:1")?;
-    labels.set("zone", zone)?;
-    Ok(labels)
+fn finished(target: Result<Finished, AllocError>) -> Result<Finished, LabelError> {
+    match target {
+        Ok(target) => Ok(target),
+        Err(_) => Err(LabelError::Memory),
+    }
 }
 
-/// Whether the collector of the id reaches exactly each third of so many targets.
+/// What a table is asked.
+#[derive(Clone, Copy)]
+enum Asked {
+    /// Whether the collector of an id reaches exactly each third of so many targets.
+    Thirds(u32, usize),
+    /// Whether the collector of an id reaches the target of a number.
+    Reaches(u32, usize),
+    /// Whether it does not.
+    Misses(u32, usize),
+    /// The same of the collector at a place.
+    ReachesAt(usize, usize),
+    MissesAt(usize, usize),
+}
+
+/// Whether the table after these steps says yes to all that it is asked.
+fn says(alloc: Global, steps: &[Step], asked: &[Asked]) -> Result<bool, AllocError> {
+    match table_after(alloc, steps) {
+        Ok(table) => Ok(says_all(&table, asked)),
+        Err(error) => Err(error),
+    }
+}
+
+fn says_all(table: &ReachTable, all: &[Asked]) -> bool {
+    for asked in all {
+        if !is_so(table, *asked) {
+            return false;
+        }
+    }
+    true
+}
+
+fn is_so(table: &ReachTable, asked: Asked) -> bool {
+    match asked {
+        Asked::Thirds(id, known) => reaches_thirds(table, id, known),
+        Asked::Reaches(id, number) => table.reaches(id, number),
+        Asked::Misses(id, number) => !table.reaches(id, number),
+        Asked::ReachesAt(place, number) => table.reaches_at(place, number),
+        Asked::MissesAt(place, number) => !table.reaches_at(place, number),
+    }
+}
+
 fn reaches_thirds(table: &ReachTable, id: u32, known: usize) -> bool {
     for number in 0..known {
         if table.reaches(id, number) != (number % 3 == 0) {
@@ -125,13 +179,9 @@ fn targets_appear_after_a_join(rt: HostRuntime) -> Result<(), Fail> {
         Step::Appear(0, 70),
         Step::Appear(70, 131),
     ];
-    match table_after(rt.alloc(), steps.as_slice()) {
-        Ok(table) => {
-            assert!(rt; reaches_thirds(&table, 7, 131) && !table.reaches(8, 0));
-            Ok(())
-        }
-        Err(_) => Err("no table".into()),
-    }
+    let asked = [Asked::Thirds(7, 131), Asked::Misses(8, 0)];
+    assert!(rt; says(rt.alloc(), steps.as_slice(), asked.as_slice())?);
+    Ok(())
 }
 
 #[test]
@@ -142,22 +192,17 @@ fn a_collector_joins_after_targets_appeared(rt: HostRuntime) -> Result<(), Fail>
         Step::Join(2, ONLY_X, 65),
         Step::Appear(65, 100),
     ];
-    match table_after(rt.alloc(), steps.as_slice()) {
-        Ok(table) => {
-            assert!(rt; reaches_thirds(&table, 2, 100) && is_reached_by_place(&table));
-            Ok(())
-        }
-        Err(_) => Err("no table".into()),
-    }
-}
-
-fn is_reached_by_place(table: &ReachTable) -> bool {
-    table.reaches(1, 98)
-        && table.reaches_at(0, 98)
-        && table.reaches_at(1, 99)
-        && !table.reaches_at(1, 98)
-        && !table.reaches_at(2, 0)
-        && !table.reaches_at(0, 100)
+    let asked = [
+        Asked::Thirds(2, 100),
+        Asked::Reaches(1, 98),
+        Asked::ReachesAt(0, 98),
+        Asked::ReachesAt(1, 99),
+        Asked::MissesAt(1, 98),
+        Asked::MissesAt(2, 0),
+        Asked::MissesAt(0, 100),
+    ];
+    assert!(rt; says(rt.alloc(), steps.as_slice(), asked.as_slice())?);
+    Ok(())
 }
 
 #[test]
@@ -170,21 +215,16 @@ fn who_left_reaches_nothing(rt: HostRuntime) -> Result<(), Fail> {
         Step::Leave(2),
         Step::Appear(70, 80),
     ];
-    match table_after(rt.alloc(), steps.as_slice()) {
-        Ok(table) => {
-            assert!(rt; reaches_thirds(&table, 1, 80) && reaches_thirds(&table, 3, 80));
-            assert!(rt; is_without_the_second(&table));
-            Ok(())
-        }
-        Err(_) => Err("no table".into()),
-    }
-}
-
-fn is_without_the_second(table: &ReachTable) -> bool {
-    !table.reaches(2, 1)
-        && !table.reaches_at(1, 1)
-        && table.reaches_at(1, 78)
-        && !table.reaches_at(2, 78)
+    let asked = [
+        Asked::Thirds(1, 80),
+        Asked::Thirds(3, 80),
+        Asked::Misses(2, 1),
+        Asked::MissesAt(1, 1),
+        Asked::ReachesAt(1, 78),
+        Asked::MissesAt(2, 78),
+    ];
+    assert!(rt; says(rt.alloc(), steps.as_slice(), asked.as_slice())?);
+    Ok(())
 }
 
 #[test]
@@ -194,15 +234,9 @@ fn room_is_for_what_appears(rt: HostRuntime) -> Result<(), Fail> {
         Step::Room(130),
         Step::Appear(0, 130),
     ];
-    let before = table_after(rt.alloc(), &steps[..2]);
-    let after = table_after(rt.alloc(), steps.as_slice());
-    match (before, after) {
-        (Ok(before), Ok(after)) => {
-            assert!(rt; !before.reaches(1, 0) && reaches_thirds(&after, 1, 130));
-            Ok(())
-        }
-        _ => Err("no table".into()),
-    }
+    assert!(rt; says(rt.alloc(), &steps[..2], &[Asked::Misses(1, 0)])?);
+    assert!(rt; says(rt.alloc(), steps.as_slice(), &[Asked::Thirds(1, 130)])?);
+    Ok(())
 }
 
 /// Rules, names and own limits are the same as their copies.
@@ -234,21 +268,24 @@ const LONG_NAME: &str = "€€€€€€€€€€€€€€€€€€�
 
 fn copies_name(alloc: Global) -> Result<bool, AllocError> {
     match CollectorName::read(alloc, LONG_NAME) {
-        Ok(name) => Ok(is_copied(&name)? && name.as_str() == LONG_NAME),
+        Ok(name) => copies_long_name(&name),
         Err(_) => Ok(false),
     }
 }
 
+fn copies_long_name(name: &CollectorName) -> Result<bool, AllocError> {
+    Ok(is_copied(name)? && name.as_str() == LONG_NAME)
+}
+
 fn copies_limits(alloc: Global) -> Result<bool, AllocError> {
-    match limits_of_two(alloc) {
-        Ok(limits) => is_copied(&limits),
+    let mut limits = OwnLimits::none(alloc);
+    match set_two(&mut limits) {
+        Ok(()) => is_copied(&limits),
         Err(error) => Err(error),
     }
 }
 
-fn limits_of_two(alloc: Global) -> Result<OwnLimits, AllocError> {
-    let mut limits = OwnLimits::none(alloc);
+fn set_two(limits: &mut OwnLimits) -> Result<(), AllocError> {
     limits.set("a", 1)?;
-    limits.set("b", 2)?;
-    Ok(limits)
+    limits.set("b", 2)
 }

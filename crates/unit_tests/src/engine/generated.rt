@@ -1,4 +1,5 @@
 //! Small instances that are generated, against a plain program.
+use crate::engine::push_row;
 use assign_engine::solve;
 use lists::List;
 use price_certificate::{Instance, InstanceError, Verdict, check};
@@ -98,15 +99,19 @@ impl Small {
     fn rows(&self, alloc: Global) -> Result<List<List<u32>>, AllocError> {
         let mut rows = List::new(alloc);
         for item in 0..self.items {
-            let mut row = List::new(alloc);
-            for bin in 0..BINS {
-                if self.may_use(item, bin) {
-                    row.push(bin)?;
-                }
-            }
-            rows.push(row)?;
+            push_row(&mut rows, self.row(alloc, item))?;
         }
         Ok(rows)
+    }
+
+    fn row(&self, alloc: Global, item: u32) -> Result<List<u32>, AllocError> {
+        let mut row = List::new(alloc);
+        for bin in 0..BINS {
+            if self.may_use(item, bin) {
+                row.push(bin)?;
+            }
+        }
+        Ok(row)
     }
 
     fn before(&self, alloc: Global) -> Result<List<(u32, u32)>, AllocError> {
@@ -157,12 +162,14 @@ impl Small {
     /// What the checker says of a best assignment with these levels.
     fn verdict(&self, alloc: Global, levels: Levels) -> Result<Verdict, AllocError> {
         let (covered, steady, kept) = levels;
-        let before = self.before(alloc)?.len();
-        Ok(Verdict::Best {
-            covered: covered as u64,
-            left: covered.saturating_sub(steady) as u64,
-            moved: before.saturating_sub(kept) as u64,
-        })
+        match self.before(alloc) {
+            Ok(before) => Ok(Verdict::Best {
+                covered: covered as u64,
+                left: covered.saturating_sub(steady) as u64,
+                moved: before.len().saturating_sub(kept) as u64,
+            }),
+            Err(error) => Err(error),
+        }
     }
 
     /// The uses of the bins once a bin has one more item; none where it may have no more.
@@ -239,12 +246,23 @@ fn is_best(
 
 fn is_solved(alloc: Global, small: &Small, instance: &Instance) -> Result<bool, AllocError> {
     let best = small.best(alloc)?;
+    let verdict = small.verdict(alloc, best)?;
     match solve(alloc, instance) {
-        Ok((plan, _work)) => {
-            let verdict = small.verdict(alloc, best)?;
+        Ok((plan, _)) => {
             let levels = small.levels(plan.pairs.as_slice());
-            Ok(levels == best && check(alloc, instance, &plan)? == verdict)
+            is_judged(check(alloc, instance, &plan), verdict, levels == best)
         }
+        Err(error) => Err(error),
+    }
+}
+
+fn is_judged(
+    found: Result<Verdict, AllocError>,
+    verdict: Verdict,
+    is_level: bool,
+) -> Result<bool, AllocError> {
+    match found {
+        Ok(found) => Ok(is_level && found == verdict),
         Err(error) => Err(error),
     }
 }

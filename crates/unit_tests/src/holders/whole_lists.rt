@@ -5,13 +5,24 @@ use std::alloc::{AllocError, Global};
 /// The plain program: all allocations as they came.
 #[derive(Drop)]
 pub(super) struct WholeLists {
-    pub(super) published: Vec<List<(u32, u32)>>,
+    published: Vec<List<(u32, u32)>>,
 }
 
 impl WholeLists {
-    pub(super) fn publish(&mut self, pairs: List<(u32, u32)>) -> Result<(), AllocError> {
-        self.published.push(pairs)?;
-        Ok(())
+    pub(super) fn open(alloc: Global) -> WholeLists {
+        WholeLists {
+            published: Vec::new(alloc),
+        }
+    }
+
+    pub(super) fn publish(
+        &mut self,
+        pairs: Result<List<(u32, u32)>, AllocError>,
+    ) -> Result<(), AllocError> {
+        match pairs {
+            Ok(pairs) => Ok(self.published.push(pairs)?),
+            Err(error) => Err(error),
+        }
     }
 
     pub(super) fn holder(&self, number: u32, target: u32) -> Option<u32> {
