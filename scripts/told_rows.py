@@ -13,6 +13,23 @@ class Row:
         self.name, self.run, self.later = name, run, later
 
 
+class Teller:
+    """Tells of things that are tried one after the other, and counts them."""
+
+    def __init__(self):
+        self.passed = self.failed = 0
+
+    def __call__(self, what, holds, more=""):
+        self.passed += bool(holds)
+        self.failed += not holds
+        print(f"{'ok' if holds else 'NOT'}: {what}{'' if holds else f': {more}'}", flush=True)
+
+    def end(self):
+        """Tells how many there were, and gives the status of the script."""
+        print(f"{self.passed} passed, {self.failed} failed")
+        return 1 if self.failed else 0
+
+
 def files_of(folder):
     """Each file beneath, with its bytes; what is no file, with its kind."""
     found = {}
