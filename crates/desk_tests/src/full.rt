@@ -2,17 +2,22 @@
 use crate::opening::core_of;
 use alloc_desk::{EnterError, MOST_ENTRIES, Record};
 use allocation_core::Event;
+use std::alloc::Global;
 use std::test::Fail;
 
 #[test]
 fn a_full_journal_takes_no_more(rt: HostRuntime) -> Result<(), Fail> {
-    match core_of(rt.alloc(), "j", 1) {
+    assert!(rt; comes_to_be_full(rt.alloc()));
+    Ok(())
+}
+
+fn comes_to_be_full(alloc: Global) -> bool {
+    match core_of(alloc, 1) {
         Some(core) => {
-            let mut record = Record::open(rt.alloc(), core);
-            assert!(rt; fills(&mut record) && is_full(&mut record));
-            Ok(())
+            let mut record = Record::open(alloc, core);
+            fills(&mut record) && is_full(&mut record)
         }
-        None => Err("no memory".into()),
+        None => false,
     }
 }
 

@@ -2,16 +2,18 @@
 #![tactic(auto)]
 
 #[cfg(test)]
-mod entries;
+mod desks;
 #[cfg(test)]
 mod full;
 #[cfg(test)]
-mod many;
+mod mixed;
+#[cfg(test)]
+mod notes;
 #[cfg(test)]
 mod opening;
 #[cfg(test)]
 mod reallocations;
 #[cfg(test)]
-mod reopening;
+mod scripts;
 #[cfg(test)]
-mod two_threads;
+mod steps;
