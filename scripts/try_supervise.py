@@ -290,8 +290,16 @@ def path_of(folder, links):
     return f"{folder}/bin"
 
 
+def tokens(folder):
+    """A file of tokens."""
+    path = f"{folder}/tokens"
+    with open(os.open(path, os.O_WRONLY | os.O_CREAT, 0o600), "w") as it:
+        it.write("# of whoever is in charge\n\nadmins-secret\nanother-secret\n")
+    return path
+
+
 def asks_with(folder, tool):
-    """A reload, a faulty one and an end by one tool alone."""
+    """A reload, a faulty one and an end by one tool alone, and with a token."""
     links = {**{one: one for one in NEEDED}, **TOOLS[tool]}
     there = {"PATH": path_of(folder, links), "http_proxy": "http://127.0.0.1:1", "ALL_PROXY": "http://127.0.0.1:1"}
     it = Supervised(folder, [shutil.which("dash") or "/bin/sh"], False, config("one"), environment=there)
@@ -306,10 +314,13 @@ def asks_with(folder, tool):
     yield "HUP with a faulty configuration", it.said(f"HUP: POST /-/reload: 500, .*{why}")
     os.kill(it.program(), signal.SIGTERM)
     yield "the program ended by another: its status", it.ended() == 143
-    it = Supervised(folder, [shutil.which("dash") or "/bin/sh"], False, config("one"), environment=there)
+    it = Supervised(folder, [shutil.which("dash") or "/bin/sh"], False, config("one", tokens={"admin": tokens(folder)}), environment=there)
     it.is_up()
+    it.send(signal.SIGHUP)
+    yield "HUP with a token", it.said("HUP: POST /-/reload: The configuration is read again")
+    comes(lambda: it.jobs() == ["one"], 5)
     it.send(signal.SIGTERM)
-    yield "TERM", it.ended() == 0 and it.said("TERM: POST /-/quit: allocd ends. Goodbye!")
+    yield "TERM with a token", it.ended() == 0 and it.said("TERM: POST /-/quit: allocd ends. Goodbye!")
     it.clear()
     it = Supervised(folder, [shutil.which("dash") or "/bin/sh"], False, config("one"), environment={**there, "ALLOCD_ANSWER_SECONDS": "1"})
     it.is_up()

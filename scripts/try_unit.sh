@@ -159,7 +159,7 @@ else
     says "as that user" "$(in_it id -u allocd)" in_it sh -c 'stat -c %u /proc/$(pidof allocd)'
     holds "and goes on in its journal" soon has_read 5
     in_it systemctl reload allocd
-    logs "its supervisor has no token: a reload is refused" 'HUP: POST /-/reload: 401, the configuration that was followed still is'
+    logs "its supervisor shows the admin's token" 'HUP: POST /-/reload: The configuration is read again'
 fi
 cp "$top/config" "$config"
 in_it systemctl restart allocd
