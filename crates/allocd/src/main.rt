@@ -47,7 +47,7 @@ For more information, try 'allocd --help'.
 
 fn main(rt: HostRuntime) -> ExitCode {
     match words_of(rt.alloc(), env::args(&rt)) {
-        Ok(words) => run_words(&rt, words.as_slice()),
+        Ok(words) => run_words(&rt, rt, words.as_slice()),
         Err(error) => match error.kind() {
             ErrorKind::OutOfMemory => stopped_without_memory(&rt),
             _ => status_of(refuse(&rt, NO_TEXT)),
@@ -65,7 +65,7 @@ fn words_of(alloc: Global, arguments: io::Result<Args>) -> io::Result<Vec<String
 }
 
 /// Does what the words ask for.
-fn run_words<R>(rt: &R, words: &[String]) -> ExitCode
+fn run_words<R>(rt: &R, host: HostRuntime, words: &[String]) -> ExitCode
 where
     R: Wait
         + Threads
@@ -84,12 +84,12 @@ where
         + 'static,
 {
     match read_words(rt.alloc(), words) {
-        Ok(asked) => run_asked(rt, &asked),
+        Ok(asked) => run_asked(rt, host, &asked),
         Err(_) => stopped_without_memory(rt),
     }
 }
 
-fn run_asked<R>(rt: &R, asked: &Asked<'_>) -> ExitCode
+fn run_asked<R>(rt: &R, host: HostRuntime, asked: &Asked<'_>) -> ExitCode
 where
     R: Wait
         + Threads
@@ -114,7 +114,7 @@ where
         Asked::Session => status_of(run_session(rt, alloc, &mut rt.reader(), &mut writer)),
         Asked::Audit(paths) => status_of(audit_files(rt, alloc, paths.as_slice(), &mut writer)),
         Asked::Seal(path) => status_of(seal_file(rt, alloc, path, &mut writer)),
-        Asked::Serve(options) => serve(rt, options),
+        Asked::Serve(options) => serve(rt, host, options),
         Asked::Shown(text) => {
             let ending = Ending::Answered(Status::Done);
             status_of(write_last(&mut writer, text.as_bytes(), ending))

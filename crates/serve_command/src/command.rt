@@ -33,8 +33,8 @@ const MACHINE: u8 = 3;
 const LAST_LINES: u64 = 1_000;
 
 /// Does what the options ask for, and gives the exit status: 0 where the service was told to end, 2 where it is not
-/// told what to do, 3 where the machine failed it. A thread of its own writes what is logged.
-pub fn serve<R>(rt: &R, options: &ServeOptions<'_>) -> ExitCode
+/// told what to do, 3 where the machine failed it. A thread of its own writes what is logged; the configuration is read again by `host`.
+pub fn serve<R>(rt: &R, host: HostRuntime, options: &ServeOptions<'_>) -> ExitCode
 where
     R: Wait
         + Threads
@@ -53,7 +53,7 @@ where
 {
     let _streams = hold_streams(rt, rt.alloc());
     match start_log(rt) {
-        Ok(queue) => serve_logged(rt, options, &queue),
+        Ok(queue) => serve_logged(rt, host, options, &queue),
         Err(refused) => {
             tell(rt, &Fault::from(refused));
             ExitCode::from(MACHINE)
@@ -62,7 +62,12 @@ where
 }
 
 /// Serves where standard error is a queue. The last fault is told past it, if somebody has read all before.
-fn serve_logged<R>(rt: &R, options: &ServeOptions<'_>, queue: &LogQueue) -> ExitCode
+fn serve_logged<R>(
+    rt: &R,
+    host: HostRuntime,
+    options: &ServeOptions<'_>,
+    queue: &LogQueue,
+) -> ExitCode
 where
     R: Wait
         + Threads
@@ -78,7 +83,7 @@ where
         + Copy
         + Drop,
 {
-    let ended = serve_by(&Queued::new(*rt, queue), options, queue.lost());
+    let ended = serve_by(&Queued::new(*rt, queue), host, options, queue.lost());
     let is_read = queue.close(rt, Duration::from_millis(LAST_LINES));
     match ended {
         Ok(()) => ExitCode::from(0),
@@ -120,7 +125,12 @@ fn written<R: Print>(rt: &R, text: &str) -> Result<(), Fault> {
     Ok(())
 }
 
-fn serve_by<R>(rt: &R, options: &ServeOptions<'_>, lost_lines: &Arc<AtomicU64>) -> Result<(), Fault>
+fn serve_by<R>(
+    rt: &R,
+    host: HostRuntime,
+    options: &ServeOptions<'_>,
+    lost_lines: &Arc<AtomicU64>,
+) -> Result<(), Fault>
 where
     R: Wait
         + Threads
@@ -138,7 +148,7 @@ where
 {
     let document = read_document(rt, rt.alloc(), options.config)?;
     match service_of(rt.alloc(), options.config, document.as_slice(), lost_lines) {
-        Ok(service) => serve_service(rt, options, document.as_slice(), service),
+        Ok(service) => serve_service(rt, host, options, document.as_slice(), service),
         Err(fault) => Err(fault),
     }
 }
@@ -160,6 +170,7 @@ fn service_of(
 /// Serves what a document asks for, or tells that it is valid.
 fn serve_service<R>(
     rt: &R,
+    host: HostRuntime,
     options: &ServeOptions<'_>,
     document: &[u8],
     service: Service,
@@ -182,7 +193,7 @@ where
     let mut service = service;
     match places_of(rt, options, &mut service) {
         Ok(_) if options.check_config => tell_valid(rt, options.config, document),
-        Ok((here, journal)) => serve_at(rt, options, document, service, here, journal),
+        Ok((here, journal)) => serve_at(rt, host, options, document, service, here, journal),
         Err(fault) => Err(fault),
     }
 }
@@ -211,6 +222,7 @@ fn tell_valid<R: Print + AllocGlobal>(rt: &R, path: &str, document: &[u8]) -> Re
 /// Serves at an address.
 fn serve_at<R>(
     rt: &R,
+    host: HostRuntime,
     options: &ServeOptions<'_>,
     document: &[u8],
     service: Service,
@@ -232,7 +244,7 @@ where
         + Copy
         + Drop,
 {
-    match opened(rt, options, document, here) {
+    match opened(rt, host, options, document, here) {
         Ok((configuration, listener)) => {
             serve_journal(rt, rt.alloc(), service, configuration, listener, journal)
         }
@@ -243,10 +255,11 @@ where
 /// The file of the configuration, as it is read again, and the listener.
 fn opened<R>(
     rt: &R,
+    host: HostRuntime,
     options: &ServeOptions<'_>,
     document: &[u8],
     here: SocketAddr,
-) -> Result<(ConfigurationFile<R>, TcpListener), Fault>
+) -> Result<(ConfigurationFile, TcpListener), Fault>
 where
     R: Net<Listener = TcpListener, Stream = TcpStream>
         + Files<File = File>
@@ -257,7 +270,7 @@ where
 {
     warn_of(rt, rt.alloc(), document)?;
     check_descriptors(rt, rt.alloc())?;
-    let configuration = ConfigurationFile::new(*rt, rt.alloc(), options.config, here)?;
+    let configuration = ConfigurationFile::new(host, rt.alloc(), options.config, here)?;
     let listener = listener_at(rt, here)?;
     Ok((configuration, listener))
 }

@@ -1,20 +1,16 @@
 //! The configuration file, as the service reads it again.
 use crate::documents::{read_document, service_in, service_of_parts};
 use crate::doors::admission_at;
-use crate::not_followed::warn_of;
 use journal_files::Fault;
 use lists::Text;
 use service_tasks::{Configuration, Service};
-use std::alloc::{AllocError, AllocGlobal, Global};
-use std::fs::File;
+use std::alloc::{AllocError, Global};
 use std::net::SocketAddr;
-use std::rt::Files;
-use std::time::Clock;
 
 /// The configuration file at a path.
 #[derive(Drop)]
-pub(crate) struct ConfigurationFile<R> {
-    rt: R,
+pub(crate) struct ConfigurationFile {
+    host: HostRuntime,
     alloc: Global,
     path: String,
     /// Where the service listens.
@@ -23,15 +19,15 @@ pub(crate) struct ConfigurationFile<R> {
     document: Vec<u8>,
 }
 
-impl<R: Files<File = File> + AllocGlobal + Clock + Eprint + Copy> ConfigurationFile<R> {
+impl ConfigurationFile {
     pub(crate) fn new(
-        rt: R,
+        host: HostRuntime,
         alloc: Global,
         path: &str,
         here: SocketAddr,
-    ) -> Result<ConfigurationFile<R>, AllocError> {
+    ) -> Result<ConfigurationFile, AllocError> {
         Ok(ConfigurationFile {
-            rt,
+            host,
             alloc,
             path: String::from_str(alloc, path)?,
             here,
@@ -42,10 +38,9 @@ impl<R: Files<File = File> + AllocGlobal + Clock + Eprint + Copy> ConfigurationF
     /// The document of the file, which asks for a service.
     fn valid_document(&self) -> Result<Vec<u8>, Fault> {
         let path = self.path.as_str();
-        let document = read_document(&self.rt, self.alloc, path)?;
+        let document = read_document(&self.host, self.alloc, path)?;
         let service = service_in(self.alloc, path, document.as_slice())?;
-        let _ = admission_at(&self.rt, path, service.doors(), self.here)?;
-        warn_of(&self.rt, self.alloc, document.as_slice())?;
+        let _ = admission_at(&self.host, path, service.doors(), self.here)?;
         Ok(document)
     }
 
@@ -62,8 +57,7 @@ impl<R: Files<File = File> + AllocGlobal + Clock + Eprint + Copy> ConfigurationF
     }
 }
 
-impl<R: Files<File = File> + AllocGlobal + Clock + Eprint + Copy> Configuration
-    for ConfigurationFile<R> {
+impl Configuration for ConfigurationFile {
     fn read(&mut self) -> Result<(), Text> {
         match self.valid_document() {
             Ok(document) => {
@@ -77,7 +71,7 @@ impl<R: Files<File = File> + AllocGlobal + Clock + Eprint + Copy> Configuration
     fn service(&self) -> Option<Service> {
         let path = self.path.as_str();
         let mut service = service_of_parts(self.alloc, path, self.document.as_slice()).ok()?;
-        let doors = admission_at(&self.rt, path, service.doors(), self.here).ok()?;
+        let doors = admission_at(&self.host, path, service.doors(), self.here).ok()?;
         service.set_doors(self.alloc, doors).ok()?;
         Some(service)
     }

@@ -20,7 +20,7 @@ pub(crate) fn serve_journal<R>(
     rt: &R,
     alloc: Global,
     service: Service,
-    configuration: ConfigurationFile<R>,
+    configuration: ConfigurationFile,
     listener: TcpListener,
     journal: Option<String>,
 ) -> Result<(), Fault>
@@ -121,7 +121,7 @@ fn serve_opened<R>(
     rt: &R,
     alloc: Global,
     service: Service,
-    configuration: ConfigurationFile<R>,
+    configuration: ConfigurationFile,
     listener: TcpListener,
     journals: &mut Journals<R>,
     opened: Opened<File>,
