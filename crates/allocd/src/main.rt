@@ -22,6 +22,7 @@ use command::run;
 use command_words::{Asked, read_words};
 use ending::{Ending, Status, Stop};
 use fleet_session::run_session;
+use log_queue::{Queued, start_log};
 use output::{write_last, write_stop};
 use sealing::seal_file;
 use serve_command::serve;
@@ -47,7 +48,14 @@ For more information, try 'allocd --help'.
 
 fn main(rt: HostRuntime) -> ExitCode {
     match words_of(rt.alloc(), env::args(&rt)) {
-        Ok(words) => run_words(&rt, rt, words.as_slice()),
+        Ok(words) => match read_words(rt.alloc(), words.as_slice()) {
+            Ok(Asked::Serve(options)) => match start_log(&rt) {
+                Ok(queue) => serve(&rt, &Queued::new(rt, &queue), rt, &options, &queue),
+                Err(_) => stopped_without_memory(&rt),
+            },
+            Ok(asked) => run_asked(&rt, &asked),
+            Err(_) => stopped_without_memory(&rt),
+        },
         Err(error) => match error.kind() {
             ErrorKind::OutOfMemory => stopped_without_memory(&rt),
             _ => status_of(refuse(&rt, NO_TEXT)),
@@ -64,8 +72,8 @@ fn words_of(alloc: Global, arguments: io::Result<Args>) -> io::Result<Vec<String
     Ok(words)
 }
 
-/// Does what the words ask for.
-fn run_words<R>(rt: &R, host: HostRuntime, words: &[String]) -> ExitCode
+/// Does what the words ask for, unless it is to serve.
+fn run_asked<R>(rt: &R, asked: &Asked<'_>) -> ExitCode
 where
     R: Wait
         + Threads
@@ -80,32 +88,7 @@ where
         + Sync
         + Send
         + Copy
-        + Drop
-        + 'static,
-{
-    match read_words(rt.alloc(), words) {
-        Ok(asked) => run_asked(rt, host, &asked),
-        Err(_) => stopped_without_memory(rt),
-    }
-}
-
-fn run_asked<R>(rt: &R, host: HostRuntime, asked: &Asked<'_>) -> ExitCode
-where
-    R: Wait
-        + Threads
-        + Clock
-        + Net<Listener = TcpListener, Stream = TcpStream>
-        + Files<File = File>
-        + RandomSource
-        + AllocGlobal
-        + Input
-        + Print
-        + Eprint
-        + Sync
-        + Send
-        + Copy
-        + Drop
-        + 'static,
+        + Drop,
 {
     let alloc = rt.alloc();
     let mut writer = io::writer(rt);
@@ -114,7 +97,7 @@ where
         Asked::Session => status_of(run_session(rt, alloc, &mut rt.reader(), &mut writer)),
         Asked::Audit(paths) => status_of(audit_files(rt, alloc, paths.as_slice(), &mut writer)),
         Asked::Seal(path) => status_of(seal_file(rt, alloc, path, &mut writer)),
-        Asked::Serve(options) => serve(rt, host, options),
+        Asked::Serve(_) => status_of(Ending::Answered(Status::Done)),
         Asked::Shown(text) => {
             let ending = Ending::Answered(Status::Done);
             status_of(write_last(&mut writer, text.as_bytes(), ending))

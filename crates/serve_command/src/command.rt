@@ -10,7 +10,7 @@ use crate::standard_streams::hold_streams;
 use command_words::ServeOptions;
 use journal_files::{Fault, is_same_file};
 use log::error;
-use log_queue::{LogQueue, Queued, start_log};
+use log_queue::LogQueue;
 use logfmt::Logfmt;
 use service_tasks::Service;
 use std::alloc::{AllocError, AllocGlobal, Global};
@@ -32,44 +32,19 @@ const MACHINE: u8 = 3;
 /// How long the end waits for the last lines to be read, in milliseconds.
 const LAST_LINES: u64 = 1_000;
 
-/// Does what the options ask for, and gives the exit status: 0 where the service was told to end, 2 where it is not
-/// told what to do, 3 where the machine failed it. A thread of its own writes what is logged; the configuration is read again by `host`.
-pub fn serve<R>(rt: &R, host: HostRuntime, options: &ServeOptions<'_>) -> ExitCode
-where
-    R: Wait
-        + Threads
-        + Clock
-        + Net<Listener = TcpListener, Stream = TcpStream>
-        + Files<File = File>
-        + RandomSource
-        + AllocGlobal
-        + Print
-        + Eprint
-        + Sync
-        + Send
-        + Copy
-        + Drop
-        + 'static,
-{
-    let _streams = hold_streams(rt, rt.alloc());
-    match start_log(rt) {
-        Ok(queue) => serve_logged(rt, host, options, &queue),
-        Err(refused) => {
-            tell(rt, &Fault::from(refused));
-            ExitCode::from(MACHINE)
-        }
-    }
-}
-
-/// Serves where standard error is a queue. The last fault is told past it, if somebody has read all before.
-fn serve_logged<R>(
+/// Does what the options ask for, and gives the exit status: 0 where the service was told to end, 2 where it is not told what to do, 3 where
+/// the machine failed it. What is logged is written to `queued`, a handle whose standard error is the queue. The last fault is told past that, by
+/// `rt`, if somebody has read all before. The configuration is read again by `host`.
+pub fn serve<R, Q>(
     rt: &R,
+    queued: &Q,
     host: HostRuntime,
     options: &ServeOptions<'_>,
     queue: &LogQueue,
 ) -> ExitCode
 where
-    R: Wait
+    R: Wait + Clock + Files<File = File> + AllocGlobal + Eprint + Copy,
+    Q: Wait
         + Threads
         + Clock
         + Net<Listener = TcpListener, Stream = TcpStream>
@@ -83,7 +58,8 @@ where
         + Copy
         + Drop,
 {
-    let ended = serve_by(&Queued::new(*rt, queue), host, options, queue.lost());
+    let _streams = hold_streams(rt, rt.alloc());
+    let ended = serve_by(queued, host, options, queue.lost());
     let is_read = queue.close(rt, Duration::from_millis(LAST_LINES));
     match ended {
         Ok(()) => ExitCode::from(0),
