@@ -97,7 +97,8 @@ where
         Asked::Session => status_of(run_session(rt, alloc, &mut rt.reader(), &mut writer)),
         Asked::Audit(paths) => status_of(audit_files(rt, alloc, paths.as_slice(), &mut writer)),
         Asked::Seal(path) => status_of(seal_file(rt, alloc, path, &mut writer)),
-        Asked::Serve(_) => status_of(Ending::Answered(Status::Done)),
+        // It is served by `main`, where the program's own handle may wait.
+        Asked::Serve(_) => status_of(Ending::Answered(Status::Unreadable)),
         Asked::Shown(text) => {
             let ending = Ending::Answered(Status::Done);
             status_of(write_last(&mut writer, text.as_bytes(), ending))
