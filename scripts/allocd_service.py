@@ -5,6 +5,7 @@ import json
 import os
 import random
 import shutil
+import signal
 import socket
 import subprocess
 import threading
@@ -59,6 +60,12 @@ def ask(port, method, path, body=None, seconds=60):
         return CLOSED
     finally:
         it.close()
+
+
+def hears_signals():
+    """Of a child that is to start: no signal is left out, whatever whoever started these trials does not mind (`nohup`, a shell's `&`)."""
+    for number in (signal.SIGHUP, signal.SIGINT, signal.SIGTERM):
+        signal.signal(number, signal.SIG_DFL)
 
 
 def supervisor_can_ask():

@@ -748,9 +748,11 @@ def lost_lines(folder):
 @row("connections that cannot be taken are counted and told")
 def failed_accepts(folder):
     with served(folder) as it:
-        open_ones = len(os.listdir(f"/proc/{it.it.pid}/fd"))
+        it.published()
+        taken = {int(one) for one in os.listdir(f"/proc/{it.it.pid}/fd")}
+        free = min(set(range(len(taken) + 1)) - taken)
         most = resource.prlimit(it.it.pid, resource.RLIMIT_NOFILE)
-        resource.prlimit(it.it.pid, resource.RLIMIT_NOFILE, (open_ones, most[1]))
+        resource.prlimit(it.it.pid, resource.RLIMIT_NOFILE, (free, most[1]))
         with socket.create_connection(("127.0.0.1", it.port), timeout=5):
             told = comes(lambda: "connections could not be taken" in it.said(), 5)
             resource.prlimit(it.it.pid, resource.RLIMIT_NOFILE, most)

@@ -22,7 +22,7 @@ import tempfile
 import threading
 import time
 
-from allocd_service import PROGRAM, ROOT, events_in, free_port, supervisor_can_ask
+from allocd_service import PROGRAM, ROOT, events_in, free_port, hears_signals, supervisor_can_ask
 from parts import run_parts, tell
 
 WORDS = sys.argv[1:]
@@ -326,7 +326,7 @@ def signals(folder):
         json.dump(CONFIG, it)
     port = free_port()
     bridge = [f"{ROOT}/scripts/allocd-supervise", PROGRAM, "serve", "--config", config, "--listen", f"127.0.0.1:{port}"]
-    it = subprocess.Popen(bridge, stderr=subprocess.PIPE, text=True)
+    it = subprocess.Popen(bridge, stderr=subprocess.PIPE, text=True, preexec_fn=hears_signals)
     up = comes(lambda: ask(port, "GET", "/-/healthy")[0] == 200)
     more = json.loads(json.dumps(CONFIG))
     more["scrape_configs"][0]["static_configs"][0]["targets"].append("127.0.0.1:9199")
@@ -336,7 +336,7 @@ def signals(folder):
     tell("SIGHUP has it read its configuration again", up and comes(lambda: 'allocd_targets{job="node"} 21' in ask(port, "GET", "/metrics")[2]))
     it.send_signal(signal.SIGTERM)
     tell("SIGTERM ends it with status 0", it.wait(20) == 0)
-    it = subprocess.Popen(bridge, stderr=subprocess.PIPE, text=True)
+    it = subprocess.Popen(bridge, stderr=subprocess.PIPE, text=True, preexec_fn=hears_signals)
     up = comes(lambda: ask(port, "GET", "/-/healthy")[0] == 200)
     it.send_signal(signal.SIGINT)
     tell("SIGINT, too", up and it.wait(20) == 0)

@@ -16,7 +16,7 @@ import sys
 import tempfile
 import time
 
-from allocd_service import PROGRAM, ROOT, ask, comes, free_port, supervisor_can_ask
+from allocd_service import PROGRAM, ROOT, ask, comes, free_port, hears_signals, supervisor_can_ask
 
 SCRIPT = f"{ROOT}/scripts/allocd-supervise"
 SHELLS = {"sh": ["sh"], "dash": ["dash"], "bash": ["bash"], "busybox sh": ["busybox", "sh"]}
@@ -72,7 +72,7 @@ class Supervised:
         with open(self.log, "wb") as log:
             self.it = subprocess.Popen(
                 [*(PID_1 if first else []), *shell, SCRIPT, program, "serve", *words],
-                stderr=log, stdout=log, env={**os.environ, **(environment or {})},
+                stderr=log, stdout=log, env={**os.environ, **(environment or {})}, preexec_fn=hears_signals,
             )
         self.first = first
 
