@@ -431,14 +431,14 @@ def requests(folder, refusals):
             while tried.one(it, wanted, row, number, last or number):
                 number += 1
             row.tell()
-    check_workers(tried.service)
+    check_connections(tried.service)
     if tried.service.quit() != (200, 0):
         wrong.append("the service does not end")
     check_journal(tried.journal, tried.seen)
 
 
 def answers_together(service):
-    """How many of as many connections as there are workers are answered while all are held."""
+    """How many of 64 connections are answered while all are held."""
     gate = threading.Barrier(64)
     answered = []
 
@@ -462,11 +462,11 @@ def answers_together(service):
     return answered.count(b"allocd is healthy.\n")
 
 
-def check_workers(service):
+def check_connections(service):
     count = answers_together(service)
     print(f"\nOf 64 connections that are held at once so many are answered: {count}")
     if count != 64:
-        wrong.append("workers are missing")
+        wrong.append("connections are not served")
 
 
 def event_key(words):

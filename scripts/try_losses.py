@@ -763,7 +763,7 @@ def failed_accepts(folder):
 @row("too few descriptors: said at the start, or refused")
 def few_descriptors(folder):
     def few():
-        resource.setrlimit(resource.RLIMIT_NOFILE, (200, 200))
+        resource.setrlimit(resource.RLIMIT_NOFILE, (100, 100))
     with served(folder, up=False, prepare=few) as it:
         return comes(lambda: re.search("descriptor|RLIMIT_NOFILE|ulimit -n|open files", it.said()), 2), it.said()
 

@@ -14,6 +14,7 @@ import itertools
 import json
 import os
 import random
+import resource
 import signal
 import socket
 import subprocess
@@ -59,7 +60,7 @@ CONFIG = {
 
 
 class Service:
-    def __init__(self, folder, journal=None, config=CONFIG, more=()):
+    def __init__(self, folder, journal=None, config=CONFIG, more=(), prepare=None):
         self.port = free_port()
         self.config = f"{folder}/config.json"
         with open(self.config, "w") as it:
@@ -67,7 +68,7 @@ class Service:
         words = [PROGRAM, "serve", "--config", self.config, "--listen", f"127.0.0.1:{self.port}"]
         words += ["--journal", journal] if journal else []
         self.log = open(f"{folder}/log", "ab")
-        self.it = subprocess.Popen([*words, *more], stderr=self.log, stdout=subprocess.PIPE)
+        self.it = subprocess.Popen([*words, *more], stderr=self.log, stdout=subprocess.PIPE, preexec_fn=prepare)
 
     def is_up(self):
         for _ in range(400):
@@ -801,26 +802,29 @@ def are_closed(held):
     return all(it.sock is None or it.sock.recv(1) == b"" for it in held)
 
 
+def few_descriptors():
+    """So that a service serves no more than 192 connections at once."""
+    resource.setrlimit(resource.RLIMIT_NOFILE, (256, 256))
+
+
 def idle_clients(folder):
-    service = Service(folder)
+    service = Service(folder, prepare=few_descriptors)
     service.is_up()
     port = service.port
     most = most_connections(port)
-    held = idle_connections(port, most - 1)
+    tell("as many connections as there are descriptors beside 64", most == 192, most)
+    held = idle_connections(port, most - most // 8 - 8)
     (status, _, _), waited = timed(ask, port, "GET", "/-/healthy")
-    tell(f"beside {len(held)} idle connections a request is answered at once", status == 200 and waited < 1)
-    tell("each of them is closed, and told nothing more", are_closed(held))
-    held = idle_connections(port, most)
+    tell(f"beside {len(held)} idle connections a request is answered at once", status == 200 and waited < 1, f"after {waited:.1f} seconds")
+    held[0].request("GET", "/-/healthy")
+    tell("each of them is kept", held[0].getresponse().read() == b"allocd is healthy.\n")
+    silent = [socket.create_connection(("127.0.0.1", port), timeout=30) for _ in range(most - len(held) + 8)]
     (status, _, _), waited = timed(ask, port, "GET", "/-/healthy")
-    tell(f"beside {len(held)} of them too, since half of them were told to end", status == 200 and waited < 1, f"after {waited:.1f} seconds")
-    held = idle_connections(port, most - 1)
+    tell("where all places are held, those who came last and are silent give theirs", status == 200 and waited < 6, f"after {waited:.1f} seconds")
     ends, waited = timed(service.quit)
-    tell("it ends beside idle connections at once", ends == (200, 0) and waited < 2 and are_closed(held), f"after {waited:.1f} seconds")
-    service = Service(folder)
-    service.is_up()
-    held = idle_connections(service.port, most)
-    ends, waited = timed(service.quit)
-    tell("it ends where each worker has an idle one", ends == (200, 0) and waited < 8 and are_closed(held), f"after {waited:.1f} seconds")
+    tell("it ends beside idle connections at once", ends == (200, 0) and waited < 4 and are_closed(held), f"after {waited:.1f} seconds")
+    for it in silent:
+        it.close()
 
 
 class Newcomers:

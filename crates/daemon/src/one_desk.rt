@@ -5,8 +5,9 @@ ghost use Rattle.service_tasks.specs.Later.{IsLater};
 use crate::running::Served;
 use alloc_desk::{Desk, DeskName, Pass};
 use allocation_core::Core;
+use event_loops::{Gate, Times};
 use http_get::Scrape;
-use sd_server::{DEFAULT_WORKERS, Handler, ListTexts, Times, Workers};
+use sd_server::{Handler, ListTexts};
 use service_state::Kept;
 use service_tasks::{Configuration, Crew, Ending, Office, Service, Shared};
 use std::alloc::{AllocError, AllocGlobal, Global};
@@ -163,7 +164,14 @@ fn handler_of<R: Wait + Copy, L: Ledger, B: Ledger, N: DeskName, S, F, C>(
         texts,
         doors,
         peer: None,
+        time: None,
+        gate: None,
     })
+}
+
+/// The gate of a server with as many connections as the office has.
+fn gate_of<S, F, C>(alloc: Global, office: &Office<S, F, C>) -> Result<Arc<Gate>, AllocError> {
+    shared(alloc, Gate::new(alloc, office.connections, Times::DEFAULT)?)
 }
 
 fn shared<T: Drop>(alloc: Global, value: T) -> Result<Arc<T>, AllocError> {
@@ -197,8 +205,7 @@ where
     F: Write + OpenFile + Send,
     C: Configuration + Send + Drop,
 {
-    let workers = Workers::new(handler.alloc, DEFAULT_WORKERS, Times::DEFAULT)?;
-    let here = office.listener.local_addr()?;
+    let gate = gate_of(handler.alloc, office)?;
     let shared = shared_by(rt, service, office, handler)?;
     shared.begin(&mut crew.scheduler, service, office)?;
     let served = Served {
@@ -206,8 +213,7 @@ where
         alloc: handler.alloc,
         shared: &shared,
         handler,
-        workers: &workers,
-        here,
+        gate: &gate,
     };
     served.run(office, crew)?;
     Ok(shared.ending())
@@ -260,6 +266,8 @@ fn closed<R: Drop, L: Ledger, B: Ledger, N: DeskName>(
         texts: _,
         doors: _,
         peer: _,
+        time: _,
+        gate: _,
     } = handler;
     let (Some(desk), Some(pass)) = (Arc::into_inner(desk), Arc::into_inner(pass)) else {
         return Err(io::ErrorKind::ResourceBusy.into());

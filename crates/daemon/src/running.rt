@@ -2,17 +2,18 @@
 ghost use Rattle.std.specs.Thread.{IsSend};
 
 use alloc_desk::{DeskName, Pass};
+use event_loops::Gate;
 use http_get::Scrape;
-use sd_server::{Handler, Workers, serve_by_workers};
+use sd_server::{DEFAULT_LOOPS, Handler, serve_by_loops};
 use service_tasks::{Configuration, Crew, JournalFile, Office, Schedule, Shared, Watch};
 use std::alloc::{AllocGlobal, Global};
 use std::fs::OpenFile;
 use std::io::Write;
-use std::net::{Net, SocketAddr, TcpListener, TcpStream};
+use std::net::{Net, TcpListener, TcpStream};
 use std::random::RandomSource;
-use std::sync::Wait;
 use std::sync::atomic::{AtomicBool, Ordering};
 use std::sync::ledger::Ledger;
+use std::sync::{Arc, Wait};
 use std::thread::Threads;
 use std::time::Clock;
 use std::{io, thread};
@@ -24,9 +25,7 @@ pub(crate) struct Served<'a, R, L: Ledger, B: Ledger, N: DeskName> {
     pub(crate) alloc: Global,
     pub(crate) shared: &'a Shared<R, L, B, N>,
     pub(crate) handler: &'a Handler<R, L, B, N>,
-    pub(crate) workers: &'a Workers,
-    /// Where the server listens.
-    pub(crate) here: SocketAddr,
+    pub(crate) gate: &'a Arc<Gate>,
 }
 
 impl<'a, R, L, B, N> Served<'a, R, L, B, N>
@@ -117,14 +116,21 @@ where
         }
     }
 
-    /// Answers requests until the workers are stopped. Where no server can be, the service ends.
+    /// Answers requests until the gate is stopped. Where no server can be, the service ends.
     fn serve(&self, listener: &TcpListener) -> io::Result<()> {
-        let served = serve_by_workers(&self.rt, self.alloc, self.workers, listener, self.handler);
+        let served = serve_by_loops(
+            &self.rt,
+            self.alloc,
+            DEFAULT_LOOPS,
+            self.gate,
+            listener,
+            self.handler,
+        );
         self.shared.quit();
         served
     }
 
     fn stop(&self) {
-        self.workers.stop(&self.rt, self.here);
+        self.gate.stop();
     }
 }

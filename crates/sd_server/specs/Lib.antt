@@ -1,4 +1,5 @@
 pub mod Replies
+pub mod Entries
 pub mod Says
 pub mod Listing
 pub mod Texts

@@ -15,6 +15,7 @@ use Rattle.sd_routes.specs.declared.request_error.RequestError.{RequestError}
 use Rattle.sd_routes.specs.declared.request_error.RequestError.TheVariants.{TooLong, Shape, Memory}
 use Rattle.sd_routes.specs.declared.responding.Said.{Said}
 use Rattle.sd_routes.specs.declared.responding.Said.TheVariants.{Refused}
+use Rattle.sd_server.specs.Entries.{Leads, MaySayEntry}
 use Rattle.sd_server.specs.Says.{Says}
 use Rattle.service_state.specs.declared.config_pages.ConfigPages.{ConfigPages}
 use Rattle.sd_server.specs.declared.reply.Reply.{Reply}
@@ -55,16 +56,16 @@ SaysAtMost opening pages came said = SaysRouted opening pages came said ⊎ (sai
 
 -- what the head of a request begins
 abbrev pub BeginsWith : State → ConfigPages → Ask → Begun → Type 0
-BeginsWith opening pages asked (begun.Said said) = (has_body asked ≡ false) × Says opening pages asked [] said
+BeginsWith opening pages asked (begun.Told entry route) = (has_body asked ≡ false) × Leads (Says opening pages asked []) entry
 BeginsWith opening pages asked (begun.Reads read) = (read ≡ asked) × (has_body asked ≡ true)
 
 abbrev pub Begins : State → ConfigPages → Result Ask RequestError → Begun → Type 0
-Begins opening pages came (begun.Said said) = SaysAtMost opening pages came said
+Begins opening pages came (begun.Told entry route) = Leads (SaysAtMost opening pages came) entry
 Begins opening pages came (begun.Reads asked) = (came ≡ Ok asked) × (has_body asked ≡ true)
 
 module _ {R L B N I : Type 0} {l : Ledger.Ghosts L} {b : Ledger.Ghosts B} {n : DeskName.Ghosts N} where
   abbrev pub CanGoOn : Stage R L B N I l b n → Type 0
-  CanGoOn (stage.Said said) = Unit {0}
+  CanGoOn (stage.Told entry) = Unit {0}
   CanGoOn (stage.Reading reading) = IsSome reading.body.collected
 
   -- it was not ready before its body was whole
@@ -73,8 +74,7 @@ module _ {R L B N I : Type 0} {l : Ledger.Ghosts L} {b : Ledger.Ghosts B} {n : D
 
   -- what a stage may still say
   abbrev pub MaySay : Stage R L B N I l b n → Said → Type 0
-  MaySay (stage.Said None) said = said ≡ Refused Memory
-  MaySay (stage.Said (Some saying)) said = said ≡ saying
+  MaySay (stage.Told entry) said = MaySayEntry entry said
   MaySay (stage.Reading reading) said = SaysRead n.opening (arc_value reading.handler.pages) reading.ask said
 
   -- the written form of something that it may say

@@ -146,6 +146,12 @@ SaysPage opening pages (ask.JobTargets job) said = SaysJob opening job (place_of
 SaysPage opening pages (ask.CollectorTargets job name) said = SaysCollector opening name (place_of job pages.names) said
 SaysPage opening pages _ said = Unit {0}
 
+-- what is asked waits for nothing
+abbrev pub IsAtOnce : Ask → Type 0
+IsAtOnce ask.Reload = ⊥
+IsAtOnce (ask.CollectorTargets job name) = ⊥
+IsAtOnce _ = Unit {0}
+
 -- some member is told at which a body is not of the documented shape
 abbrev pub IsMisshapen : Said → Type 0
 IsMisshapen (Misshapen name) = Unit {0}

@@ -6,15 +6,19 @@ ghost use Rattle.alloc_desk.specs.Views.{numbered_of, shares_of};
 ghost use Rattle.service_state.specs.Jobs.{place_of};
 ghost use Rattle.sd_server.specs.Texts.{certificate_text, job_text};
 ghost use Rattle.sd_server.specs.Listing.{IsGroups};
-ghost use Rattle.sd_server.specs.Says.{IsEntered, IsUncoveredText, OfSome, Says, SaysCollector, SaysCopy, SaysDocument, SaysEvent, SaysHeld, SaysJob, SaysListed, SaysLive, SaysMetrics, SaysNot, SaysPage, SaysQuit, SaysReady, SaysRefused, SaysReload, SaysTake, SaysText, SaysUncovered};
+ghost use Rattle.sd_server.specs.Entries.{Leads, OnceKept};
+ghost use Rattle.sd_server.specs.Says.{IsAtOnce, IsEntered, IsUncoveredText, OfSome, Says, SaysCollector, SaysCopy, SaysDocument, SaysEvent, SaysHeld, SaysJob, SaysListed, SaysLive, SaysMetrics, SaysNot, SaysPage, SaysQuit, SaysReady, SaysRefused, SaysReload, SaysTake, SaysText, SaysUncovered};
 
 use crate::certificate_page::certificate_page;
+use crate::counter::Counter;
+use crate::entry::{Entry, Later, Reload};
 use crate::list_text::ListText;
 use crate::list_texts::ListTexts;
 use crate::uncovered::{Uncovered, uncovered_of};
 use admission::Admission;
 use alloc_desk::{Desk, DeskName, EnterError, NumberedTarget, Pass, Receipt, Share};
 use allocation_core::{Answer, Event, Refusal};
+use event_loops::Gate;
 use fleet_events::{AllocationNumber, CollectorId, TargetId};
 use lists::{List, Plain, Text};
 use price_certificate::{Instance, Plan};
@@ -24,14 +28,16 @@ use sd_routes::{
     uncovered_page,
 };
 use service_state::{
-    ChangeNote, ConfigPages, EventKind, Figures, Kept, ServiceState, figures_of, metrics_page,
-    status_page,
+    Asked, ChangeNote, ConfigPages, EventKind, Figures, Kept, LONGEST_WAIT_MILLIS, Route,
+    ServiceState, figures_of, metrics_page, status_page,
 };
 use std::alloc::{AllocError, Global};
 use std::net::SocketAddr;
 use std::sync::ledger::Ledger;
 use std::sync::{Arc, Mutex, Wait};
-use std::time::Clock;
+use std::time::{Clock, Duration};
+use tokio::sync::oneshot::Receiver;
+use tokio::time::{Handle, Timeout};
 
 /// What a request is handled with: the runtime's handle, the desk, a pass of it and the configuration's pages.
 #[derive(Drop)]
@@ -50,6 +56,10 @@ pub struct Handler<R, L: Ledger, B: Ledger, N: DeskName> {
     pub doors: Arc<Admission>,
     /// Who asks, where that is known.
     pub peer: Option<SocketAddr>,
+    /// The timers of the loop, where something may be waited for.
+    pub time: Option<Handle>,
+    /// How many connections there are, where somebody tells.
+    pub gate: Option<Arc<Gate>>,
 }
 
 impl<R: Wait + Clock + Copy, L: Ledger, B: Ledger, N: DeskName> Handler<R, L, B, N> {
@@ -68,23 +78,57 @@ impl<R: Wait + Clock + Copy, L: Ledger, B: Ledger, N: DeskName> Handler<R, L, B,
             texts: Arc::try_clone(&self.texts)?,
             doors: Arc::try_clone(&self.doors)?,
             peer: self.peer,
+            time: self.timers()?,
+            gate: self.same_gate()?,
         })
     }
 
-    /// Counts a request that asks for this, or has no route, by what it is told.
-    pub(crate) fn count_request(&self, ask: Option<&Ask>, said: &Said) {
-        self.state
-            .count_request(&self.rt, ask, said.status().as_u16());
+    /// Another for the same desk and the same pass, with the timers and the gate of a loop.
+    pub(crate) fn of_loop(
+        &self,
+        time: &Handle,
+        gate: &Arc<Gate>,
+    ) -> Result<Handler<R, L, B, N>, AllocError> {
+        let mut handler = self.another()?;
+        handler.time = Some(time.clone()?);
+        handler.gate = Some(Arc::try_clone(gate)?);
+        Ok(handler)
     }
 
-    /// What is told to a request with this body.
-    pub fn said(&self, ask: &Ask, body: &[u8]) -> Said
-        ensures { Says N.opening (arc_value self.now.pages) ask.now body.now result }
+    /// The gate once more, where there is one.
+    fn same_gate(&self) -> Result<Option<Arc<Gate>>, AllocError> {
+        match &self.gate {
+            Some(gate) => Ok(Some(Arc::try_clone(gate)?)),
+            None => Ok(None),
+        }
+    }
+
+    /// The timers once more, where there are some.
+    fn timers(&self) -> Result<Option<Handle>, AllocError> {
+        match &self.time {
+            Some(time) => Ok(Some(time.clone()?)),
+            None => Ok(None),
+        }
+    }
+
+    /// What counts a request of a route, once it is told something.
+    pub(crate) fn counter(&self, route: Route) -> Option<Counter<R>> {
+        let state = Arc::try_clone(&self.state).ok()?;
+        Some(Counter {
+            rt: self.rt,
+            state,
+            route,
+        })
+    }
+
+    /// What a request with this body is told, or what that waits for.
+    pub fn entry(&self, ask: &Ask, body: &[u8]) -> Entry
+        ensures { Leads (Says N.opening (arc_value self.now.pages) ask.now body.now) result }
     {
         match event_of(self.alloc, ask, body) {
             Ok(Some(event)) => self.entered(event),
             Ok(None) => self.shown(ask),
-            Err(error) => self.refused(ask, body, error),
+            Err(error) => Entry::Now(self.refused(ask, body, error)),
         }
     }
 
@@ -101,16 +145,16 @@ impl<R: Wait + Clock + Copy, L: Ledger, B: Ledger, N: DeskName> Handler<R, L, B,
         }
     }
 
-    fn entered(&self, event: Event) -> Said
-        ensures { SaysEvent N.opening event result }
+    fn entered(&self, event: Event) -> Entry
+        ensures { Leads (SaysEvent N.opening event) result }
     {
         let change = self.change_of(&event);
         match self.submitted(event) {
             Ok(receipt) => {
                 self.note_change(change, &receipt.answer);
-                Said::Answer(receipt.answer)
+                self.once_kept(receipt.position, Said::Answer(receipt.answer))
             }
-            Err(error) => Said::Refused(error),
+            Err(error) => Entry::Now(Said::Refused(error)),
         }
     }
 
@@ -148,8 +192,19 @@ impl<R: Wait + Clock + Copy, L: Ledger, B: Ledger, N: DeskName> Handler<R, L, B,
         }
     }
 
-    fn shown(&self, ask: &Ask) -> Said
-        ensures { SaysPage N.opening (arc_value self.now.pages) ask.now result }
+    fn shown(&self, ask: &Ask) -> Entry
+        ensures { Leads (SaysPage N.opening (arc_value self.now.pages) ask.now) result }
+    {
+        match ask {
+            Ask::Reload => self.reload(),
+            Ask::CollectorTargets { job, name } => self.collector(job.as_str(), name),
+            _ => Entry::Now(self.page(ask)),
+        }
+    }
+
+    /// What is told at once.
+    fn page(&self, ask: &Ask) -> Said
+        ensures { IsAtOnce ask.now → SaysPage N.opening (arc_value self.now.pages) ask.now result }
     {
         match ask {
             Ask::ScrapeConfigs => copied(&self.pages.scrape_configs),
@@ -159,15 +214,17 @@ impl<R: Wait + Clock + Copy, L: Ledger, B: Ledger, N: DeskName> Handler<R, L, B,
             Ask::Live => self.live(),
             Ask::Ready => self.ready(),
             Ask::Metrics => self.metrics(),
-            Ask::Reload => self.reload(),
             Ask::Quit => self.quit(),
             Ask::Status => self.status(),
             Ask::Uncovered(job) => self.uncovered(job.as_str()),
             Ask::JobTargets(job) => self.job(job.as_str()),
-            Ask::CollectorTargets { job, name } => self.collector(job.as_str(), name),
-            Ask::Join | Ask::Leave(_) | Ask::Drain(_) | Ask::SetLimits(_) | Ask::Report => {
-                Said::Refused(RequestError::Memory)
-            }
+            Ask::Reload
+            | Ask::CollectorTargets { .. }
+            | Ask::Join
+            | Ask::Leave(_)
+            | Ask::Drain(_)
+            | Ask::SetLimits(_)
+            | Ask::Report => Said::Refused(RequestError::Memory),
         }
     }
 
@@ -189,16 +246,18 @@ impl<R: Wait + Clock + Copy, L: Ledger, B: Ledger, N: DeskName> Handler<R, L, B,
         Said::Notice(Notice::NotReady)
     }
 
-    fn reload(&self) -> Said
-        ensures { SaysReload result }
+    fn reload(&self) -> Entry
+        ensures { Leads SaysReload result }
     {
         if !self.state.has_lifecycle() {
-            return Said::Notice(Notice::NoLifecycle);
+            return Entry::Now(Said::Notice(Notice::NoLifecycle));
         }
-        match self.state.reloading().ask(&self.rt, self.alloc) {
-            Ok(Ok(changes)) => Said::Reloaded(changes),
-            Ok(Err(fault)) => Said::NotReloaded(fault),
-            Err(_) => Said::Refused(RequestError::Memory),
+        match self.state.reloading().ask(&self.rt) {
+            Ok(told) => Entry::Reload(Reload {
+                alloc: self.alloc,
+                told,
+            }),
+            Err(_) => Entry::Now(Said::Refused(RequestError::Memory)),
         }
     }
 
@@ -221,6 +280,9 @@ impl<R: Wait + Clock + Copy, L: Ledger, B: Ledger, N: DeskName> Handler<R, L, B,
     }
 
     fn metrics_text(&self) -> Result<Text, AllocError> {
+        if let Some(gate) = &self.gate {
+            self.state.set_connections(gate.taken(), gate.most());
+        }
         let figures = self.figures()?;
         let notes = self.state.notes(&self.rt, self.alloc)?;
         metrics_page(self.alloc, &figures, &notes, &self.state)
@@ -329,21 +391,21 @@ impl<R: Wait + Clock + Copy, L: Ledger, B: Ledger, N: DeskName> Handler<R, L, B,
         )
     }
 
-    fn collector(&self, job: &str, name: &CollectorName) -> Said
-        ensures { SaysCollector N.opening name.now (place_of job.now (arc_value self.now.pages).names) result }
+    fn collector(&self, job: &str, name: &CollectorName) -> Entry
+        ensures { Leads (SaysCollector N.opening name.now (place_of job.now (arc_value self.now.pages).names)) result }
     {
         let Some(place) = self.pages.place(job) else {
-            return Said::Answer(Answer::Not(Refusal::UnknownJob));
+            return Entry::Now(Said::Answer(Answer::Not(Refusal::UnknownJob)));
         };
         self.held(place, name.as_str())
     }
 
-    fn held(&self, place: usize, name: &str) -> Said
-        ensures { SaysHeld N.opening place name.now result }
+    fn held(&self, place: usize, name: &str) -> Entry
+        ensures { Leads (SaysHeld N.opening place name.now) result }
     {
         match self.named(name) {
             Some(collector) => self.taken(place, collector),
-            None => Said::Answer(Answer::Not(Refusal::UnknownCollector)),
+            None => Entry::Now(Said::Answer(Answer::Not(Refusal::UnknownCollector))),
         }
     }
 
@@ -354,12 +416,16 @@ impl<R: Wait + Clock + Copy, L: Ledger, B: Ledger, N: DeskName> Handler<R, L, B,
         self.desk.named(&self.rt, &mut *pass, name)
     }
 
-    fn taken(&self, place: usize, collector: CollectorId) -> Said
-        ensures { SaysTake N.opening place collector result }
+    fn taken(&self, place: usize, collector: CollectorId) -> Entry
+        ensures { Leads (SaysTake N.opening place collector) result }
     {
         match self.submitted(Event::Take(collector)) {
-            Ok(receipt) => self.listed(place, collector, receipt.answer),
-            Err(error) => Said::Refused(error),
+            Ok(receipt) => {
+                let position = receipt.position;
+                let listed = self.listed(place, collector, receipt.answer);
+                self.once_kept(position, listed)
+            }
+            Err(error) => Entry::Now(Said::Refused(error)),
         }
     }
 
@@ -433,7 +499,7 @@ impl<R: Wait + Clock + Copy, L: Ledger, B: Ledger, N: DeskName> Handler<R, L, B,
             .numbered(&self.rt, self.alloc, &mut *pass, place, held)
     }
 
-    /// The receipt of an event that was entered and is kept.
+    /// The receipt of an event that was entered.
     fn submitted(&self, event: Event) -> Result<Receipt, RequestError>
         ensures receipt { IfOk result (IsEntered N.opening event) }
         ensures not { IfErr result (SaysNot N.opening) }
@@ -444,10 +510,7 @@ impl<R: Wait + Clock + Copy, L: Ledger, B: Ledger, N: DeskName> Handler<R, L, B,
         let kind = EventKind::of(&event);
         let receipt = self.entered_now(event)?;
         self.state.count_event(&self.rt, kind, &receipt.answer);
-        if self.keeps(receipt.position) {
-            return Ok(receipt);
-        }
-        Err(RequestError::NotKept)
+        Ok(receipt)
     }
 
     /// Whether what is submitted cannot be kept.
@@ -458,11 +521,38 @@ impl<R: Wait + Clock + Copy, L: Ledger, B: Ledger, N: DeskName> Handler<R, L, B,
         }
     }
 
-    /// Waits until the entry at a position is kept, where it is to be, and says whether it is.
-    fn keeps(&self, position: u64) -> bool {
-        match &self.kept {
-            Some(kept) => kept.wait(&self.rt, position),
-            None => true,
+    /// What is said once the entry at a position is kept, where it is to be.
+    fn once_kept(&self, position: u64, said: Said) -> Entry
+        ensures { Leads (OnceKept said) result }
+    {
+        let Some(kept) = &self.kept else {
+            return Entry::Now(said);
+        };
+        match kept.ask(&self.rt, position) {
+            Ok(Asked::Known(true)) => Entry::Now(said),
+            Ok(Asked::Told(told)) => self.later(told, said),
+            _ => Entry::Now(Said::Refused(RequestError::NotKept)),
+        }
+    }
+
+    fn later(&self, told: Receiver<bool>, said: Said) -> Entry
+        ensures { Leads (OnceKept said) result }
+    {
+        match self.waiting(told) {
+            Some(told) => Entry::Later(Later {
+                said: Some(said),
+                told,
+            }),
+            None => Entry::Now(Said::Refused(RequestError::NotKept)),
+        }
+    }
+
+    /// What waits for it, where there are timers, and for how long at most.
+    fn waiting(&self, told: Receiver<bool>) -> Option<Timeout<Receiver<bool>>> {
+        let longest = Duration::from_millis(LONGEST_WAIT_MILLIS);
+        match &self.time {
+            Some(time) => time.timeout(&self.rt, longest, told).ok(),
+            None => None,
         }
     }
 

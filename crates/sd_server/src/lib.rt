@@ -5,27 +5,23 @@
 //! opening state. Of connections, time and order they say nothing.
 #![tactic(auto)]
 
-mod by_workers;
+mod by_loops;
 mod certificate_page;
+mod counter;
+mod entry;
 mod handler;
-mod lingering;
 mod list_text;
 mod list_texts;
 mod one_by_one;
-mod pace;
 mod reply;
 mod service;
 mod spoken;
-mod timed;
-mod times;
 mod uncovered;
-mod workers;
 
-pub use by_workers::serve_by_workers;
+pub use by_loops::{DEFAULT_LOOPS, serve_by_loops};
+pub use entry::Entry;
 pub use handler::Handler;
 pub use list_texts::ListTexts;
 pub use one_by_one::serve_one_by_one;
 pub use reply::Reply;
 pub use service::AllocatorService;
-pub use times::Times;
-pub use workers::{DEFAULT_WORKERS, Workers};

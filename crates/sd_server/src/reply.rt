@@ -1,10 +1,14 @@
-//! A reply: the response to a request, once its body has come.
-ghost use Rattle.std.specs.Prelude.{◌≡◌, ◌⊎◌};
+//! A reply: the response to a request, once its body has come and what it rests on is kept.
+ghost use Rattle.std.specs.Prelude.{◌≡◌, ◌⊎◌, IfOk};
 ghost use Rattle.std.specs.Arc.{arc_value};
 ghost use Rattle.sd_routes.specs.declared.request_error.RequestError.TheVariants.{Shape, Memory};
 ghost use Rattle.sd_routes.specs.declared.responding.Said.{Said};
-ghost use Rattle.sd_server.specs.Replies.{CanRead, Gives, MaySay, SaysRead};
+ghost use Rattle.sd_routes.specs.declared.responding.Said.TheVariants.{Refused};
+ghost use Rattle.sd_server.specs.Entries.{Leads, MaySayEntry};
+ghost use Rattle.sd_server.specs.Replies.{CanRead, Gives, MaySay, SaysRead, Writes};
 
+use crate::counter::Counter;
+use crate::entry::Entry;
 use crate::handler::Handler;
 use admission::LONGEST_BODY;
 use alloc_desk::DeskName;
@@ -16,23 +20,26 @@ use http_body_util::combinators::Collect;
 use http_body_util::{BodyExt, Collected, Full, Limited, LimitedError};
 use hyper::body::Incoming;
 use sd_routes::{Ask, RequestError, Said, answer};
+use service_state::Route;
 use std::alloc::{AllocError, Global};
 use std::sync::Wait;
 use std::sync::ledger::Ledger;
 use std::time::Clock;
 
-/// The response to a request, once its body has come.
+/// The response to a request, once its body has come and what it rests on is kept.
 #[derive(Drop)]
 pub struct Reply<R, L: Ledger, B: Ledger, N: DeskName, I> {
     alloc: Global,
     stage: Stage<R, L, B, N, I>,
     /// Whether there is a body that is not read.
     closes: bool,
+    /// What counts the request once it is told something.
+    counter: Option<Counter<R>>,
 }
 
 #[derive(Drop)]
 enum Stage<R, L: Ledger, B: Ledger, N: DeskName, I> {
-    Said(Option<Said>),
+    Told(Entry),
     Reading(Reading<R, L, B, N, I>),
 }
 
@@ -46,17 +53,25 @@ struct Reading<R, L: Ledger, B: Ledger, N: DeskName, I> {
 
 impl<R, L: Ledger, B: Ledger, N: DeskName, I: Drop> Reply<R, L, B, N, I> {
     /// A reply to a request whose body is not read.
-    pub(crate) fn of(alloc: Global, said: Said, closes: bool) -> Reply<R, L, B, N, I>
+    pub(crate) fn of(
+        alloc: Global,
+        counter: Option<Counter<R>>,
+        entry: Entry,
+        closes: bool,
+    ) -> Reply<R, L, B, N, I>
         ensures can_read { CanRead result }
-        ensures says { (other : Said) → MaySay result.stage other → other ≡ said }
+        ensures says { (said : Said) → MaySay result.stage said → MaySayEntry entry said }
     {
         Reply {
             alloc,
-            stage: Stage::Said(Some(said)),
+            stage: Stage::Told(entry),
             closes,
+            counter,
         }
     }
+}
 
+impl<R: Wait + Clock + Copy, L: Ledger, B: Ledger, N: DeskName, I: Drop> Reply<R, L, B, N, I> {
     /// A reply to a request with this body.
     pub(crate) fn to(
         handler: Handler<R, L, B, N>,
@@ -67,38 +82,48 @@ impl<R, L: Ledger, B: Ledger, N: DeskName, I: Drop> Reply<R, L, B, N, I> {
         ensures says { (said : Said) → MaySay result.stage said → SaysRead N.opening (arc_value handler.pages) ask said }
     {
         let alloc = handler.alloc;
+        let counter = handler.counter(Route::of(Some(&ask)));
         let body = Limited::new(body, LONGEST_BODY as usize).collect(alloc);
         Reply {
             alloc,
             stage: Stage::Reading(Reading { handler, ask, body }),
             closes: false,
+            counter,
         }
+    }
+
+    /// The response that says it. The request is counted.
+    fn answered(&self, said: Said) -> Result<Response<Full<Bytes>>, AllocError>
+        ensures { IfOk result (Writes self.now.closes said) }
+    {
+        if let Some(counter) = &self.counter {
+            counter.count(&said);
+        }
+        answer(self.alloc, said, self.closes)
     }
 }
 
 impl<R: Wait + Clock + Copy, L: Ledger, B: Ledger, N: DeskName, I: Drop> Reading<R, L, B, N, I> {
-    /// What is said once the body has come. It is counted.
-    fn said(&self, read: Result<Collected, LimitedError<hyper::Error>>) -> Said
-        ensures { SaysRead N.opening (arc_value self.now.handler.pages) self.now.ask result }
-    {
-        let said = self.said_of(read);
-        self.handler.count_request(Some(&self.ask), &said);
-        said
-    }
-
-    fn said_of(&self, read: Result<Collected, LimitedError<hyper::Error>>) -> Said
-        ensures { SaysRead N.opening (arc_value self.now.handler.pages) self.now.ask result }
+    /// What is said once the body has come, or what that waits for.
+    fn entry(&self, read: Result<Collected, LimitedError<hyper::Error>>) -> Entry
+        ensures { Leads (SaysRead N.opening (arc_value self.now.handler.pages) self.now.ask) result }
     {
         let collected = match read {
             Ok(collected) => collected,
-            Err(LimitedError::LengthLimit) => return Said::Refused(RequestError::TooLong),
-            Err(LimitedError::Body(error)) => return Said::Refused(unread(&error)),
+            Err(LimitedError::LengthLimit) => return refused(RequestError::TooLong),
+            Err(LimitedError::Body(error)) => return refused(unread(&error)),
         };
         match collected.to_bytes() {
-            Ok(bytes) => self.handler.said(&self.ask, bytes.as_slice()),
-            Err(_) => Said::Refused(RequestError::Memory),
+            Ok(bytes) => self.handler.entry(&self.ask, bytes.as_slice()),
+            Err(_) => refused(RequestError::Memory),
         }
     }
+}
+
+fn refused(error: RequestError) -> Entry
+    ensures { Leads (λ said. said ≡ Refused error) result }
+{
+    Entry::Now(Said::Refused(error))
 }
 
 /// Why a body that was not read is refused.
@@ -121,13 +146,17 @@ impl<R: Wait + Clock + Copy + Drop, L: Ledger, B: Ledger, N: DeskName, I: Drop> 
     ghost gives = { Gives };
 
     fn poll(&mut self, cx: &mut Context<'_>) -> Poll<Result<Response<Full<Bytes>>, AllocError>> {
-        let said = match &mut self.stage {
-            Stage::Said(said) => said.take().unwrap_or(Said::Refused(RequestError::Memory)),
+        match &mut self.stage {
+            Stage::Told(entry) => {
+                let said = ready!(entry.poll(cx));
+                Poll::Ready(self.answered(said))
+            }
             Stage::Reading(reading) => {
                 let read = ready!(reading.body.poll(cx));
-                reading.said(read)
+                let entry = reading.entry(read);
+                self.stage = Stage::Told(entry);
+                cx.yield_now()
             }
-        };
-        Poll::Ready(answer(self.alloc, said, self.closes))
+        }
     }
 }

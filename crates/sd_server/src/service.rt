@@ -1,12 +1,17 @@
 //! The service that a connection calls for each request.
+ghost use Rattle.std.specs.Prelude.{◌≡◌};
 ghost use Rattle.std.specs.Arc.{arc_value};
 ghost use Rattle.http.specs.Request as request;
 ghost use Rattle.http_uri.specs.Uri.{uri_path, uri_query};
 ghost use Rattle.sd_routes.specs.Asks.{asked};
 ghost use Rattle.admission.specs.Admission.{let_in};
 ghost use Rattle.sd_routes.specs.Gives.{Gives};
-ghost use Rattle.sd_server.specs.Replies.{Begins, BeginsWith, IsReplyTo};
+ghost use Rattle.sd_server.specs.Replies.{Begins, BeginsWith, CanRead, IsReplyTo, MaySay};
+ghost use Rattle.sd_routes.specs.declared.request_error.RequestError.TheVariants.{Memory};
+ghost use Rattle.sd_routes.specs.declared.responding.Said.{Said};
+ghost use Rattle.sd_routes.specs.declared.responding.Said.TheVariants.{Refused};
 
+use crate::entry::Entry;
 use crate::handler::Handler;
 use crate::reply::Reply;
 use admission::has_body;
@@ -18,6 +23,7 @@ use http_body_util::Full;
 use hyper::body::Incoming;
 use hyper::service::Service;
 use sd_routes::{Ask, RequestError, Routes, Said, route};
+use service_state::Route;
 use std::alloc::AllocError;
 use std::net::SocketAddr;
 use std::sync::ledger::Ledger;
@@ -32,10 +38,10 @@ pub struct AllocatorService<R, L: Ledger, B: Ledger, N: DeskName> {
     pub routes: Arc<Routes>,
 }
 
-/// What a head comes to: an answer at once, or a body to be read.
+/// What a head comes to: something that is said, to a request of this route, or a body to be read.
 #[derive(Drop)]
 enum Begun {
-    Said(Said),
+    Told(Entry, Route),
     Reads(Ask),
 }
 
@@ -57,11 +63,7 @@ impl<R: Wait + Clock + Copy, L: Ledger, B: Ledger, N: DeskName> AllocatorService
     {
         match self.came(head) {
             Ok(ask) => self.begin_with(ask),
-            Err(error) => {
-                let said = Said::Refused(error);
-                self.handler.count_request(None, &said);
-                Begun::Said(said)
-            }
+            Err(error) => Begun::Told(Entry::Now(Said::Refused(error)), Route::of(None)),
         }
     }
 
@@ -82,16 +84,21 @@ impl<R: Wait + Clock + Copy, L: Ledger, B: Ledger, N: DeskName> AllocatorService
         }
     }
 
+    /// Of a request whose body is not read.
+    fn without_memory<I: Drop>(&self) -> Reply<R, L, B, N, I>
+        ensures can_read { CanRead result }
+        ensures says { (said : Said) → MaySay result.stage said → said ≡ Refused Memory }
+    {
+        let entry = Entry::Now(Said::Refused(RequestError::Memory));
+        Reply::of(self.handler.alloc, None, entry, true)
+    }
+
     fn begin_with(&self, ask: Ask) -> Begun
         ensures { BeginsWith N.opening (arc_value self.now.handler.pages) ask result }
     {
         match ask {
             Ask::Join | Ask::Drain(_) | Ask::SetLimits(_) | Ask::Report => Begun::Reads(ask),
-            _ => {
-                let said = self.handler.said(&ask, b"");
-                self.handler.count_request(Some(&ask), &said);
-                Begun::Said(said)
-            }
+            _ => Begun::Told(self.handler.entry(&ask, b""), Route::of(Some(&ask))),
         }
     }
 }
@@ -112,14 +119,13 @@ impl<R: Wait + Clock + Copy + Drop, L: Ledger, B: Ledger, N: DeskName, I: Drop> 
     fn call(&self, req: Request<Incoming<I>>) -> Reply<R, L, B, N, I> {
         let (head, body) = req.into_parts();
         match self.begin(&head) {
-            Begun::Said(said) => Reply::of(self.handler.alloc, said, has_body(&head.headers)),
+            Begun::Told(entry, route) => {
+                let counter = self.handler.counter(route);
+                Reply::of(self.handler.alloc, counter, entry, has_body(&head.headers))
+            }
             Begun::Reads(ask) => match self.handler.another() {
                 Ok(handler) => Reply::to(handler, ask, body),
-                Err(_) => Reply::of(
-                    self.handler.alloc,
-                    Said::Refused(RequestError::Memory),
-                    true,
-                ),
+                Err(_) => self.without_memory(),
             },
         }
     }

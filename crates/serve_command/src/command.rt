@@ -1,6 +1,6 @@
 //! The command: what its options ask for, and what it tells of it.
 use crate::configuration::ConfigurationFile;
-use crate::descriptors::check_descriptors;
+use crate::descriptors::most_connections;
 use crate::documents::{read_document, service_in};
 use crate::doors::admission_at;
 use crate::listening::{listen_address, listener_at};
@@ -220,6 +220,8 @@ where
         + Copy
         + Drop,
 {
+    let mut service = service;
+    service.set_connections(most_connections(rt, rt.alloc())?);
     match opened(rt, host, options, document, here) {
         Ok((configuration, listener)) => {
             serve_journal(rt, rt.alloc(), service, configuration, listener, journal)
@@ -245,7 +247,6 @@ where
         + Copy,
 {
     warn_of(rt, rt.alloc(), document)?;
-    check_descriptors(rt, rt.alloc())?;
     let configuration = ConfigurationFile::new(host, rt.alloc(), options.config, here)?;
     let listener = listener_at(rt, here)?;
     Ok((configuration, listener))

@@ -1,26 +1,32 @@
 //! How many descriptors the service may have open.
 use journal_files::Fault;
+use service_tasks::MOST_CONNECTIONS;
 use std::alloc::{AllocError, Global};
 use std::fs::File;
 use std::io;
 use std::io::Read;
 use std::rt::Files;
 
-/// How many descriptors a service needs: four for each connection that is served at once, and some for its files and sources.
-const NEEDED: u64 = 320;
+/// How many descriptors a service keeps for its files, sources and loops.
+const KEPT: u64 = 64;
+
+/// How many descriptors a service needs, so that it serves some connections at once, one for each.
+const NEEDED: u64 = 128;
 
 /// What the kernel says of the limits of this process.
 const LIMITS: &str = "/proc/self/limits";
 
-/// Refuses to serve where too few descriptors may be open. What cannot be read is no limit.
-pub(crate) fn check_descriptors<R: Files<File = File>>(rt: &R, alloc: Global) -> Result<(), Fault> {
+/// How many connections there may be at once with the descriptors that may be open. Where those are too few it is refused to serve; what
+/// cannot be read is no limit.
+pub(crate) fn most_connections<R: Files<File = File>>(rt: &R, alloc: Global) -> Result<u16, Fault> {
     let limits = match read_limits(rt, alloc) {
         Ok(limits) => limits,
-        Err(_) => return Ok(()),
+        Err(_) => return Ok(MOST_CONNECTIONS),
     };
     match most_open(limits.as_str()) {
         Some(most) if most < NEEDED => Err(too_few(alloc, most)),
-        _ => Ok(()),
+        Some(most) => Ok(u16::try_from(most.saturating_sub(KEPT)).unwrap_or(MOST_CONNECTIONS)),
+        None => Ok(MOST_CONNECTIONS),
     }
 }
 

@@ -128,6 +128,8 @@ fn with_pages<R: Copy, L: Ledger, B: Ledger, N: DeskName>(
             texts,
             doors,
             peer: None,
+            time: None,
+            gate: None,
         }),
         _ => None,
     }

@@ -176,7 +176,10 @@ fn said_at<L: Ledger, B: Ledger, N: DeskName, R: Wait + Clock + Copy>(
     body: &str,
 ) -> Said {
     match route(routes, alloc, method, target) {
-        Ok(ask) => handler.said(&ask, body.as_bytes()),
+        Ok(ask) => match handler.entry(&ask, body.as_bytes()) {
+            Entry::Now(said) => said,
+            Entry::Later(_) | Entry::Reload(_) => Said::Refused(RequestError::Memory),
+        },
         Err(error) => Said::Refused(error),
     }
 }

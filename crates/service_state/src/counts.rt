@@ -70,6 +70,24 @@ pub(crate) const ANSWERS: [&str; 28] = [
 /// How many of the answers are of events that were done.
 const DONE: usize = 9;
 
+/// A route as requests are counted, or that there is none.
+#[derive(Clone, Copy, Debug, PartialEq, Eq)]
+pub struct Route {
+    /// Its place among the routes.
+    place: usize,
+}
+
+impl Route {
+    /// The route of what is asked for. Without it, that of what has no route.
+    pub fn of(ask: Option<&Ask>) -> Route {
+        let place = match ask {
+            Some(ask) => place_of(ask),
+            None => ROUTES.len() - 1,
+        };
+        Route { place }
+    }
+}
+
 /// What an event is.
 #[derive(Clone, Copy, Debug)]
 pub enum EventKind {
@@ -140,14 +158,10 @@ impl Counts {
         }
     }
 
-    /// One request more that is answered with this status. It asks for this, or has no route.
-    pub(crate) fn count_request(&mut self, ask: Option<&Ask>, status: u16) {
-        let route = match ask {
-            Some(ask) => place_of(ask),
-            None => ROUTES.len() - 1,
-        };
+    /// One request more that is answered with this status.
+    pub(crate) fn count_request(&mut self, route: Route, status: u16) {
         let status = STATUSES.iter().position(|other| *other == status);
-        if let Some(of_route) = self.requests.get_mut(route) {
+        if let Some(of_route) = self.requests.get_mut(route.place) {
             count(of_route, status.unwrap_or(STATUSES.len() - 1));
         }
     }

@@ -19,11 +19,11 @@ mod service_state;
 
 pub use changes::{ChangeNote, Changes};
 pub use config_pages::ConfigPages;
-pub use counts::EventKind;
+pub use counts::{EventKind, Route};
 pub use figures::{Figures, figures_of};
-pub use kept::Kept;
+pub use kept::{Asked, Kept, LONGEST_WAIT_MILLIS};
 pub use metrics::metrics_page;
 pub use notes::{AllocationNote, Notes, SourceNote};
 pub use page::status_page;
-pub use reloading::Reloading;
+pub use reloading::{Reloading, unanswered};
 pub use service_state::ServiceState;

@@ -148,7 +148,7 @@ fn write_state(page: &mut Exposition, state: &ServiceState) -> Result<(), AllocE
         page,
         "allocd_http_connections_max",
         "Connections that are served at once at most.",
-        u128::from(state.workers()),
+        u128::from(state.most_connections()),
     )?;
     let name = "allocd_http_accept_failures_total";
     let count = u128::from(state.failed_accepts());

@@ -1,73 +1,79 @@
 //! How a request has the service read its configuration again.
 use lists::{Plain, Text};
 use std::alloc::{AllocError, Global};
-use std::sync::{Condvar, Mutex, Wait};
+use std::mem;
+use std::sync::{Mutex, Wait};
+use tokio::sync::oneshot;
+use tokio::sync::oneshot::{Receiver, Sender};
 
 const CLOSED: &str =
     "The service ends, or opens another desk, which reads its configuration at once: ask again to be told.\n";
 
-/// How a request has the service read its configuration again: it waits until the service has done so, and is told what became of it.
+/// How a request has the service read its configuration again: it is told what became of it once the service has done so.
 #[derive(Drop)]
 pub struct Reloading {
+    alloc: Global,
     talk: Mutex<Talk>,
-    changed: Condvar,
 }
 
 #[derive(Drop)]
 struct Talk {
-    /// How many requests there were.
-    asked: u64,
-    /// How many of them are answered.
-    answered: u64,
+    /// Whether there is a request that is not answered.
+    is_asked: bool,
     /// Whether the service answers.
     is_open: bool,
-    /// The line of what the configuration that was read last changes, or why it is not taken. Nothing before the first.
-    outcome: Option<Result<Text, Text>>,
+    waiting: Vec<Sender<Result<Text, Text>>>,
+}
+
+/// What somebody is told whom nobody answers.
+pub fn unanswered(alloc: Global) -> Result<Text, AllocError> {
+    Text::from_str(alloc, CLOSED)
 }
 
 impl Reloading {
-    pub(crate) fn new() -> Reloading {
+    pub(crate) fn new(alloc: Global) -> Reloading {
         Reloading {
+            alloc,
             talk: Mutex::new(Talk {
-                asked: 0,
-                answered: 0,
+                is_asked: false,
                 is_open: false,
-                outcome: None,
+                waiting: Vec::new(alloc),
             }),
-            changed: Condvar::new(),
         }
     }
 
-    /// Waits until the configuration is read again, and gives the line that tells what it changes, or the line that tells why it is not taken.
-    pub fn ask(&self, rt: &impl Wait, alloc: Global) -> Result<Result<Text, Text>, AllocError> {
+    /// Has the configuration read again, and gives who will give the line that tells what it changes, or the line that tells why it is
+    /// not taken. Where he gives none, nobody answers.
+    pub fn ask(&self, rt: &impl Wait) -> Result<Receiver<Result<Text, Text>>, AllocError> {
+        let (teller, told) = oneshot::channel(self.alloc)?;
         let mut talk = self.talk.lock(rt);
-        talk.asked = talk.asked.saturating_add(1);
-        let turn = talk.asked;
-        let talk = self
-            .changed
-            .wait_while(rt, talk, |talk| talk.is_open && talk.answered < turn);
-        if talk.answered < turn {
-            return Ok(Err(Text::from_str(alloc, CLOSED)?));
+        talk.is_asked = true;
+        if talk.is_open {
+            talk.waiting.push(teller)?;
         }
-        match &talk.outcome {
-            Some(Ok(changes)) => Ok(Ok(changes.copy()?)),
-            Some(Err(fault)) => Ok(Err(fault.copy()?)),
-            None => Ok(Err(Text::from_str(alloc, CLOSED)?)),
-        }
+        Ok(told)
     }
 
-    /// Whether somebody waits for the configuration to be read again.
+    /// Whether somebody asks for the configuration to be read again.
     pub fn is_asked(&self, rt: &impl Wait) -> bool {
-        let talk = self.talk.lock(rt);
-        talk.answered < talk.asked
+        self.talk.lock(rt).is_asked
     }
 
     /// Tells all who wait by a line what the configuration changes, or why it is not taken.
     pub fn answer(&self, rt: &impl Wait, outcome: Result<Text, Text>) {
+        for teller in self.answered(rt) {
+            // Where there is no memory, he is told that nobody answers.
+            if let Ok(told) = copied(&outcome) {
+                let _ = teller.send(told);
+            }
+        }
+    }
+
+    /// What was asked is answered. Gives all who wait for it.
+    fn answered(&self, rt: &impl Wait) -> Vec<Sender<Result<Text, Text>>> {
         let mut talk = self.talk.lock(rt);
-        talk.answered = talk.asked;
-        talk.outcome = Some(outcome);
-        self.changed.notify_all();
+        talk.is_asked = false;
+        mem::replace(&mut talk.waiting, Vec::new(self.alloc))
     }
 
     /// From now on there is somebody who answers.
@@ -77,7 +83,15 @@ impl Reloading {
 
     /// From now on nobody answers, and nobody waits.
     pub fn close(&self, rt: &impl Wait) {
-        self.talk.lock(rt).is_open = false;
-        self.changed.notify_all();
+        let mut talk = self.talk.lock(rt);
+        talk.is_open = false;
+        talk.waiting.clear();
+    }
+}
+
+fn copied(outcome: &Result<Text, Text>) -> Result<Result<Text, Text>, AllocError> {
+    match outcome {
+        Ok(changes) => Ok(Ok(changes.copy()?)),
+        Err(fault) => Ok(Err(fault.copy()?)),
     }
 }

@@ -1,10 +1,9 @@
 //! What a service says of itself beside its desk.
 use crate::changes::{ChangeNote, Changes};
-use crate::counts::EventKind;
+use crate::counts::{EventKind, Route};
 use crate::notes::{AllocationNote, Notes, SourceNote};
 use crate::reloading::Reloading;
 use fleet_events::Answer;
-use sd_routes::Ask;
 use std::alloc::{AllocError, Global};
 use std::sync::atomic::{AtomicBool, AtomicU64, Ordering};
 use std::sync::{Arc, Mutex, Wait};
@@ -32,10 +31,10 @@ pub struct ServiceState {
     reallocations: AtomicU64,
     /// How many bytes of journals were written.
     written: AtomicU64,
-    /// How many connections are served at once at most.
-    workers: AtomicU64,
-    /// How many are served.
+    /// How many connections are served.
     connections: AtomicU64,
+    /// How many may be at once.
+    most_connections: AtomicU64,
     /// How many could not be taken.
     failed_accepts: AtomicU64,
     /// How many lines the log lost, where it may lose some.
@@ -51,7 +50,7 @@ impl ServiceState {
             has_lifecycle,
             started: 0,
             is_quitting: AtomicBool::new(false),
-            reloading: Reloading::new(),
+            reloading: Reloading::new(alloc),
             is_reloaded: AtomicBool::new(true),
             is_broken: AtomicBool::new(false),
             is_hanging: AtomicBool::new(false),
@@ -61,8 +60,8 @@ impl ServiceState {
             failed_refreshes: AtomicU64::new(0),
             reallocations: AtomicU64::new(0),
             written: AtomicU64::new(0),
-            workers: AtomicU64::new(0),
             connections: AtomicU64::new(0),
+            most_connections: AtomicU64::new(0),
             failed_accepts: AtomicU64::new(0),
             lost_lines: None,
             notes: Mutex::new(Notes::new(alloc)),
@@ -178,23 +177,14 @@ impl ServiceState {
         self.written.load(Ordering::SeqCst)
     }
 
-    /// So many connections are served at once at most from now on.
-    pub fn set_workers(&self, number: usize) {
-        self.workers.store(number as u64, Ordering::SeqCst);
+    /// So many connections are served, of so many that may be at once.
+    pub fn set_connections(&self, number: usize, most: usize) {
+        self.connections.store(number as u64, Ordering::SeqCst);
+        self.most_connections.store(most as u64, Ordering::SeqCst);
     }
 
-    pub(crate) fn workers(&self) -> u64 {
-        self.workers.load(Ordering::SeqCst)
-    }
-
-    /// One connection more is served.
-    pub fn begin_connection(&self) {
-        self.connections.fetch_add(1, Ordering::SeqCst);
-    }
-
-    /// One connection less is served.
-    pub fn end_connection(&self) {
-        self.connections.fetch_sub(1, Ordering::SeqCst);
+    pub(crate) fn most_connections(&self) -> u64 {
+        self.most_connections.load(Ordering::SeqCst)
     }
 
     pub(crate) fn connections(&self) -> u64 {
@@ -232,9 +222,9 @@ impl ServiceState {
         }
     }
 
-    /// A request that asks for this, or has no route, is answered with this status code.
-    pub fn count_request(&self, rt: &impl Wait, ask: Option<&Ask>, status: u16) {
-        self.notes.lock(rt).counts.count_request(ask, status);
+    /// A request is answered with this status code.
+    pub fn count_request(&self, rt: &impl Wait, route: Route, status: u16) {
+        self.notes.lock(rt).counts.count_request(route, status);
     }
 
     /// An event is answered.

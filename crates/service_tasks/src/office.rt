@@ -21,6 +21,8 @@ use std::time::{Clock, Instant};
 #[derive(Drop)]
 pub struct Office<S, F, C> {
     pub listener: TcpListener,
+    /// How many connections there may be at once.
+    pub connections: u16,
     pub pages: Arc<ConfigPages>,
     pub doors: Arc<Admission>,
     pub state: Arc<ServiceState>,
@@ -46,6 +48,7 @@ impl<S: Scrape + Drop, F: Drop, C: Configuration + Drop> Office<S, F, C> {
         match Parts::of(rt, alloc, service) {
             Ok(parts) => Ok(Office {
                 listener,
+                connections: service.connections,
                 pages: parts.pages,
                 doors: parts.doors,
                 state: parts.state,
@@ -171,7 +174,7 @@ impl<S, F, C> Office<S, F, C> {
         let Some(file) = &self.file else {
             return Ok(None);
         };
-        let kept = Arc::new(alloc, Kept::new())?;
+        let kept = Arc::new(alloc, Kept::new(alloc))?;
         if file.is_broken {
             kept.fail(rt);
         }

@@ -10,6 +10,9 @@ use std::sync::Arc;
 use std::sync::atomic::AtomicU64;
 use std::time::Duration;
 
+/// How many connections there may be at once where nobody says less.
+pub const MOST_CONNECTIONS: u16 = 4_096;
+
 /// What a service is to do: the jobs of its configuration, whose rules can be read, and its settings.
 #[derive(Drop)]
 pub struct Service {
@@ -25,6 +28,8 @@ pub struct Service {
     pub(crate) settings: Settings,
     /// Where the log counts the lines that it loses, if it may lose some.
     pub(crate) lost_lines: Option<Arc<AtomicU64>>,
+    /// How many connections there may be at once.
+    pub(crate) connections: u16,
     /// The discovery sources, job by job.
     pub(crate) sources: Vec<SourceSettings>,
 }
@@ -81,6 +86,7 @@ impl Service {
                     doors,
                     settings,
                     lost_lines: None,
+                    connections: MOST_CONNECTIONS,
                     sources,
                 })
             }
@@ -92,6 +98,11 @@ impl Service {
     pub fn set_doors(&mut self, alloc: Global, doors: Admission) -> Result<(), AllocError> {
         self.doors = shared(alloc, doors)?;
         Ok(())
+    }
+
+    /// At most so many connections are served at once.
+    pub fn set_connections(&mut self, connections: u16) {
+        self.connections = connections.min(MOST_CONNECTIONS);
     }
 
     /// A service whose log counts here the lines that it loses.

@@ -154,6 +154,8 @@ fn handler_of<R: Copy, L: Ledger, B: Ledger, N: DeskName>(
         texts,
         doors,
         peer: None,
+        time: None,
+        gate: None,
     })
 }
 
@@ -355,6 +357,8 @@ fn closed<R: Drop, L: Ledger, B: Ledger, N: DeskName>(
         texts: _,
         doors: _,
         peer: _,
+        time: _,
+        gate: _,
     } = handler;
     let (Some(desk), Some(pass)) = (Arc::into_inner(desk), Arc::into_inner(pass)) else {
         return Err(Halt::Device);

@@ -1,0 +1,21 @@
+//! Many connections on a few threads: each thread has an event loop of its own, over one listener, and each connection is a task of a
+//! loop. What serves a connection is given by the caller.
+//!
+//! Contracts pass on what they say of the service, the connection and the socket that are wrapped here; of time and order they say nothing.
+#![tactic(auto)]
+
+mod door;
+mod exchanges;
+mod gate;
+mod paced;
+mod socket;
+mod timed;
+mod times;
+
+pub use door::{Serving, serve_all};
+pub use exchanges::Exchanges;
+pub use gate::Gate;
+pub use paced::{Paced, Paused};
+pub use socket::Socket;
+pub use timed::{Limits, Timed};
+pub use times::Times;

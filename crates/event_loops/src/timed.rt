@@ -1,0 +1,103 @@
+//! A connection with its limits of time and its place.
+ghost use Rattle.futures.specs.Task.{Keeps};
+
+use crate::exchanges::Exchanges;
+use crate::times::Times;
+use futures::Future;
+use futures::task::{Context, Poll};
+use hyper::server::graceful::GracefulConnection;
+use std::rc::Rc;
+use std::time::{Clock, Duration, Instant};
+use tokio::sync::{OwnedNotified, OwnedSemaphorePermit};
+use tokio::time::Sleep;
+
+/// What ends a connection.
+#[derive(Drop)]
+pub struct Limits<K> {
+    pub clock: K,
+    pub times: Times,
+    pub exchanges: Rc<Exchanges>,
+    /// Ready once the connections are to end.
+    pub told: Option<OwnedNotified>,
+    /// Ready once the connection has been idle, or an exchange has gone on, for too long.
+    pub limit: Sleep,
+    /// Its place among the connections of the server.
+    pub place: OwnedSemaphorePermit,
+}
+
+/// Serves a connection until it is closed, and at most within its limits.
+#[derive(Drop)]
+pub struct Timed<C, K> {
+    pub conn: C,
+    pub limits: Limits<K>,
+}
+
+impl<K: Clock> Limits<K> {
+    /// Whether the connection is to end, since this was asked. One that is new serves an exchange before, if that comes at once.
+    fn is_told(&mut self, cx: &mut Context<'_>) -> bool
+        ensures { Keeps cx.old cx.new }
+    {
+        let Some(told) = &mut self.told else {
+            return false;
+        };
+        if told.poll(cx).is_pending() {
+            return false;
+        }
+        self.told = None;
+        self.exchanges.end();
+        self.exchanges.end_with_next();
+        if self.exchanges.was_used() {
+            return true;
+        }
+        self.set_limit_to(self.times.linger);
+        false
+    }
+
+    /// The limit begins anew where the connection began to be idle, or ceased to be.
+    fn set_limit(&mut self) {
+        if !self.exchanges.has_changed() {
+            return;
+        }
+        let millis = if self.exchanges.is_busy() {
+            self.times.request
+        } else {
+            self.times.idle
+        };
+        self.set_limit_to(millis);
+    }
+
+    /// The limit is so many milliseconds away.
+    fn set_limit_to(&mut self, millis: u64) {
+        if let Ok(now) = Instant::now(&self.clock)
+            && let Some(deadline) = now.checked_add(Duration::from_millis(millis))
+        {
+            self.limit.reset(deadline);
+        }
+    }
+
+    /// Whether the exchange that has begun since this was asked is the last.
+    fn is_last(&self) -> bool {
+        self.exchanges.has_begun() && self.exchanges.is_last()
+    }
+}
+
+impl<C: GracefulConnection + Future<Output = T>, K: Clock + Drop, T: Drop> Future for Timed<C, K> {
+    type Output = ();
+
+    ghost can_poll = { λ t. C.can_poll t.conn };
+
+    fn poll(&mut self, cx: &mut Context<'_>) -> Poll<()> {
+        if self.limits.is_told(cx) {
+            self.conn.graceful_shutdown();
+        }
+        if self.conn.poll(cx).is_ready() {
+            return Poll::Ready(());
+        }
+        if self.limits.is_last() {
+            self.conn.graceful_shutdown();
+            self.limits.exchanges.tell();
+        }
+        self.limits.set_limit();
+        self.limits.limit.poll(cx).map(|_| ())
+    }
+}

@@ -1,0 +1,259 @@
+//! The server that strangers talk to: event loops over one listener, each on a thread of its own, and each connection a task of a loop.
+use crate::handler::Handler;
+use crate::service::AllocatorService;
+use crate::spoken::Spoken;
+use alloc_desk::DeskName;
+use bytes::Bytes;
+use event_loops::{Exchanges, Gate, Limits, Paced, Serving, Socket, Timed, serve_all};
+use http_body_util::Full;
+use hyper::rt::TokioTimer;
+use hyper::server::conn::http1;
+use sd_routes::Routes;
+use std::alloc::{AllocError, AllocGlobal, Global};
+use std::hash::RandomState;
+use std::net::{Net, SocketAddr, TcpListener, TcpStream};
+use std::random::RandomSource;
+use std::rc::Rc;
+use std::sync::ledger::Ledger;
+use std::sync::{Arc, Wait};
+use std::thread::Threads;
+use std::time::{Clock, Duration};
+use std::{io, thread};
+use tokio::runtime::LocalRuntime;
+use tokio::sync::{Notify, OwnedSemaphorePermit};
+use tokio::time::Handle;
+
+/// How many event loops a server has where the caller names no number.
+pub const DEFAULT_LOOPS: usize = 4;
+
+/// How long a loop that found no memory to begin waits until it begins again.
+const PAUSE_MILLIS: u64 = 100;
+
+/// What a connection of this server reads from and writes to.
+type Wire<R> = Socket<Spoken<tokio::net::TcpStream>, TokioTimer<R>>;
+
+/// What a loop serves its connections with.
+#[derive(Drop)]
+struct Host<'a, R, L: Ledger, B: Ledger, N: DeskName> {
+    handler: Handler<R, L, B, N>,
+    routes: Arc<Routes>,
+    http: http1::Builder<TokioTimer<R>>,
+    time: Handle,
+    gate: &'a Gate,
+    /// Wakes the connections of the loop.
+    told: Arc<Notify>,
+}
+
+impl<R: Wait + Clock + AllocGlobal + Copy + Drop, L: Ledger, B: Ledger, N: DeskName> Host<
+    '_,
+    R,
+    L,
+    B,
+    N,
+> {
+    /// Those of a connection that begins. Where few places are left it serves one exchange.
+    fn exchanges(&self, is_pressed: bool) -> Result<Rc<Exchanges>, AllocError> {
+        let exchanges = Exchanges::new(self.handler.alloc)?;
+        if is_pressed {
+            exchanges.end_with_next();
+        }
+        Ok(exchanges)
+    }
+
+    /// The limits of a connection that begins. Where few places are left it may not be silent for long.
+    fn limits(
+        &self,
+        is_pressed: bool,
+        exchanges: &Rc<Exchanges>,
+        place: OwnedSemaphorePermit,
+    ) -> io::Result<Limits<R>> {
+        let times = self.gate.times();
+        let first = if is_pressed {
+            times.pressed
+        } else {
+            times.request
+        };
+        Ok(Limits {
+            clock: self.handler.rt,
+            times,
+            exchanges: exchanges.clone()?,
+            told: Some(Notify::notified_owned(Arc::try_clone(&self.told)?)),
+            limit: self
+                .time
+                .sleep(&self.handler.rt, Duration::from_millis(first))?,
+            place,
+        })
+    }
+
+    /// What a connection reads from and writes to, and what answers it.
+    fn ends(
+        &self,
+        socket: tokio::net::TcpStream,
+        from: SocketAddr,
+        exchanges: &Rc<Exchanges>,
+    ) -> io::Result<(Wire<R>, Paced<AllocatorService<R, L, B, N>>)> {
+        let timer = TokioTimer::new(self.handler.rt, self.time.clone()?);
+        let service = AllocatorService::of(&self.handler, &self.routes, Some(from))?;
+        let service = Paced::new(service, exchanges.clone()?);
+        let linger = self.gate.times().linger;
+        Ok((
+            Socket::new(Spoken::new(socket), timer, exchanges.clone()?, linger),
+            service,
+        ))
+    }
+}
+
+impl<R: Wait + Clock + AllocGlobal + Copy + Drop, L: Ledger, B: Ledger, N: DeskName> Serving
+    for Host<'_, R, L, B, N> {
+    type Conn = Timed<
+        http1::Connection<Wire<R>, Paced<AllocatorService<R, L, B, N>>, Full<Bytes>, TokioTimer<R>>,
+        R,
+    >;
+
+    fn serve(
+        &self,
+        socket: tokio::net::TcpStream,
+        from: SocketAddr,
+        place: OwnedSemaphorePermit,
+    ) -> io::Result<Self::Conn> {
+        let is_pressed = self.gate.is_pressed();
+        let exchanges = self.exchanges(is_pressed)?;
+        let limits = self.limits(is_pressed, &exchanges, place)?;
+        let (wire, service) = self.ends(socket, from, &exchanges)?;
+        let conn = self.http.serve_connection(wire, service);
+        Ok(Timed { conn, limits })
+    }
+
+    fn fail(&self) {
+        self.handler.state.count_failed_accept();
+    }
+
+    fn end(&self) {
+        self.told.notify_waiters();
+    }
+}
+
+/// Serves connections by so many event loops until the gate is stopped and each connection has ended.
+pub fn serve_by_loops<
+    R,
+    L: Ledger + Send + Sync,
+    B: Ledger + Send + Sync,
+    N: DeskName + Send + Sync,
+>(
+    rt: &R,
+    alloc: Global,
+    loops: usize,
+    gate: &Arc<Gate>,
+    listener: &TcpListener,
+    handler: &Handler<R, L, B, N>,
+) -> io::Result<()>
+where
+    R: Wait
+        + Threads
+        + Clock
+        + Net<Listener = TcpListener, Stream = TcpStream>
+        + RandomSource
+        + AllocGlobal
+        + Sync
+        + Send
+        + Copy
+        + Drop,
+{
+    let ended = thread::map_indices(
+        rt,
+        alloc,
+        loops,
+        &|_| { serve_here(rt, gate, listener, handler) },
+    )?;
+    for one in ended {
+        one?;
+    }
+    Ok(())
+}
+
+/// Serves connections on this thread until the gate is stopped. Where it finds no memory to begin, it begins again after a pause.
+fn serve_here<R, L: Ledger, B: Ledger, N: DeskName>(
+    rt: &R,
+    gate: &Arc<Gate>,
+    listener: &TcpListener,
+    handler: &Handler<R, L, B, N>,
+) -> io::Result<()>
+where
+    R: Wait
+        + Clock
+        + Net<Listener = TcpListener, Stream = TcpStream>
+        + RandomSource
+        + AllocGlobal
+        + Copy
+        + Drop,
+{
+    for _ in rt.forever() {
+        match serve_until_stopped(rt, gate, listener, handler) {
+            Err(error) if error.kind() == io::ErrorKind::OutOfMemory && !gate.is_stopped() => {
+                handler.state.count_failed_accept();
+                thread::sleep(rt, Duration::from_millis(PAUSE_MILLIS));
+            }
+            ended => return ended,
+        }
+    }
+    unreachable!()
+}
+
+fn serve_until_stopped<R, L: Ledger, B: Ledger, N: DeskName>(
+    rt: &R,
+    gate: &Arc<Gate>,
+    listener: &TcpListener,
+    handler: &Handler<R, L, B, N>,
+) -> io::Result<()>
+where
+    R: Wait
+        + Clock
+        + Net<Listener = TcpListener, Stream = TcpStream>
+        + RandomSource
+        + AllocGlobal
+        + Copy
+        + Drop,
+{
+    let mut runtime = LocalRuntime::new(rt)?;
+    let listener = tokio::net::TcpListener::from_std(
+        listener.try_clone()?,
+        runtime.handle().reactor(),
+    )?;
+    let host = host_of(rt, &runtime, gate, handler)?;
+    serve_all(rt, &mut runtime, listener, &host, gate)
+}
+
+/// What a loop serves its connections with.
+fn host_of<'a, R, L: Ledger, B: Ledger, N: DeskName>(
+    rt: &R,
+    runtime: &LocalRuntime,
+    gate: &'a Arc<Gate>,
+    handler: &Handler<R, L, B, N>,
+) -> io::Result<Host<'a, R, L, B, N>>
+where
+    R: Wait + Clock + RandomSource + AllocGlobal + Copy,
+{
+    let time = runtime.handle().time();
+    let routes = Arc::new(rt.alloc(), Routes::open(rt.alloc())?)?;
+    let http = builder(rt, time)?;
+    let told = Arc::new(rt.alloc(), Notify::new(rt.alloc())?)?;
+    Ok(Host {
+        handler: handler.of_loop(time, gate)?,
+        routes,
+        http,
+        time: time.clone()?,
+        gate,
+        told,
+    })
+}
+
+/// How connections are read. Their limits of time are those of `Timed`.
+fn builder<R: Clock + RandomSource + AllocGlobal + Copy>(
+    rt: &R,
+    time: &Handle,
+) -> io::Result<http1::Builder<TokioTimer<R>>> {
+    let timer = TokioTimer::new(*rt, time.clone()?);
+    let mut http = http1::Builder::new(rt.alloc(), RandomState::new(rt)?).timer(timer);
+    http.header_read_timeout(None);
+    Ok(http)
+}
