@@ -131,9 +131,12 @@ fn doors_outline(alloc: Global, settings: &Settings) -> Result<String, AllocErro
     let collectors = text_or_dash(&doors.collector_tokens);
     let open = doors.open_to_all;
     let give_up = settings.give_up;
+    let connections = settings.connections;
     let no_jobs = settings.allow_no_jobs;
     let reach = settings.reach_changes;
-    format!(in alloc; " {give_up} {hosts} {admin} {collectors} {open} {no_jobs} {reach:?}")
+    format!(in alloc;
+        " {give_up} {connections} {hosts} {admin} {collectors} {open} {no_jobs} {reach:?}"
+    )
 }
 
 fn text_or_dash(text: &Option<Text>) -> &str {

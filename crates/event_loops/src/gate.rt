@@ -21,8 +21,8 @@ pub struct Gate {
 
 impl Gate {
     /// So many connections at once at most.
-    pub fn new(alloc: Global, most: u16, times: Times) -> Result<Gate, AllocError> {
-        let most = usize::from(most);
+    pub fn new(alloc: Global, most: u32, times: Times) -> Result<Gate, AllocError> {
+        let most = most as usize;
         Ok(Gate {
             places: Arc::new(alloc, Semaphore::new(alloc, most)?)?,
             most,

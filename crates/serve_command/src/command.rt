@@ -1,6 +1,6 @@
 //! The command: what its options ask for, and what it tells of it.
 use crate::configuration::ConfigurationFile;
-use crate::descriptors::most_connections;
+use crate::descriptors::{most_connections, warn_of_fewer};
 use crate::documents::{read_document, service_in};
 use crate::doors::admission_at;
 use crate::listening::{listen_address, listener_at};
@@ -221,8 +221,10 @@ where
         + Drop,
 {
     let mut service = service;
-    service.set_connections(most_connections(rt, rt.alloc())?);
-    match opened(rt, host, options, document, here) {
+    let most = most_connections(rt, rt.alloc())?;
+    warn_of_fewer(rt, service.connections(), most);
+    service.limit_connections(most);
+    match opened(rt, host, options, document, here, most) {
         Ok((configuration, listener)) => {
             serve_journal(rt, rt.alloc(), service, configuration, listener, journal)
         }
@@ -237,6 +239,7 @@ fn opened<R>(
     options: &ServeOptions<'_>,
     document: &[u8],
     here: SocketAddr,
+    most: u32,
 ) -> Result<(ConfigurationFile, TcpListener), Fault>
 where
     R: Net<Listener = TcpListener, Stream = TcpStream>
@@ -247,7 +250,7 @@ where
         + Copy,
 {
     warn_of(rt, rt.alloc(), document)?;
-    let configuration = ConfigurationFile::new(host, rt.alloc(), options.config, here)?;
+    let configuration = ConfigurationFile::new(host, rt.alloc(), options.config, here, most)?;
     let listener = listener_at(rt, here)?;
     Ok((configuration, listener))
 }

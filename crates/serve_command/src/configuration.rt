@@ -15,6 +15,8 @@ pub(crate) struct ConfigurationFile {
     path: String,
     /// Where the service listens.
     here: SocketAddr,
+    /// For how many connections there are descriptors.
+    most: u32,
     /// What was read last and asks for a service.
     document: Vec<u8>,
 }
@@ -25,12 +27,14 @@ impl ConfigurationFile {
         alloc: Global,
         path: &str,
         here: SocketAddr,
+        most: u32,
     ) -> Result<ConfigurationFile, AllocError> {
         Ok(ConfigurationFile {
             host,
             alloc,
             path: String::from_str(alloc, path)?,
             here,
+            most,
             document: Vec::new(alloc),
         })
     }
@@ -73,6 +77,7 @@ impl Configuration for ConfigurationFile {
         let mut service = service_of_parts(self.alloc, path, self.document.as_slice()).ok()?;
         let doors = admission_at(&self.host, path, service.doors(), self.here).ok()?;
         service.set_doors(self.alloc, doors).ok()?;
+        service.limit_connections(self.most);
         Some(service)
     }
 }

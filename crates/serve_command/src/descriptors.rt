@@ -1,11 +1,13 @@
 //! How many descriptors the service may have open.
 use journal_files::Fault;
-use service_tasks::MOST_CONNECTIONS;
+use log::warn;
+use logfmt::Logfmt;
 use std::alloc::{AllocError, Global};
 use std::fs::File;
 use std::io;
 use std::io::Read;
 use std::rt::Files;
+use std::time::Clock;
 
 /// How many descriptors a service keeps for its files, sources and loops.
 const KEPT: u64 = 64;
@@ -18,15 +20,22 @@ const LIMITS: &str = "/proc/self/limits";
 
 /// How many connections there may be at once with the descriptors that may be open. Where those are too few it is refused to serve; what
 /// cannot be read is no limit.
-pub(crate) fn most_connections<R: Files<File = File>>(rt: &R, alloc: Global) -> Result<u16, Fault> {
+pub(crate) fn most_connections<R: Files<File = File>>(rt: &R, alloc: Global) -> Result<u32, Fault> {
     let limits = match read_limits(rt, alloc) {
         Ok(limits) => limits,
-        Err(_) => return Ok(MOST_CONNECTIONS),
+        Err(_) => return Ok(u32::MAX),
     };
     match most_open(limits.as_str()) {
         Some(most) if most < NEEDED => Err(too_few(alloc, most)),
-        Some(most) => Ok(u16::try_from(most.saturating_sub(KEPT)).unwrap_or(MOST_CONNECTIONS)),
-        None => Ok(MOST_CONNECTIONS),
+        Some(most) => Ok(u32::try_from(most.saturating_sub(KEPT)).unwrap_or(u32::MAX)),
+        None => Ok(u32::MAX),
+    }
+}
+
+/// Tells where fewer connections are served at once than the configuration asks for.
+pub(crate) fn warn_of_fewer<R: Eprint + Clock + Copy>(rt: &R, connections: u32, most: u32) {
+    if most < connections {
+        warn!(Logfmt(*rt); connections:% = most, wanted:% = connections; "there are descriptors for fewer connections than allocator.connections: raise the limit (ulimit -n, or LimitNOFILE in a systemd unit)");
     }
 }
 

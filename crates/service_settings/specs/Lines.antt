@@ -4,7 +4,7 @@ use Rattle.std.specs.Fmt.{decimal}
 use Rattle.service_settings.specs.declared.error.SettingsError.{SettingsError}
 use Rattle.service_settings.specs.declared.error.SettingsError.TheVariants.{NotJson, Shape, Unknown, RepeatedCollector, Memory}
 use Rattle.service_settings.specs.declared.error.Member.{Member}
-use Rattle.service_settings.specs.declared.error.Member.TheVariants.{Document, Global, ScrapeInterval, ScrapeConfigs, ScrapeConfig, HttpSdConfigs, HttpSdConfig, RefreshInterval, Allocator, Listen, Lifecycle, Journal, Keep, Settle, GiveUp, Hosts, Host, Tokens, AdminTokens, CollectorTokens, OpenToAll, AllowNoJobs, Collectors, Collector, CollectorName, CollectorReach, CollectorLimits, ReachChanges, CollectorTimeout, FetchTimeout}
+use Rattle.service_settings.specs.declared.error.Member.TheVariants.{Document, Global, ScrapeInterval, ScrapeConfigs, ScrapeConfig, HttpSdConfigs, HttpSdConfig, RefreshInterval, Allocator, Listen, Lifecycle, Journal, Keep, Settle, GiveUp, Connections, Hosts, Host, Tokens, AdminTokens, CollectorTokens, OpenToAll, AllowNoJobs, Collectors, Collector, CollectorName, CollectorReach, CollectorLimits, ReachChanges, CollectorTimeout, FetchTimeout}
 
 -- without indices
 abbrev pub member_path : Member → List ℕ
@@ -23,6 +23,7 @@ member_path Journal = codes "allocator.journal"
 member_path Keep = codes "allocator.keep"
 member_path Settle = codes "allocator.settle"
 member_path GiveUp = codes "allocator.give_up"
+member_path Connections = codes "allocator.connections"
 member_path Hosts = codes "allocator.hosts"
 member_path (Host index) = codes "allocator.hosts"
 member_path Tokens = codes "allocator.tokens"
@@ -69,6 +70,7 @@ missing Journal = codes "no text"
 missing Keep = codes "no whole number of 32 bits"
 missing Settle = codes "no duration"
 missing GiveUp = codes "no duration above 0"
+missing Connections = codes "no whole number from 64 to 65535"
 missing Hosts = codes "no list"
 missing (Host index) = codes "no name of a host in small letters, without a port"
 missing Tokens = codes "no object"

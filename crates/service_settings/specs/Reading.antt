@@ -1,13 +1,15 @@
 -- Reading the members of a document: what they say, or the first fault.
-use Rattle.std.specs.Prelude.{◌≡◌, ◌≢◌, ℕ, ◌+◌, List, [], ◌∷◌, nat_lt, Option, Some, None, option_and_then, Result, Ok, Err, is_some, if◌then◌else◌}
+use Rattle.std.specs.Prelude.{◌≡◌, ◌≢◌, ℕ, ◌+◌, List, [], ◌∷◌, nat_lt, nat_le, ◌&&◌, Option, Some, None, option_and_then, Result, Ok, Err, is_some, if◌then◌else◌}
 use Rattle.std.specs.Option.{ok_or}
 use Rattle.serde_json.specs.Data.{Data, Items, no_items, item}
 use Rattle.serde_json.specs.Find.{get, as_str, as_array, as_object}
 use Rattle.json_values.specs.Texts.{json_of}
+use Rattle.json_values.specs.Spelling.{number_in}
 use Rattle.service_settings.specs.declared.address.Address.{Address}
 use Rattle.service_settings.specs.declared.error.SettingsError.{SettingsError}
 use Rattle.service_settings.specs.declared.error.SettingsError.TheVariants.{NotJson, Shape, Memory}
 use Rattle.service_settings.specs.declared.error.Member.{Member}
+use Rattle.service_settings.specs.declared.reading.TheConstants.{LEAST_CONNECTIONS, MOST_CONNECTIONS}
 use Rattle.service_settings.specs.Addresses.{address_said}
 use Rattle.service_settings.specs.Durations.{duration_said}
 
@@ -41,6 +43,13 @@ above_zero n = if nat_lt 0 n then Some n else None
 -- a duration above 0
 abbrev pub time_in : Data → Option ℕ
 time_in d = option_and_then above_zero (duration_in d)
+
+-- how many connections there may be at once
+abbrev pub enough : ℕ → Option ℕ
+enough n = if nat_le LEAST_CONNECTIONS n && nat_le n MOST_CONNECTIONS then Some n else None
+
+abbrev pub connections_in : Data → Option ℕ
+connections_in d = option_and_then enough (number_in d)
 
 abbrev pub address_in : Data → Option Address
 address_in d = option_and_then address_said (as_str d)

@@ -37,6 +37,7 @@ pub enum Member {
     Keep,
     Settle,
     GiveUp,
+    Connections,
     Hosts,
     /// A name of `allocator.hosts`, by its index.
     Host(usize),
@@ -142,6 +143,7 @@ impl Member {
             Member::Keep => "allocator.keep",
             Member::Settle => "allocator.settle",
             Member::GiveUp => "allocator.give_up",
+            Member::Connections => "allocator.connections",
             Member::Hosts | Member::Host(_) => "allocator.hosts",
             Member::Tokens => "allocator.tokens",
             Member::AdminTokens => "allocator.tokens.admin",
@@ -186,6 +188,7 @@ impl Member {
             Member::AdminTokens | Member::CollectorTokens => "no path of a file",
             Member::ReachChanges => "neither \"drained\" nor \"now\"",
             Member::Keep => "no whole number of 32 bits",
+            Member::Connections => "no whole number from 64 to 65535",
             Member::CollectorName(_) => "no name of a collector",
             Member::CollectorReach(_) => "no list of reach rules",
             Member::CollectorLimits(_) => "no object of limits",

@@ -13,7 +13,8 @@ mod settings;
 pub use address::{Address, address_of};
 pub use duration::{LONGEST_DURATION, duration_of};
 pub use error::{Member, SettingsError};
+pub use reading::{LEAST_CONNECTIONS, MOST_CONNECTIONS};
 pub use settings::{
-    Collector, DEFAULT_FETCH_TIMEOUT, DEFAULT_GIVE_UP, DEFAULT_INTERVAL, DEFAULT_KEEP,
-    DEFAULT_LISTEN, DEFAULT_SETTLE, Doors, ReachChanges, Settings, read_settings,
+    Collector, DEFAULT_CONNECTIONS, DEFAULT_FETCH_TIMEOUT, DEFAULT_GIVE_UP, DEFAULT_INTERVAL,
+    DEFAULT_KEEP, DEFAULT_LISTEN, DEFAULT_SETTLE, Doors, ReachChanges, Settings, read_settings,
 };

@@ -3,7 +3,7 @@ ghost use Rattle.std.specs.Prelude.{◌≡◌, IfOk, option_map};
 ghost use Rattle.serde_json.specs.Find.{as_str, as_bool};
 ghost use Rattle.serde_json.specs.View.{view, items_view};
 ghost use Rattle.json_values.specs.Spelling.{number_in};
-ghost use Rattle.service_settings.specs.Reading.{Gives, json_said, member_at, duration_in, time_in, address_in, said_or, said_or_none, object_said, items_said};
+ghost use Rattle.service_settings.specs.Reading.{Gives, json_said, member_at, duration_in, time_in, address_in, connections_in, enough as enough_connections, said_or, said_or_none, object_said, items_said};
 
 use crate::address::{Address, address_of};
 use crate::duration::duration_of;
@@ -12,6 +12,11 @@ use json_values::{number, parse};
 use lists::Text;
 use serde_json::Value;
 use std::alloc::Global;
+
+/// How many connections there may be at once, at the least and at the most.
+pub const LEAST_CONNECTIONS: u32 = 64;
+
+pub const MOST_CONNECTIONS: u32 = 65_535;
 
 /// The value of a JSON text.
 pub(crate) fn json_in(alloc: Global, bytes: &[u8]) -> Result<Value, SettingsError>
@@ -143,6 +148,36 @@ pub(crate) fn number_or(
     match found {
         Some(value) => number(value).ok_or(SettingsError::Shape(member)),
         None => Ok(absent),
+    }
+}
+
+/// How many connections there may be at once.
+pub(crate) fn connections_or(
+    absent: u32,
+    member: Member,
+    found: Option<&Value>,
+) -> Result<u32, SettingsError>
+    ensures { Gives (λ n. n) result (said_or absent connections_in member (option_map (λ v. view v.now) found.entry)) }
+{
+    match found {
+        Some(value) => connections(value).ok_or(SettingsError::Shape(member)),
+        None => Ok(absent),
+    }
+}
+
+fn connections(value: &Value) -> Option<u32>
+    ensures { result ≡ connections_in (view value.now) }
+{
+    enough(number(value)?)
+}
+
+fn enough(number: u32) -> Option<u32>
+    ensures { result ≡ enough_connections number }
+{
+    if LEAST_CONNECTIONS <= number && number <= MOST_CONNECTIONS {
+        Some(number)
+    } else {
+        None
     }
 }
 

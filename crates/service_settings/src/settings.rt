@@ -34,6 +34,8 @@ pub const DEFAULT_SETTLE: u64 = 1_000;
 pub const DEFAULT_KEEP: u32 = 16;
 /// How long after a failed write the service ends, in milliseconds.
 pub const DEFAULT_GIVE_UP: u64 = 30_000;
+/// How many connections there may be at once.
+pub const DEFAULT_CONNECTIONS: u32 = 4_096;
 /// How long a fetch may take, in milliseconds.
 pub const DEFAULT_FETCH_TIMEOUT: u64 = 10_000;
 /// Where HTTP is served.
@@ -61,6 +63,8 @@ pub struct Settings {
     pub settle: u64,
     /// How long after a failed write of the journal the service ends. Above 0.
     pub give_up: u64,
+    /// How many connections there may be at once. From 64 to 65,535.
+    pub connections: u32,
     /// Who may ask.
     pub doors: Doors,
     /// Whether a configuration without jobs is taken.
@@ -121,6 +125,7 @@ fn settings_of(
         keep: housekeeping.keep,
         settle: housekeeping.settle,
         give_up: housekeeping.give_up,
+        connections: housekeeping.connections,
         doors,
         allow_no_jobs: collecting.allow_no_jobs,
         collectors: collecting.collectors,

@@ -36,5 +36,5 @@ pub use office::Office;
 pub use refreshing::Watch;
 pub use renewing::continued;
 pub use scheduling::Schedule;
-pub use service::{MOST_CONNECTIONS, Service, ServiceError};
+pub use service::{Service, ServiceError};
 pub use shared::Shared;

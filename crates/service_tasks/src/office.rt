@@ -22,7 +22,7 @@ use std::time::{Clock, Instant};
 pub struct Office<S, F, C> {
     pub listener: TcpListener,
     /// How many connections there may be at once.
-    pub connections: u16,
+    pub connections: u32,
     pub pages: Arc<ConfigPages>,
     pub doors: Arc<Admission>,
     pub state: Arc<ServiceState>,

@@ -10,9 +10,6 @@ use std::sync::Arc;
 use std::sync::atomic::AtomicU64;
 use std::time::Duration;
 
-/// How many connections there may be at once where nobody says less.
-pub const MOST_CONNECTIONS: u16 = 4_096;
-
 /// What a service is to do: the jobs of its configuration, whose rules can be read, and its settings.
 #[derive(Drop)]
 pub struct Service {
@@ -29,7 +26,7 @@ pub struct Service {
     /// Where the log counts the lines that it loses, if it may lose some.
     pub(crate) lost_lines: Option<Arc<AtomicU64>>,
     /// How many connections there may be at once.
-    pub(crate) connections: u16,
+    pub(crate) connections: u32,
     /// The discovery sources, job by job.
     pub(crate) sources: Vec<SourceSettings>,
 }
@@ -78,6 +75,7 @@ impl Service {
                 let job_texts = shared(alloc, job_texts_of(alloc, &config)?)?;
                 let jobs = shared(alloc, config.jobs)?;
                 let doors = shared(alloc, Admission::open())?;
+                let connections = settings.connections;
                 Ok(Service {
                     line,
                     jobs,
@@ -86,7 +84,7 @@ impl Service {
                     doors,
                     settings,
                     lost_lines: None,
-                    connections: MOST_CONNECTIONS,
+                    connections,
                     sources,
                 })
             }
@@ -101,8 +99,13 @@ impl Service {
     }
 
     /// At most so many connections are served at once.
-    pub fn set_connections(&mut self, connections: u16) {
-        self.connections = connections.min(MOST_CONNECTIONS);
+    pub fn limit_connections(&mut self, most: u32) {
+        self.connections = self.connections.min(most);
+    }
+
+    /// How many connections there may be at once.
+    pub fn connections(&self) -> u32 {
+        self.connections
     }
 
     /// A service whose log counts here the lines that it loses.

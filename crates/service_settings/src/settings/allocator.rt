@@ -7,12 +7,14 @@ ghost use Rattle.service_settings.specs.Settings.{housekeeping_said, collecting_
 use crate::address::Address;
 use crate::error::{Member, SettingsError};
 use crate::reading::{
-    address_or, duration_or, flag_or, member_of, number_or, text_or_none, time_or, time_or_none,
+    address_or, connections_or, duration_or, flag_or, member_of, number_or, text_or_none, time_or,
+    time_or_none,
 };
 use crate::settings::collectors::{Collector, collectors_in};
 use crate::settings::reach_changes::{ReachChanges, reach_changes_in};
 use crate::settings::{
-    DEFAULT_FETCH_TIMEOUT, DEFAULT_GIVE_UP, DEFAULT_KEEP, DEFAULT_LISTEN, DEFAULT_SETTLE,
+    DEFAULT_CONNECTIONS, DEFAULT_FETCH_TIMEOUT, DEFAULT_GIVE_UP, DEFAULT_KEEP, DEFAULT_LISTEN,
+    DEFAULT_SETTLE,
 };
 use lists::{List, Text};
 use serde_json::Value;
@@ -27,6 +29,7 @@ pub(crate) struct Housekeeping {
     pub(crate) keep: u32,
     pub(crate) settle: u64,
     pub(crate) give_up: u64,
+    pub(crate) connections: u32,
 }
 
 /// What is collected, who collects, and how long it may take.
@@ -55,6 +58,8 @@ pub(crate) fn housekeeping_in(
     let settle = duration_or(DEFAULT_SETTLE, Member::Settle, settle)?;
     let give_up = member_of(allocator, "give_up");
     let give_up = time_or(DEFAULT_GIVE_UP, Member::GiveUp, give_up)?;
+    let connections = member_of(allocator, "connections");
+    let connections = connections_or(DEFAULT_CONNECTIONS, Member::Connections, connections)?;
     Ok(Housekeeping {
         listen,
         lifecycle,
@@ -62,6 +67,7 @@ pub(crate) fn housekeeping_in(
         keep,
         settle,
         give_up,
+        connections,
     })
 }
 

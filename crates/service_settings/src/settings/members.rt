@@ -72,6 +72,7 @@ fn has_member(kind: Kind, name: &str) -> bool
             | "keep"
             | "settle"
             | "give_up"
+            | "connections"
             | "hosts"
             | "tokens"
             | "open_to_all"
