@@ -1,5 +1,6 @@
 //! Accepts connections and runs what serves each of them, all on the calling thread.
 ghost use Rattle.std.specs.Prelude.{IfOk};
+ghost use Rattle.futures.specs.Task.{Keeps};
 
 use crate::gate::Gate;
 use futures::executor::TaskSet;
@@ -11,6 +12,7 @@ use std::net::SocketAddr;
 use std::random::RandomSource;
 use std::sync::Wait;
 use std::time::{Clock, Duration};
+use tokio::io::{AsyncRead, AsyncWrite};
 use tokio::net::{TcpListener, TcpStream};
 use tokio::runtime::LocalRuntime;
 use tokio::sync::{OwnedNotified, OwnedSemaphorePermit};
@@ -18,6 +20,19 @@ use tokio::time::{Handle, Sleep};
 
 /// How long no connection is taken where there is no place for one, or one could not be taken.
 const PAUSE_MILLIS: u64 = 20;
+
+/// So often a place is looked for, after a pause each, before a connection is turned away.
+const MOST_TRIES: u32 = 50;
+
+/// And so often an idle connection is ended for it.
+const TRIES_A_PLACE: u32 = 10;
+
+/// How much of what a connection has sent is read before it is turned away.
+const HEAD_BYTES: usize = 4_096;
+
+/// What a connection is told for which there is no place.
+const BUSY: &[u8] =
+    b"HTTP/1.1 503 Service Unavailable\r\ncontent-type: application/json\r\ncontent-length: 18\r\nretry-after: 1\r\nconnection: close\r\n\r\n{\"refused\":\"Busy\"}";
 
 /// Makes what serves a connection.
 pub trait Serving {
@@ -35,6 +50,12 @@ pub trait Serving {
     /// A connection could not be taken, or nothing could be made that serves it.
     fn fail(&self);
 
+    /// A place is wanted: an idle connection of this loop is to end.
+    fn make_room(&self);
+
+    /// A connection was turned away, since no place became free.
+    fn turn_away(&self);
+
     /// The connections of this loop are to end.
     fn end(&self);
 }
@@ -49,8 +70,17 @@ struct Door<'a, R, M: Serving> {
     serving: &'a M,
     gate: &'a Gate,
     told: OwnedNotified,
-    place: Option<OwnedSemaphorePermit>,
+    newcomer: Option<Newcomer>,
     pause: Option<Sleep>,
+}
+
+/// A connection for which there was no place yet.
+#[derive(Drop)]
+struct Newcomer {
+    socket: TcpStream,
+    from: SocketAddr,
+    /// How often one was looked for.
+    tries: u32,
 }
 
 impl<R: Clock, M: Serving> Door<'_, R, M> {
@@ -77,13 +107,43 @@ impl<R: Clock, M: Serving> Door<'_, R, M> {
             .ok();
     }
 
-    /// A place that is held, or a new one.
-    fn take_place(&mut self) -> Option<OwnedSemaphorePermit> {
-        match self.place.take() {
-            Some(place) => Some(place),
-            None => self.gate.place(),
+    /// Lets a connection in where there is a place for it. Else an idle one ends for it, and after some tries it is turned away.
+    fn admit(&mut self, cx: &mut Context<'_>, newcomer: Newcomer)
+        ensures { Keeps cx.old cx.new }
+    {
+        match self.gate.place() {
+            Some(place) => self.let_in(newcomer.socket, newcomer.from, place),
+            None if newcomer.tries >= MOST_TRIES => {
+                turn_away(cx, newcomer.socket);
+                self.serving.turn_away();
+            }
+            None => self.hold(newcomer),
         }
     }
+
+    /// Looks for a place again after a pause.
+    fn hold(&mut self, newcomer: Newcomer) {
+        if newcomer.tries.is_multiple_of(TRIES_A_PLACE) {
+            self.serving.make_room();
+        }
+        self.newcomer = Some(Newcomer {
+            socket: newcomer.socket,
+            from: newcomer.from,
+            tries: newcomer.tries.saturating_add(1),
+        });
+        self.rest();
+    }
+}
+
+/// Tells a connection that there is no place for it, as far as that goes at once.
+fn turn_away(cx: &mut Context<'_>, socket: TcpStream)
+    ensures { Keeps cx.old cx.new }
+{
+    let mut socket = socket;
+    let mut head = [0u8; HEAD_BYTES];
+    let _ = socket.poll_read(cx, &mut head);
+    let _ = socket.poll_write(cx, BUSY);
+    let _ = socket.poll_shutdown(cx);
 }
 
 impl<R: Clock + Drop, M: Serving> Future for Door<'_, R, M> {
@@ -98,16 +158,23 @@ impl<R: Clock + Drop, M: Serving> Future for Door<'_, R, M> {
             let _ = ready!(pause.poll(cx));
             self.pause = None;
         }
-        let Some(place) = self.take_place() else {
-            self.rest();
+        if let Some(newcomer) = self.newcomer.take() {
+            self.admit(cx, newcomer);
             return cx.yield_now();
-        };
+        }
         match self.listener.poll_accept(cx) {
-            Poll::Pending => {
-                self.place = Some(place);
-                return Poll::Pending;
+            Poll::Pending => return Poll::Pending,
+            Poll::Ready(Ok((socket, from))) => {
+                let tries = 0;
+                self.admit(
+                    cx,
+                    Newcomer {
+                        socket,
+                        from,
+                        tries,
+                    },
+                );
             }
-            Poll::Ready(Ok((socket, from))) => self.let_in(socket, from, place),
             Poll::Ready(Err(_)) => {
                 self.serving.fail();
                 self.rest();
@@ -139,7 +206,7 @@ where
         serving,
         gate,
         told: gate.told()?,
-        place: None,
+        newcomer: None,
         pause: None,
     };
     runtime.block_on_with(rt, &tasks, door)

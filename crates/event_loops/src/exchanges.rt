@@ -2,6 +2,8 @@
 use std::alloc::{AllocError, Global};
 use std::cell::Cell;
 use std::rc::Rc;
+use std::sync::Arc;
+use tokio::sync::{Notify, OwnedNotified};
 
 /// What a connection's service, its socket and its limits of time tell one another.
 #[derive(Drop)]
@@ -22,11 +24,23 @@ pub struct Exchanges {
     told: Cell<bool>,
     /// Whether the server is to end.
     ending: Cell<bool>,
+    /// Whether another connection wants its place.
+    wanted: Cell<bool>,
+    /// Whether the connection has ended.
+    over: Cell<bool>,
+    /// When it began to be idle, counted by the loop.
+    idle_since: Cell<u64>,
+    /// What the loop counts next.
+    turn: Rc<Cell<u64>>,
+    /// Wakes the connection.
+    bell: Arc<Notify>,
 }
 
 impl Exchanges {
-    /// Those of a new connection, which is idle.
-    pub fn new(alloc: Global) -> Result<Rc<Exchanges>, AllocError> {
+    /// Those of a new connection, which is idle, of a loop that counts here.
+    pub(crate) fn new(alloc: Global, turn: Rc<Cell<u64>>) -> Result<Rc<Exchanges>, AllocError> {
+        let idle_since = next(&turn);
+        let bell = Arc::new(alloc, Notify::new(alloc)?)?;
         Ok(Rc::new(
             alloc,
             Exchanges {
@@ -38,6 +52,11 @@ impl Exchanges {
                 last: Cell::new(false),
                 told: Cell::new(false),
                 ending: Cell::new(false),
+                wanted: Cell::new(false),
+                over: Cell::new(false),
+                idle_since: Cell::new(idle_since),
+                turn,
+                bell,
             },
         )?)
     }
@@ -55,6 +74,7 @@ impl Exchanges {
         if self.answered.get() && self.busy.get() {
             self.busy.set(false);
             self.changed.set(true);
+            self.idle_since.set(next(&self.turn));
         }
     }
 
@@ -109,12 +129,58 @@ impl Exchanges {
         self.told.get()
     }
 
-    /// The server is to end.
+    /// The server is to end. The connection is woken.
     pub(crate) fn end(&self) {
         self.ending.set(true);
+        self.bell.notify_waiters();
     }
 
     pub(crate) fn is_ending(&self) -> bool {
         self.ending.get()
     }
+
+    /// Another connection wants its place. The connection is woken.
+    pub(crate) fn want(&self) {
+        self.wanted.set(true);
+        self.bell.notify_waiters();
+    }
+
+    pub(crate) fn is_wanted(&self) -> bool {
+        self.wanted.get()
+    }
+
+    /// Its place is not given, since an exchange has begun. That one or the next is the last.
+    pub(crate) fn keep(&self) {
+        self.wanted.set(false);
+        self.last.set(true);
+    }
+
+    /// The connection has ended.
+    pub(crate) fn finish(&self) {
+        self.over.set(true);
+    }
+
+    pub(crate) fn is_over(&self) -> bool {
+        self.over.get()
+    }
+
+    /// When it began to be idle, where it is, and nobody wants its place yet.
+    pub(crate) fn idle_since(&self) -> Option<u64> {
+        if self.busy.get() || self.over.get() || self.wanted.get() {
+            return None;
+        }
+        Some(self.idle_since.get())
+    }
+
+    /// Ready once the connection is woken, from now on.
+    pub fn told(&self) -> Result<OwnedNotified, AllocError> {
+        Ok(Notify::notified_owned(Arc::try_clone(&self.bell)?))
+    }
+}
+
+/// Counts one further.
+fn next(turn: &Cell<u64>) -> u64 {
+    let count = turn.get().wrapping_add(1);
+    turn.set(count);
+    count
 }

@@ -4,6 +4,7 @@
 //! Contracts pass on what they say of the service, the connection and the socket that are wrapped here; of time and order they say nothing.
 #![tactic(auto)]
 
+mod connections;
 mod door;
 mod exchanges;
 mod gate;
@@ -12,6 +13,7 @@ mod socket;
 mod timed;
 mod times;
 
+pub use connections::Connections;
 pub use door::{Serving, serve_all};
 pub use exchanges::Exchanges;
 pub use gate::Gate;

@@ -1,10 +1,11 @@
 //! A connection with its limits of time and its place.
-ghost use Rattle.futures.specs.Task.{Keeps};
+ghost use Rattle.futures.specs.Poll.{OnPending};
+ghost use Rattle.futures.specs.Task.{IsArmed, Keeps};
 
 use crate::exchanges::Exchanges;
 use crate::times::Times;
-use futures::Future;
 use futures::task::{Context, Poll};
+use futures::{Future, ready};
 use hyper::server::graceful::GracefulConnection;
 use std::rc::Rc;
 use std::time::{Clock, Duration, Instant};
@@ -17,7 +18,7 @@ pub struct Limits<K> {
     pub clock: K,
     pub times: Times,
     pub exchanges: Rc<Exchanges>,
-    /// Ready once the connections are to end.
+    /// Ready once the connection is to end.
     pub told: Option<OwnedNotified>,
     /// Ready once the connection has been idle, or an exchange has gone on, for too long.
     pub limit: Sleep,
@@ -43,14 +44,25 @@ impl<K: Clock> Limits<K> {
         if told.poll(cx).is_pending() {
             return false;
         }
-        self.told = None;
-        self.exchanges.end();
+        self.told = self.exchanges.told().ok();
+        if !self.exchanges.is_ending() {
+            return self.gives_place();
+        }
         self.exchanges.end_with_next();
         if self.exchanges.was_used() {
             return true;
         }
         self.set_limit_to(self.times.linger);
         false
+    }
+
+    /// Whether the place is given to who wants it: an exchange that has begun is finished before.
+    fn gives_place(&self) -> bool {
+        if self.exchanges.is_busy() {
+            self.exchanges.keep();
+            return false;
+        }
+        true
     }
 
     /// The limit begins anew where the connection began to be idle, or ceased to be.
@@ -75,6 +87,16 @@ impl<K: Clock> Limits<K> {
         }
     }
 
+    /// Ready once the limit is reached.
+    fn is_over(&mut self, cx: &mut Context<'_>) -> Poll<()>
+        ensures registered { OnPending result (IsArmed cx.new) }
+        ensures kept { Keeps cx.old cx.new }
+    {
+        let _ = ready!(self.limit.poll(cx));
+        self.exchanges.finish();
+        Poll::Ready(())
+    }
+
     /// Whether the exchange that has begun since this was asked is the last.
     fn is_last(&self) -> bool {
         self.exchanges.has_begun() && self.exchanges.is_last()
@@ -91,6 +113,7 @@ impl<C: GracefulConnection + Future<Output = T>, K: Clock + Drop, T: Drop> Futur
             self.conn.graceful_shutdown();
         }
         if self.conn.poll(cx).is_ready() {
+            self.limits.exchanges.finish();
             return Poll::Ready(());
         }
         if self.limits.is_last() {
@@ -98,6 +121,6 @@ impl<C: GracefulConnection + Future<Output = T>, K: Clock + Drop, T: Drop> Futur
             self.limits.exchanges.tell();
         }
         self.limits.set_limit();
-        self.limits.limit.poll(cx).map(|_| ())
+        self.limits.is_over(cx)
     }
 }

@@ -4,7 +4,7 @@ use crate::service::AllocatorService;
 use crate::spoken::Spoken;
 use alloc_desk::DeskName;
 use bytes::Bytes;
-use event_loops::{Exchanges, Gate, Limits, Paced, Serving, Socket, Timed, serve_all};
+use event_loops::{Connections, Exchanges, Gate, Limits, Paced, Serving, Socket, Timed, serve_all};
 use http_body_util::Full;
 use hyper::rt::TokioTimer;
 use hyper::server::conn::http1;
@@ -20,7 +20,7 @@ use std::thread::Threads;
 use std::time::{Clock, Duration};
 use std::{io, thread};
 use tokio::runtime::LocalRuntime;
-use tokio::sync::{Notify, OwnedSemaphorePermit};
+use tokio::sync::OwnedSemaphorePermit;
 use tokio::time::Handle;
 
 /// How many event loops a server has where the caller names no number.
@@ -40,8 +40,7 @@ struct Host<'a, R, L: Ledger, B: Ledger, N: DeskName> {
     http: http1::Builder<TokioTimer<R>>,
     time: Handle,
     gate: &'a Gate,
-    /// Wakes the connections of the loop.
-    told: Arc<Notify>,
+    connections: Connections,
 }
 
 impl<R: Wait + Clock + AllocGlobal + Copy + Drop, L: Ledger, B: Ledger, N: DeskName> Host<
@@ -53,7 +52,7 @@ impl<R: Wait + Clock + AllocGlobal + Copy + Drop, L: Ledger, B: Ledger, N: DeskN
 > {
     /// Those of a connection that begins. Where few places are left it serves one exchange.
     fn exchanges(&self, is_pressed: bool) -> Result<Rc<Exchanges>, AllocError> {
-        let exchanges = Exchanges::new(self.handler.alloc)?;
+        let exchanges = self.connections.begin()?;
         if is_pressed {
             exchanges.end_with_next();
         }
@@ -77,7 +76,7 @@ impl<R: Wait + Clock + AllocGlobal + Copy + Drop, L: Ledger, B: Ledger, N: DeskN
             clock: self.handler.rt,
             times,
             exchanges: exchanges.clone()?,
-            told: Some(Notify::notified_owned(Arc::try_clone(&self.told)?)),
+            told: Some(exchanges.told()?),
             limit: self
                 .time
                 .sleep(&self.handler.rt, Duration::from_millis(first))?,
@@ -128,8 +127,16 @@ impl<R: Wait + Clock + AllocGlobal + Copy + Drop, L: Ledger, B: Ledger, N: DeskN
         self.handler.state.count_failed_accept();
     }
 
+    fn make_room(&self) {
+        self.connections.end_oldest();
+    }
+
+    fn turn_away(&self) {
+        self.handler.state.count_turned_away();
+    }
+
     fn end(&self) {
-        self.told.notify_waiters();
+        self.connections.end();
     }
 }
 
@@ -236,14 +243,14 @@ where
     let time = runtime.handle().time();
     let routes = Arc::new(rt.alloc(), Routes::open(rt.alloc())?)?;
     let http = builder(rt, time)?;
-    let told = Arc::new(rt.alloc(), Notify::new(rt.alloc())?)?;
+    let connections = Connections::new(rt.alloc())?;
     Ok(Host {
         handler: handler.of_loop(time, gate)?,
         routes,
         http,
         time: time.clone()?,
         gate,
-        told,
+        connections,
     })
 }
 

@@ -153,9 +153,19 @@ fn write_state(page: &mut Exposition, state: &ServiceState) -> Result<(), AllocE
     let name = "allocd_http_accept_failures_total";
     let count = u128::from(state.failed_accepts());
     write_counter(page, name, "Connections that could not be taken.", count)?;
+    write_turned_away(page, state)?;
     let name = "allocd_log_lines_lost_total";
     let count = u128::from(state.lost_lines());
     write_counter(page, name, "Log lines that nobody read in time.", count)
+}
+
+fn write_turned_away(page: &mut Exposition, state: &ServiceState) -> Result<(), AllocError> {
+    write_counter(
+        page,
+        "allocd_http_connections_turned_away_total",
+        "Connections that were answered 503, since there was no place for them.",
+        u128::from(state.turned_away()),
+    )
 }
 
 /// What the last published allocation came to, and how long reallocations took.

@@ -37,6 +37,8 @@ pub struct ServiceState {
     most_connections: AtomicU64,
     /// How many could not be taken.
     failed_accepts: AtomicU64,
+    /// For how many there was no place.
+    turned_away: AtomicU64,
     /// How many lines the log lost, where it may lose some.
     lost_lines: Option<Arc<AtomicU64>>,
     notes: Mutex<Notes>,
@@ -63,6 +65,7 @@ impl ServiceState {
             connections: AtomicU64::new(0),
             most_connections: AtomicU64::new(0),
             failed_accepts: AtomicU64::new(0),
+            turned_away: AtomicU64::new(0),
             lost_lines: None,
             notes: Mutex::new(Notes::new(alloc)),
             changes: Mutex::new(Changes::new(alloc)),
@@ -199,6 +202,15 @@ impl ServiceState {
     /// How many connections could not be taken.
     pub fn failed_accepts(&self) -> u64 {
         self.failed_accepts.load(Ordering::SeqCst)
+    }
+
+    /// There was no place for a connection.
+    pub fn count_turned_away(&self) {
+        self.turned_away.fetch_add(1, Ordering::SeqCst);
+    }
+
+    pub(crate) fn turned_away(&self) -> u64 {
+        self.turned_away.load(Ordering::SeqCst)
     }
 
     /// It began so many seconds after 1970.
