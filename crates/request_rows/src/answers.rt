@@ -1,5 +1,6 @@
 //! What is to be answered, by its name.
 use crate::numbers::{first_word, number};
+use bytes::Bytes;
 use fleet_events::{Answer, Refusal};
 use lists::Text;
 use sd_routes::{Notice, Place, RequestError, Said};
@@ -29,7 +30,7 @@ fn taken(alloc: Global, text: &str) -> Result<Said, AllocError> {
     Ok(Said::Taken {
         allocation: number(allocation),
         round: number(round),
-        groups: Text::from_str(alloc, groups)?,
+        groups: Bytes::from_string(String::from_str(alloc, groups)?)?,
     })
 }
 

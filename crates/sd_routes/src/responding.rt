@@ -36,7 +36,7 @@ pub enum Said {
         allocation: AllocationNumber,
         round: Round,
         /// The list of groups, as its JSON text.
-        groups: Text,
+        groups: Bytes,
     },
     /// The request is refused without an answer of the allocator.
     Refused(RequestError),
@@ -110,7 +110,7 @@ fn response_of(alloc: Global, said: Said) -> Result<Response<Full<Bytes>>, Alloc
             allocation,
             round,
             groups,
-        } => response(taken_head(alloc, allocation, round)?, groups.into_string()),
+        } => Ok(response_with(taken_head(alloc, allocation, round)?, groups)),
         Said::Refused(error) => {
             let head = refused_head(alloc, error)?;
             response(head, refused_text(alloc, error.name())?)
@@ -156,7 +156,13 @@ fn response(head: Parts, text: String) -> Result<Response<Full<Bytes>>, AllocErr
     ensures { IfOk result (IsResponse head.status head.headers (string_bytes text)) }
 {
     let body = Bytes::from_string(text)?;
-    Ok(Response::from_parts(head, Full::new(body)))
+    Ok(response_with(head, body))
+}
+
+fn response_with(head: Parts, body: Bytes) -> Response<Full<Bytes>>
+    ensures { IsResponse head.status head.headers body result }
+{
+    Response::from_parts(head, Full::new(body))
 }
 
 fn json_head(alloc: Global, status: StatusCode) -> Result<Parts, AllocError>

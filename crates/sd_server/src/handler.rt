@@ -18,6 +18,7 @@ use crate::uncovered::{Uncovered, uncovered_of};
 use admission::Admission;
 use alloc_desk::{Desk, DeskName, EnterError, NumberedTarget, Pass, Receipt, Share};
 use allocation_core::{Answer, Event, Refusal};
+use bytes::Bytes;
 use event_loops::Gate;
 use fleet_events::{AllocationNumber, CollectorId, TargetId};
 use lists::{List, Plain, Text};
@@ -456,7 +457,7 @@ impl<R: Wait + Clock + Copy, L: Ledger, B: Ledger, N: DeskName> Handler<R, L, B,
         collector: CollectorId,
         allocation: AllocationNumber,
         held: &[TargetId],
-    ) -> Result<Text, AllocError>
+    ) -> Result<Bytes, AllocError>
         ensures { IfOk result (IsGroups N.opening place held.now) }
     {
         if let Some(text) = self.texts.text(&self.rt, collector, place, held)? {
@@ -471,24 +472,24 @@ impl<R: Wait + Clock + Copy, L: Ledger, B: Ledger, N: DeskName> Handler<R, L, B,
         Ok(text)
     }
 
-    /// A copy of a text, to be kept.
+    /// A text, to be kept.
     fn kept_text(
         &self,
         place: usize,
         held: &[TargetId],
-        text: &Text,
+        text: &Bytes,
     ) -> Result<Arc<ListText<N>>, AllocError>
         requires { IsGroups N.opening place held.now text.now }
     {
-        let text = ListText::new(self.alloc, place, held, text)?;
+        let text = ListText::new(self.alloc, place, held, text.clone()?)?;
         Ok(Arc::new(self.alloc, text)?)
     }
 
-    fn new_groups(&self, place: usize, held: &[TargetId]) -> Result<Text, AllocError>
+    fn new_groups(&self, place: usize, held: &[TargetId]) -> Result<Bytes, AllocError>
         ensures { IfOk result (IsGroups N.opening place held.now) }
     {
         let targets = self.numbered(place, held)?;
-        targets_page(self.alloc, targets.as_slice())
+        Bytes::from_string(targets_page(self.alloc, targets.as_slice())?.into_string())
     }
 
     fn numbered(&self, place: usize, held: &[TargetId]) -> Result<List<NumberedTarget>, AllocError>

@@ -3,8 +3,9 @@ ghost use Rattle.std.specs.Prelude.{◌≡◌, IfOk};
 ghost use Rattle.sd_server.specs.Listing.{IfGroups, IsGroups};
 
 use alloc_desk::DeskName;
+use bytes::Bytes;
 use fleet_events::TargetId;
-use lists::{List, Plain, Text, all_same, copies};
+use lists::{List, Plain, all_same, copies};
 use std::alloc::{AllocError, Global};
 use std::marker::{Model, PhantomData};
 
@@ -13,7 +14,7 @@ use std::marker::{Model, PhantomData};
 pub(crate) struct ListText<N: DeskName> {
     place: usize,
     held: List<TargetId>,
-    text: Text,
+    text: Bytes,
     of: PhantomData<N>,
 }
 
@@ -28,17 +29,16 @@ impl<N: DeskName> Model for ListText<N> {
 }
 
 impl<N: DeskName> ListText<N> {
-    /// A copy of a text that was made of these targets.
+    /// A text that was made of these targets.
     pub(crate) fn new(
         alloc: Global,
         place: usize,
         held: &[TargetId],
-        text: &Text,
+        text: Bytes,
     ) -> Result<ListText<N>, AllocError>
-        requires { IsGroups N.opening place held.now text.now }
+        requires { IsGroups N.opening place held.now text }
     {
         let held = List::from_vec(copies(alloc, held)?);
-        let text = text.copy()?;
         Ok(ListText {
             place,
             held,
@@ -48,13 +48,12 @@ impl<N: DeskName> ListText<N> {
     }
 
     /// The text, where it is that of these targets.
-    pub(crate) fn text(&self, place: usize, held: &[TargetId]) -> Result<Option<Text>, AllocError>
+    pub(crate) fn text(&self, place: usize, held: &[TargetId]) -> Result<Option<Bytes>, AllocError>
         ensures { IfOk result (IfGroups N.opening place held.now) }
     {
         if self.place != place || !all_same(self.held.as_slice(), held) {
             return Ok(None);
         }
-        let text = self.text.copy()?;
-        Ok(Some(text))
+        Ok(Some(self.text.clone()?))
     }
 }

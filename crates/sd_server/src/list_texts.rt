@@ -4,9 +4,9 @@ ghost use Rattle.sd_server.specs.Listing.{IfGroups, IsGroups};
 
 use crate::list_text::ListText;
 use alloc_desk::DeskName;
+use bytes::Bytes;
 use fleet_events::{AllocationNumber, CollectorId, TargetId};
 use indexmap::IndexMap;
-use lists::Text;
 use std::alloc::{AllocError, Global};
 use std::sync::{Arc, Mutex, Wait};
 
@@ -41,7 +41,7 @@ impl<N: DeskName> ListTexts<N> {
         collector: CollectorId,
         place: usize,
         held: &[TargetId],
-    ) -> Result<Option<Text>, AllocError>
+    ) -> Result<Option<Bytes>, AllocError>
         ensures { IfOk result (IfGroups N.opening place held.now) }
     {
         match self.kept_text(rt, collector, place)? {
