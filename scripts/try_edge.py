@@ -2,7 +2,7 @@
 """Runs `allocd serve` over settings, sources and figures that scripts/try_serve.py does not look at, and tells of each thing whether it holds: try_edge.py [PART ..]
 
 Where it listens and keeps its journal, each job's own rules, reloads with more sources, other orders and too many jobs, who is uncovered,
-names as text, what is counted, rounds. It needs Linux and the program (ALLOCD_PROGRAM, or dist/allocd)."""
+names as text, what is counted, what strangers send, rounds. It needs Linux and the program (ALLOCD_PROGRAM, or dist/allocd)."""
 
 import http.server
 import json
@@ -198,6 +198,70 @@ def figures(folder):
     ends(service)
 
 
+def post(path, body, length=None, more=b"", method=b"POST"):
+    """A request with a body, on a connection that it ends. `length`: what its head says of it."""
+    length = len(body) if length is None else length
+    head = method + b" " + path + b" HTTP/1.1\r\nhost: localhost\r\ncontent-type: application/json\r\nconnection: close\r\n"
+    return head + more + b"content-length: %d\r\n\r\n" % length + body
+
+
+JOIN = b'{"name":"a","reach":[]}'
+
+# What a stranger does, what it sends, what it does then, and how all that comes back begins and ends. All but one say that the connection is to be
+# closed, or are cut.
+TALKS = [
+    ("two requests in one segment", b"GET /certificate HTTP/1.1\r\nhost: localhost\r\n\r\nGET /jobs HTTP/1.1\r\nhost: localhost\r\nconnection: close\r\n\r\n",
+     "reads", b"HTTP/1.1 200 OK\r\ncontent-type: application/json\r\n", b'\r\n\r\n{"j":{"_link":"/jobs/j/targets"}}'),
+    ("a head of more than a MiB", b"GET /jobs HTTP/1.1\r\nhost: localhost\r\nx: " + b"x" * 1048576, "reads", b"HTTP/1.1 431 ", b'{"refused":"Request"}'),
+    ("a target that is as long", b"GET /" + b"x" * 1048576, "reads", b"HTTP/1.1 4", b'{"refused":"Request"}'),
+    ("no host", b"GET /jobs HTTP/1.1\r\n\r\n", "reads", b"HTTP/1.1 400 Bad Request\r\n", b'{"refused":"Request"}'),
+    ("no request", b"\x01\x02\r\n\r\n", "reads", b"HTTP/1.1 400 Bad Request\r\n", b'{"refused":"Request"}'),
+    ("a reset in mid-body", post(b"/collectors", b"{" + b"x" * 100, 1000, b"expect: 100-continue\r\n"), "leaves", b"", b""),
+    ("a length that promises more than comes", post(b"/collectors", JOIN, 100), "ends", b"HTTP/1.1 400 Bad Request\r\n", b'\r\n\r\n{"refused":"Shape"}'),
+    ("a length that promises less", post(b"/collectors", JOIN, 22), "reads", b"HTTP/1.1 400 Bad Request\r\n", b'\r\n\r\n{"refused":"Shape"}'),
+    ("the longest body, which is no JSON", post(b"/collectors", b"x" * 1048576), "reads", b"HTTP/1.1 400 Bad Request\r\n", b'\r\n\r\n{"refused":"Shape"}'),
+    ("one byte more", post(b"/collectors", b"x" * 1048577), "reads", b"HTTP/1.1 413 Payload Too Large\r\n", b'\r\n\r\n{"refused":"TooLong"}'),
+    ("limits of a collector that is not there", post(b"/collectors/9/limits", b'{"limits":{}}', method=b"PUT"), "reads", b"HTTP/1.1 404 Not Found\r\n", b'\r\n\r\n{"refused":"UnknownCollector"}'),
+    ("limits that are none", post(b"/collectors/9/limits", b'{"limits":[]}', method=b"PUT"), "reads", b"HTTP/1.1 400 Bad Request\r\n", b'\r\n\r\n{"member":"limits","refused":"Shape"}'),
+    ("a chunked body", b"POST /collectors HTTP/1.1\r\nhost: localhost\r\ncontent-type: application/json\r\nconnection: close\r\ntransfer-encoding: chunked\r\n\r\n"
+     b'8\r\n{"name":\r\nf\r\n"a","reach":[]}\r\n0\r\n\r\n', "reads", b"HTTP/1.1 200 OK\r\n", b'\r\n\r\n{"answer":"Joined 1"}'),
+    ("a drain", post(b"/collectors/1/drain", b""), "reads", b"HTTP/1.1 200 OK\r\n", b'\r\n\r\n{"answer":"Draining"}'),
+    ("drained twice", post(b"/collectors/1/drain", b""), "reads", b"HTTP/1.1 409 Conflict\r\n", b'\r\n\r\n{"refused":"AlreadyDraining"}'),
+    ("limits that are all of its own", post(b"/collectors/1/limits", b'{"limits":{}}', method=b"PUT"), "reads", b"HTTP/1.1 200 OK\r\n", b'\r\n\r\n{"answer":"LimitsSet"}'),
+]
+
+
+def goes(port, sent, then, begins, ends_with):
+    """Whether a talk goes as it says."""
+    it = socket.create_connection(("127.0.0.1", port), timeout=30)
+    try:
+        it.sendall(sent)
+    except OSError:
+        pass
+    if then == "leaves":
+        came = it.recv(1, socket.MSG_PEEK)
+        it.close()
+        return came == b"H"
+    if then == "ends":
+        it.shutdown(socket.SHUT_WR)
+    came = b""
+    while True:
+        more = it.recv(65536)
+        if not more:
+            break
+        came += more
+    it.close()
+    return came.startswith(begins) and came.endswith(ends_with)
+
+
+def talks(folder):
+    service = Service(folder, config([{"job_name": "j", "target_limit": 1}], collectors=[]), f"{folder}/journal")
+    service.is_up()
+    for what, sent, then, begins, ends_with in TALKS:
+        tell(f"a stranger: {what}", goes(service.port, sent, then, begins, ends_with))
+    ends(service)
+
+
 def rounds(folder):
     service = started(folder, [static("n", 1)], interval="1s")
     first, began = service.figure("allocd_round"), time.monotonic()
@@ -210,4 +274,4 @@ def rounds(folder):
 SOURCE = http.server.ThreadingHTTPServer(("127.0.0.1", 0), Source)
 SOURCE.daemon_threads = True
 threading.Thread(target=SOURCE.serve_forever, daemon=True).start()
-run_parts((settings, relabels, reloads, uncovered, texts, figures, rounds), sys.argv[1:])
+run_parts((settings, relabels, reloads, uncovered, texts, figures, talks, rounds), sys.argv[1:])

@@ -134,8 +134,9 @@ fn doors_outline(alloc: Global, settings: &Settings) -> Result<String, AllocErro
     let connections = settings.connections;
     let no_jobs = settings.allow_no_jobs;
     let reach = settings.reach_changes;
+    let rejoin = settings.rejoin;
     format!(in alloc;
-        " {give_up} {connections} {hosts} {admin} {collectors} {open} {no_jobs} {reach:?}"
+        " {give_up} {connections} {hosts} {admin} {collectors} {open} {no_jobs} {reach:?} {rejoin}"
     )
 }
 

@@ -16,6 +16,8 @@ pub struct Exchanges {
     begun: Cell<bool>,
     /// Whether there was an exchange.
     was_used: Cell<bool>,
+    /// Whether a head has come whose answer is not written yet.
+    serving: Cell<bool>,
     /// Whether the answer to the exchange under way was given to hyper.
     answered: Cell<bool>,
     /// Whether the next exchange is the last.
@@ -48,6 +50,7 @@ impl Exchanges {
                 changed: Cell::new(false),
                 begun: Cell::new(false),
                 was_used: Cell::new(false),
+                serving: Cell::new(false),
                 answered: Cell::new(false),
                 last: Cell::new(false),
                 told: Cell::new(false),
@@ -73,6 +76,7 @@ impl Exchanges {
     pub(crate) fn flush(&self) {
         if self.answered.get() && self.busy.get() {
             self.busy.set(false);
+            self.serving.set(false);
             self.changed.set(true);
             self.idle_since.set(next(&self.turn));
         }
@@ -82,6 +86,7 @@ impl Exchanges {
     pub(crate) fn begin(&self) -> bool {
         self.begun.set(true);
         self.was_used.set(true);
+        self.serving.set(true);
         self.answered.set(false);
         self.last.get()
     }
@@ -145,14 +150,13 @@ impl Exchanges {
         self.bell.notify_waiters();
     }
 
-    pub(crate) fn is_wanted(&self) -> bool {
-        self.wanted.get()
-    }
-
-    /// Its place is not given, since an exchange has begun. That one or the next is the last.
-    pub(crate) fn keep(&self) {
-        self.wanted.set(false);
-        self.last.set(true);
+    /// Whether the place is given to who wants it. Where an exchange has begun it is not, but that one or the next is the last.
+    pub(crate) fn gives_place(&self) -> bool {
+        let is_given = self.wanted.replace(false) && !self.serving.get();
+        if !is_given {
+            self.last.set(true);
+        }
+        is_given
     }
 
     /// The connection has ended.
@@ -164,9 +168,9 @@ impl Exchanges {
         self.over.get()
     }
 
-    /// When it began to be idle, where it is, and nobody wants its place yet.
+    /// When its last answer was written, or it began, where no whole head has come since, and nobody wants its place yet.
     pub(crate) fn idle_since(&self) -> Option<u64> {
-        if self.busy.get() || self.over.get() || self.wanted.get() {
+        if self.serving.get() || self.over.get() || self.wanted.get() {
             return None;
         }
         Some(self.idle_since.get())

@@ -13,7 +13,7 @@ use std::time::Duration;
 use tokio::io::{AsyncRead, AsyncWrite};
 use tokio::time::Sleep;
 
-/// How much is thrown away at once, and for how long at most where the server ends or the place is wanted.
+/// How much is thrown away at once, and for how long at most where the server ends.
 const PIECE_BYTES: usize = 16_384;
 
 const LAST_MILLIS: u64 = 100;
@@ -45,7 +45,7 @@ impl<I, T: Timer> Socket<I, T> {
     /// The lingering begins.
     fn begin_to_linger(&mut self) {
         self.is_shut = true;
-        let millis = if self.exchanges.is_ending() || self.exchanges.is_wanted() {
+        let millis = if self.exchanges.is_ending() {
             LAST_MILLIS
         } else {
             self.linger

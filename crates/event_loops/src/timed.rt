@@ -34,7 +34,7 @@ pub struct Timed<C, K> {
 }
 
 impl<K: Clock> Limits<K> {
-    /// Whether the connection is to end, since this was asked. One that is new serves an exchange before, if that comes at once.
+    /// Whether the connection was woken since this was asked.
     fn is_told(&mut self, cx: &mut Context<'_>) -> bool
         ensures { Keeps cx.old cx.new }
     {
@@ -45,8 +45,13 @@ impl<K: Clock> Limits<K> {
             return false;
         }
         self.told = self.exchanges.told().ok();
+        true
+    }
+
+    /// Whether a connection that was woken ends, since the server does. One that is new serves an exchange before, if that comes at once.
+    fn ends(&mut self) -> bool {
         if !self.exchanges.is_ending() {
-            return self.gives_place();
+            return false;
         }
         self.exchanges.end_with_next();
         if self.exchanges.was_used() {
@@ -54,15 +59,6 @@ impl<K: Clock> Limits<K> {
         }
         self.set_limit_to(self.times.linger);
         false
-    }
-
-    /// Whether the place is given to who wants it: an exchange that has begun is finished before.
-    fn gives_place(&self) -> bool {
-        if self.exchanges.is_busy() {
-            self.exchanges.keep();
-            return false;
-        }
-        true
     }
 
     /// The limit begins anew where the connection began to be idle, or ceased to be.
@@ -109,7 +105,12 @@ impl<C: GracefulConnection + Future<Output = T>, K: Clock + Drop, T: Drop> Futur
     ghost can_poll = { λ t. C.can_poll t.conn };
 
     fn poll(&mut self, cx: &mut Context<'_>) -> Poll<()> {
-        if self.limits.is_told(cx) {
+        let is_told = self.limits.is_told(cx);
+        if is_told && self.limits.exchanges.gives_place() {
+            self.limits.exchanges.finish();
+            return Poll::Ready(());
+        }
+        if is_told && self.limits.ends() {
             self.conn.graceful_shutdown();
         }
         if self.conn.poll(cx).is_ready() {

@@ -4,7 +4,7 @@ use Rattle.std.specs.Fmt.{decimal}
 use Rattle.service_settings.specs.declared.error.SettingsError.{SettingsError}
 use Rattle.service_settings.specs.declared.error.SettingsError.TheVariants.{NotJson, Shape, Unknown, RepeatedCollector, Memory}
 use Rattle.service_settings.specs.declared.error.Member.{Member}
-use Rattle.service_settings.specs.declared.error.Member.TheVariants.{Document, Global, ScrapeInterval, ScrapeConfigs, ScrapeConfig, HttpSdConfigs, HttpSdConfig, RefreshInterval, Allocator, Listen, Lifecycle, Journal, Keep, Settle, GiveUp, Connections, Hosts, Host, Tokens, AdminTokens, CollectorTokens, OpenToAll, AllowNoJobs, Collectors, Collector, CollectorName, CollectorReach, CollectorLimits, ReachChanges, CollectorTimeout, FetchTimeout}
+use Rattle.service_settings.specs.declared.error.Member.TheVariants.{Document, Global, ScrapeInterval, ScrapeConfigs, ScrapeConfig, HttpSdConfigs, HttpSdConfig, RefreshInterval, Allocator, Listen, Lifecycle, Journal, Keep, Settle, GiveUp, Connections, Hosts, Host, Tokens, AdminTokens, CollectorTokens, OpenToAll, AllowNoJobs, Collectors, Collector, CollectorName, CollectorReach, CollectorLimits, ReachChanges, Rejoin, CollectorTimeout, FetchTimeout}
 
 -- without indices
 abbrev pub member_path : Member → List ℕ
@@ -37,6 +37,7 @@ member_path (CollectorName index) = codes "allocator.collectors"
 member_path (CollectorReach index) = codes "allocator.collectors"
 member_path (CollectorLimits index) = codes "allocator.collectors"
 member_path ReachChanges = codes "allocator.reach_changes"
+member_path Rejoin = codes "allocator.rejoin"
 member_path CollectorTimeout = codes "allocator.collector_timeout"
 member_path FetchTimeout = codes "allocator.fetch_timeout"
 
@@ -84,6 +85,7 @@ missing (CollectorName index) = codes "no name of a collector"
 missing (CollectorReach index) = codes "no list of reach rules"
 missing (CollectorLimits index) = codes "no object of limits"
 missing ReachChanges = codes "neither \"drained\" nor \"now\""
+missing Rejoin = codes "neither true nor false"
 missing CollectorTimeout = codes "no duration above 0"
 missing FetchTimeout = codes "no duration above 0"
 

@@ -1,5 +1,5 @@
 -- The settings of the service: members of the document of a configuration. Null is no absent member.
-use Rattle.std.specs.Prelude.{ℕ, List, Option, false, Result, Ok, Err, is_some, codes, if◌then◌else◌}
+use Rattle.std.specs.Prelude.{ℕ, List, Option, true, false, Result, Ok, Err, is_some, codes, if◌then◌else◌}
 use Rattle.serde_json.specs.Data.{Data}
 use Rattle.serde_json.specs.Find.{get, as_str, as_bool, as_object}
 use Rattle.json_values.specs.Spelling.{number_in}
@@ -58,9 +58,10 @@ collecting_said allocator =
     said_or false as_bool part.AllowNoJobs (member_at (codes "allow_no_jobs") allocator) >>= λ allow_no_jobs.
     collectors_said (member_at (codes "collectors") allocator) >>= λ collectors.
     reach_changes_said (member_at (codes "reach_changes") allocator) >>= λ reach_changes.
+    said_or true as_bool part.Rejoin (member_at (codes "rejoin") allocator) >>= λ rejoin.
     said_or_none time_in part.CollectorTimeout (member_at (codes "collector_timeout") allocator) >>= λ collector_timeout.
     said_or DEFAULT_FETCH_TIMEOUT time_in part.FetchTimeout (member_at (codes "fetch_timeout") allocator) >>= λ fetch_timeout.
-    Ok (record { allow_no_jobs = allow_no_jobs; collectors = collectors; reach_changes = reach_changes; collector_timeout = collector_timeout; fetch_timeout = fetch_timeout })
+    Ok (record { allow_no_jobs = allow_no_jobs; collectors = collectors; reach_changes = reach_changes; rejoin = rejoin; collector_timeout = collector_timeout; fetch_timeout = fetch_timeout })
 
 -- ---- all of them
 
@@ -79,6 +80,7 @@ settings_of scrape_interval refresh house doors fleet = record {
   allow_no_jobs = fleet.allow_no_jobs;
   collectors = fleet.collectors;
   reach_changes = fleet.reach_changes;
+  rejoin = fleet.rejoin;
   collector_timeout = fleet.collector_timeout;
   fetch_timeout = fleet.fetch_timeout;
 }

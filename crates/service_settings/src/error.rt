@@ -52,6 +52,7 @@ pub enum Member {
     CollectorReach(usize),
     CollectorLimits(usize),
     ReachChanges,
+    Rejoin,
     CollectorTimeout,
     FetchTimeout,
 }
@@ -156,6 +157,7 @@ impl Member {
             | Member::CollectorReach(_)
             | Member::CollectorLimits(_) => "allocator.collectors",
             Member::ReachChanges => "allocator.reach_changes",
+            Member::Rejoin => "allocator.rejoin",
             Member::CollectorTimeout => "allocator.collector_timeout",
             Member::FetchTimeout => "allocator.fetch_timeout",
         }
@@ -182,7 +184,8 @@ impl Member {
             | Member::FetchTimeout => "no duration above 0",
             Member::Settle => "no duration",
             Member::Listen => "no address with a port",
-            Member::Lifecycle | Member::OpenToAll | Member::AllowNoJobs => "neither true nor false",
+            Member::Lifecycle | Member::OpenToAll | Member::AllowNoJobs | Member::Rejoin =>
+                "neither true nor false",
             Member::Journal => "no text",
             Member::Host(_) => "no name of a host in small letters, without a port",
             Member::AdminTokens | Member::CollectorTokens => "no path of a file",

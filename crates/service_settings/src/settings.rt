@@ -73,6 +73,8 @@ pub struct Settings {
     pub collectors: List<Collector>,
     /// When another reach of a collector of the configuration is taken.
     pub reach_changes: ReachChanges,
+    /// Whether a collector of the configuration that is not live joins where its list is asked for.
+    pub rejoin: bool,
     /// After how long without a word a collector leaves. Above 0, and never, if there is none.
     pub collector_timeout: Option<u64>,
     /// How long a fetch may take. Above 0.
@@ -130,6 +132,7 @@ fn settings_of(
         allow_no_jobs: collecting.allow_no_jobs,
         collectors: collecting.collectors,
         reach_changes: collecting.reach_changes,
+        rejoin: collecting.rejoin,
         collector_timeout: collecting.collector_timeout,
         fetch_timeout: collecting.fetch_timeout,
     }

@@ -38,6 +38,7 @@ pub(crate) struct Collecting {
     pub(crate) allow_no_jobs: bool,
     pub(crate) collectors: List<Collector>,
     pub(crate) reach_changes: ReachChanges,
+    pub(crate) rejoin: bool,
     pub(crate) collector_timeout: Option<u64>,
     pub(crate) fetch_timeout: u64,
 }
@@ -82,6 +83,7 @@ pub(crate) fn collecting_in(
     let allow_no_jobs = flag_or(false, Member::AllowNoJobs, allow_no_jobs)?;
     let collectors = collectors_in(alloc, member_of(allocator, "collectors"))?;
     let reach_changes = reach_changes_in(member_of(allocator, "reach_changes"))?;
+    let rejoin = flag_or(true, Member::Rejoin, member_of(allocator, "rejoin"))?;
     let collector_timeout = member_of(allocator, "collector_timeout");
     let collector_timeout = time_or_none(Member::CollectorTimeout, collector_timeout)?;
     let fetch_timeout = member_of(allocator, "fetch_timeout");
@@ -90,6 +92,7 @@ pub(crate) fn collecting_in(
         allow_no_jobs,
         collectors,
         reach_changes,
+        rejoin,
         collector_timeout,
         fetch_timeout,
     })

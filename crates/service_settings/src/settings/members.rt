@@ -79,6 +79,7 @@ fn has_member(kind: Kind, name: &str) -> bool
             | "allow_no_jobs"
             | "collectors"
             | "reach_changes"
+            | "rejoin"
             | "collector_timeout"
             | "fetch_timeout" => true,
             _ => false,
