@@ -1,5 +1,5 @@
 -- What a request is told.
-use Rattle.std.specs.Prelude.{◌≡◌, ◌⊎◌, ℕ, List, Option, Some, None, Result, Ok, Err}
+use Rattle.std.specs.Prelude.{◌≡◌, ◌⊎◌, ℕ, List, Option, Some, None, Result, Ok, Err, codes}
 use Rattle.fleet.specs.Fleet.{id_named}
 use Rattle.fleet_events.specs.declared.event.Event.{Event}
 use Rattle.fleet_events.specs.declared.event.Event.TheVariants.{Take}
@@ -61,10 +61,18 @@ abbrev pub SaysTake : State → ℕ → ℕ → Said → Type 0
 SaysTake opening place id said = ((receipt : Receipt) × IsEntered opening (Take id) receipt × SaysListed opening place receipt.answer said)
     ⊎ ((error : RequestError) × SaysNot opening error × (said ≡ Refused error))
 
+-- a text that does not change, unless memory ran out
+abbrev pub SaysCopy : List ℕ → Said → Type 0
+SaysCopy text said = (said ≡ Page text) ⊎ (said ≡ Refused Memory)
+
+-- what is told under a name that nobody has: nothing is to be scraped by a collector that had it, unless memory ran out, and no other is known
+abbrev pub SaysGone : Said → Type 0
+SaysGone said = (said ≡ Answered (Not UnknownCollector)) ⊎ SaysCopy (codes "[]") said
+
 -- nobody has the name, or its collector takes
 abbrev pub SaysHeld : State → ℕ → List ℕ → Said → Type 0
 SaysHeld opening place name said =
-    (OfSome opening (λ h. id_named h.state.fleet.collectors name ≡ None) × (said ≡ Answered (Not UnknownCollector)))
+    (OfSome opening (λ h. id_named h.state.fleet.collectors name ≡ None) × SaysGone said)
     ⊎ ((id : ℕ) × OfSome opening (λ h. id_named h.state.fleet.collectors name ≡ Some id) × SaysTake opening place id said)
 
 -- a page, unless memory ran out
@@ -81,10 +89,6 @@ SaysJob opening job (Some place) said = SaysText opening (job_text job place) sa
 abbrev pub SaysCollector : State → List ℕ → Option ℕ → Said → Type 0
 SaysCollector opening name None said = said ≡ Answered (Not UnknownJob)
 SaysCollector opening name (Some place) said = SaysHeld opening place name said
-
--- a text that does not change, unless memory ran out
-abbrev pub SaysCopy : List ℕ → Said → Type 0
-SaysCopy text said = (said ≡ Page text) ⊎ (said ≡ Refused Memory)
 
 abbrev pub SaysLive : Said → Type 0
 SaysLive said = (said ≡ Noticed Healthy) ⊎ (said ≡ Noticed Broken)

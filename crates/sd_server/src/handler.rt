@@ -7,7 +7,7 @@ ghost use Rattle.service_state.specs.Jobs.{place_of};
 ghost use Rattle.sd_server.specs.Texts.{certificate_text, job_text};
 ghost use Rattle.sd_server.specs.Listing.{IsGroups};
 ghost use Rattle.sd_server.specs.Entries.{Leads, OnceKept};
-ghost use Rattle.sd_server.specs.Says.{IsAtOnce, IsEntered, IsUncoveredText, OfSome, Says, SaysCollector, SaysCopy, SaysDocument, SaysEvent, SaysHeld, SaysJob, SaysListed, SaysLive, SaysMetrics, SaysNot, SaysPage, SaysQuit, SaysReady, SaysRefused, SaysReload, SaysTake, SaysText, SaysUncovered};
+ghost use Rattle.sd_server.specs.Says.{IsAtOnce, IsEntered, IsUncoveredText, OfSome, Says, SaysCollector, SaysCopy, SaysDocument, SaysEvent, SaysGone, SaysHeld, SaysJob, SaysListed, SaysLive, SaysMetrics, SaysNot, SaysPage, SaysQuit, SaysReady, SaysRefused, SaysReload, SaysTake, SaysText, SaysUncovered};
 
 use crate::certificate_page::certificate_page;
 use crate::counter::Counter;
@@ -405,8 +405,24 @@ impl<R: Wait + Clock + Copy, L: Ledger, B: Ledger, N: DeskName> Handler<R, L, B,
         ensures { Leads (SaysHeld N.opening place name.now) result }
     {
         match self.named(name) {
-            Some(collector) => self.taken(place, collector),
-            None => Entry::Now(Said::Answer(Answer::Not(Refusal::UnknownCollector))),
+            Some(collector) => {
+                self.state.note_live(&self.rt, name);
+                self.taken(place, collector)
+            }
+            None => Entry::Now(self.gone(name)),
+        }
+    }
+
+    /// What is told under a name that no live collector has: who had it is to let go of what it scrapes.
+    fn gone(&self, name: &str) -> Said
+        ensures { SaysGone result }
+    {
+        if !self.state.was_live(&self.rt, name) {
+            return Said::Answer(Answer::Not(Refusal::UnknownCollector));
+        }
+        match Text::from_str(self.alloc, "[]") {
+            Ok(nothing) => Said::Page(nothing),
+            Err(_) => Said::Refused(RequestError::Memory),
         }
     }
 

@@ -12,6 +12,7 @@ mod counts;
 mod figures;
 mod kept;
 mod metrics;
+mod names;
 mod notes;
 mod page;
 mod reloading;

@@ -1,9 +1,11 @@
 //! What a service says of itself beside its desk.
 use crate::changes::{ChangeNote, Changes};
 use crate::counts::{EventKind, Route};
+use crate::names::Names;
 use crate::notes::{AllocationNote, Notes, SourceNote};
 use crate::reloading::Reloading;
 use fleet_events::Answer;
+use lists::Text;
 use std::alloc::{AllocError, Global};
 use std::sync::atomic::{AtomicBool, AtomicU64, Ordering};
 use std::sync::{Arc, Mutex, Wait};
@@ -43,6 +45,8 @@ pub struct ServiceState {
     lost_lines: Option<Arc<AtomicU64>>,
     notes: Mutex<Notes>,
     changes: Mutex<Changes>,
+    /// The names under which lists were asked for.
+    names: Mutex<Names>,
 }
 
 impl ServiceState {
@@ -69,6 +73,7 @@ impl ServiceState {
             lost_lines: None,
             notes: Mutex::new(Notes::new(alloc)),
             changes: Mutex::new(Changes::new(alloc)),
+            names: Mutex::new(Names::new(alloc)),
         }
     }
 
@@ -202,6 +207,23 @@ impl ServiceState {
     /// How many connections could not be taken.
     pub fn failed_accepts(&self) -> u64 {
         self.failed_accepts.load(Ordering::SeqCst)
+    }
+
+    /// A live collector has this name. What finds no memory is not noted.
+    pub fn note_live(&self, rt: &impl Wait, name: &str) {
+        let _ = self.names.lock(rt).note_live(name);
+    }
+
+    /// Somebody asks under a name that no live collector has. Whether one had it.
+    pub fn was_live(&self, rt: &impl Wait, name: &str) -> bool {
+        let mut names = self.names.lock(rt);
+        let _ = names.note_absent(name);
+        names.was_live(name)
+    }
+
+    /// The names under which somebody asked and that no live collector had, since this was asked.
+    pub fn take_absent(&self, rt: &impl Wait) -> Vec<Text> {
+        self.names.lock(rt).take_absent()
     }
 
     /// There was no place for a connection.

@@ -18,6 +18,8 @@ pub(crate) struct Attendance {
     read: usize,
     /// In order of the collectors' ids.
     sightings: Vec<Sighting>,
+    /// Those that are drained since they were absent.
+    drained: Vec<CollectorId>,
 }
 
 /// A collector, and when it was last seen: when it took what it holds, or else when it was first found among the live ones.
@@ -51,6 +53,7 @@ impl Attendance {
         Attendance {
             read: 0,
             sightings: Vec::new(alloc),
+            drained: Vec::new(alloc),
         }
     }
 
@@ -86,6 +89,19 @@ impl Attendance {
                 sighting.at = now;
             }
         }
+    }
+
+    /// A collector is drained, since it is absent.
+    fn note_drained(&mut self, collector: CollectorId) {
+        // Where there is no memory for it, it goes on draining when it asks again.
+        let _ = self.drained.push(collector);
+    }
+
+    /// Whether it is, since this was asked: it asks again.
+    fn forget_drained(&mut self, collector: CollectorId) -> bool {
+        let before = self.drained.len();
+        self.drained.retain(|one| *one != collector);
+        self.drained.len() < before
     }
 
     fn place_of(&self, collector: CollectorId) -> Option<usize> {
@@ -169,20 +185,53 @@ impl<R: Wait + Clock + Eprint + Copy, L: Ledger, B: Ledger, N: DeskName> Shared<
         attendance.note(alloc, &roll, now)?;
         for member in roll.live.iter() {
             if let Some(seen) = attendance.last_seen(member.collector) {
-                if let Some(event) = due(*member, now.saturating_duration_since(seen), limit) {
-                    self.enter_dismissal(pass, member.collector, event);
-                }
+                let absent = now.saturating_duration_since(seen);
+                self.follow_member(pass, attendance, *member, absent, limit);
             }
         }
         Ok(())
     }
 
-    fn enter_dismissal(&self, pass: &mut Pass<L, B, N>, collector: CollectorId, event: Event) {
+    /// What is due of a collector that took nothing for so long, or takes again.
+    fn follow_member(
+        &self,
+        pass: &mut Pass<L, B, N>,
+        attendance: &mut Attendance,
+        member: Member,
+        absent: Duration,
+        limit: Duration,
+    ) {
+        match due(member, absent, limit) {
+            Some(event) => self.enter_dismissal(pass, attendance, member.collector, event),
+            None if absent < limit && attendance.forget_drained(member.collector) => {
+                self.take_back(pass, member.collector);
+            }
+            None => {}
+        }
+    }
+
+    fn enter_dismissal(
+        &self,
+        pass: &mut Pass<L, B, N>,
+        attendance: &mut Attendance,
+        collector: CollectorId,
+        event: Event,
+    ) {
         match self.enter(pass, event) {
             Some(Answer::Not(_)) | None => {}
             Some(answer) => {
+                self.note_dismissal(attendance, collector, &answer);
                 self.log_absence(collector);
                 self.log_answer("an absent collector", &answer);
+            }
+        }
+    }
+
+    fn note_dismissal(&self, attendance: &mut Attendance, collector: CollectorId, answer: &Answer) {
+        match answer {
+            Answer::Draining => attendance.note_drained(collector),
+            _ => {
+                attendance.forget_drained(collector);
             }
         }
     }

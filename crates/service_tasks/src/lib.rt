@@ -20,6 +20,7 @@ mod logging;
 mod office;
 mod publishing;
 mod refreshing;
+mod rejoining;
 mod reloading;
 mod renewing;
 mod roster;

@@ -376,7 +376,7 @@ fn holding_of(core: &Core, name: &str) -> Option<Holding> {
 }
 
 /// The join of a collector.
-fn joining(collector: &Collector) -> Result<Event, AllocError> {
+pub(crate) fn joining(collector: &Collector) -> Result<Event, AllocError> {
     let name = collector.name.copy()?;
     let reach = collector.reach.copy()?;
     let limits = collector.limits.copy()?;

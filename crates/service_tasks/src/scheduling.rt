@@ -98,6 +98,7 @@ impl<R: Wait + Clock + Eprint + Copy, L: Ledger, B: Ledger, N: DeskName> Shared<
         schedule.attendance.begin_desk();
         schedule.held.clear();
         self.remember_held(pass, schedule);
+        self.remember_names(pass);
         for _ in self.rt.forever() {
             if self
                 .control
@@ -124,6 +125,7 @@ impl<R: Wait + Clock + Eprint + Copy, L: Ledger, B: Ledger, N: DeskName> Shared<
     fn take_turn<C>(&self, pass: &mut Pass<L, B, N>, schedule: &mut Schedule<C>) {
         if let Ok(now) = Instant::now(&self.rt) {
             self.open_round_when_due(pass, schedule, now);
+            self.let_rejoin(pass, &schedule.roster);
             self.dismiss_absent(pass, schedule, now);
             self.reallocate_when_settled(pass, schedule, now);
             self.follow_departures(pass, &mut schedule.roster, now);

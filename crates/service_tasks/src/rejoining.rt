@@ -1,0 +1,92 @@
+//! Collectors that ask for their list and are not live, or are drained since they were absent: they join anew.
+use crate::differences::collector_named;
+use crate::logging::log_warning;
+use crate::roster::{Roster, joining};
+use crate::shared::Shared;
+use alloc_desk::{DeskName, Pass};
+use allocation_core::Core;
+use fleet_events::{CollectorId, Event};
+use lists::Plain;
+use log::info;
+use logfmt::{Logfmt, Quoted};
+use service_settings::Collector;
+use std::alloc::AllocError;
+use std::sync::Wait;
+use std::sync::ledger::Ledger;
+use std::time::Clock;
+
+impl<R: Wait + Clock + Eprint + Copy, L: Ledger, B: Ledger, N: DeskName> Shared<R, L, B, N> {
+    /// Notes the names of the live collectors, so that they are told to let go once they have left.
+    pub(crate) fn remember_names(&self, pass: &mut Pass<L, B, N>) {
+        self.desk.read(&self.rt, pass, |record| {
+            for collector in record.core().fleet().collectors() {
+                self.state.note_live(&self.rt, collector.name.as_str());
+            }
+        });
+    }
+
+    /// Has those collectors of the configuration join whose list was asked for, and that are not live.
+    pub(crate) fn let_rejoin(&self, pass: &mut Pass<L, B, N>, roster: &Roster) {
+        let names = self.state.take_absent(&self.rt);
+        if !self.rejoin {
+            return;
+        }
+        for name in names.iter() {
+            if let Some(collector) = collector_named(roster.listed(), name.as_str()) {
+                self.join_anew(pass, collector);
+            }
+        }
+    }
+
+    fn join_anew(&self, pass: &mut Pass<L, B, N>, collector: &Collector) {
+        let name = collector.name.as_str();
+        match joining(collector) {
+            Ok(event) => {
+                self.log_asking(name);
+                self.enter_told(pass, name, event);
+            }
+            Err(_) => log_warning(&self.rt, "no memory to have a collector join, tried again"),
+        }
+    }
+
+    /// A collector that was drained since it was absent asks again: it leaves, and joins anew with what it has.
+    pub(crate) fn take_back(&self, pass: &mut Pass<L, B, N>, collector: CollectorId) {
+        let joins = self.desk.read(&self.rt, pass, |record| {
+            joining_again(record.core(), collector)
+        });
+        match joins {
+            Ok(Some(event)) => self.exchange(pass, collector, event),
+            Ok(None) => {}
+            Err(_) => log_warning(&self.rt, "no memory to have a collector join, tried again"),
+        }
+    }
+
+    fn exchange(&self, pass: &mut Pass<L, B, N>, collector: CollectorId, joins: Event) {
+        info!(Logfmt(self.rt); collector; "a collector that was absent asks again: it joins anew");
+        if self.enter_told(pass, "an absent collector", Event::Leave(collector)) {
+            self.enter_told(pass, "an absent collector", joins);
+        }
+    }
+
+    fn log_asking(&self, name: &str) {
+        let name = Quoted(name);
+        info!(Logfmt(self.rt); collector:% = name; "a collector of the configuration asks for its list: it joins");
+    }
+}
+
+/// The join of a live collector, once it has left.
+fn joining_again(core: &Core, id: CollectorId) -> Result<Option<Event>, AllocError> {
+    for collector in core.fleet().collectors() {
+        if collector.id == id {
+            let name = collector.name.copy()?;
+            let reach = collector.reach.copy()?;
+            let limits = collector.limits.copy()?;
+            return Ok(Some(Event::Join {
+                name,
+                reach,
+                limits,
+            }));
+        }
+    }
+    Ok(None)
+}
