@@ -214,7 +214,8 @@ class Stranger(threading.Thread):
             return
         finally:
             it.close()
-        if said.status == 200:
+        # who had a name that nobody has is told nothing but an empty list
+        if said.status == 200 and "x-allocation-number" in said.headers:
             targets = [int(group["labels"]["__meta_allocator_target"]) for group in json.loads(text)]
             self.held = (name, int(said.headers["x-allocation-number"]), int(said.headers["x-scrape-round"]), targets)
             with self.book.lock:

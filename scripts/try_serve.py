@@ -362,6 +362,57 @@ def absences(folder):
     tell("it drains first, and the one that asks stays", said == ["Draining", "Left"], said)
 
 
+def lists_of(port, name, until, seconds=5):
+    """The answers under a name until one is as it is to be, or for so long."""
+    seen, end = [], time.monotonic() + seconds
+    while time.monotonic() < end:
+        status, _, text = ask(port, "GET", f"/jobs/node/targets?collector_id={name}")
+        seen.append((status, text))
+        if until(status, text):
+            break
+        time.sleep(0.05)
+    return seen
+
+
+def is_filled(status, text):
+    return status == 200 and len(json.loads(text)) > 0
+
+
+def returns(folder):
+    config = json.loads(json.dumps(CONFIG))
+    config["allocator"]["collector_timeout"] = "1s"
+    reach = [{"allow": True, "test": "any"}]
+    journal = f"{folder}/journal"
+    service = Service(folder, journal, config)
+    service.is_up()
+    port = service.port
+    tell("a collector of the configuration has its list", is_filled(*lists_of(port, "a", is_filled)[-1]))
+    time.sleep(1.4)
+    drained = 'allocd_collector_draining{collector="a"} 1' in ask(port, "GET", "/metrics")[2]
+    again = lists_of(port, "a", lambda status, text: 'allocd_collector_draining{collector="a"} 0' in ask(port, "GET", "/metrics")[2])
+    tell("drained since it was absent, it joins anew where it asks again", drained and again[-1][0] == 200, again[-1])
+    tell("and gets its targets back", is_filled(*lists_of(port, "a", is_filled)[-1]))
+    time.sleep(2.6)
+    gone = ask(port, "GET", "/jobs/node/targets")[2] == "{}"
+    seen = lists_of(port, "a", is_filled)
+    tell("one that has left is told to let go, and joins by asking", gone and seen[0] == (200, "[]") and is_filled(*seen[-1]), (seen[0], seen[-1][0]))
+    ask(port, "POST", "/collectors", {"name": "h", "reach": reach})
+    ask(port, "GET", "/jobs/node/targets?collector_id=h")
+    number = json.loads(ask(port, "POST", "/collectors", {"name": "h", "reach": reach})[2])["refused"].split()[1]
+    ask(port, "DELETE", f"/collectors/{number}")
+    seen = lists_of(port, "h", is_filled, 1)
+    tell("one that joined over HTTP and left is told to let go, and stays away", set(seen) == {(200, "[]")}, seen[0])
+    tell("a name that nobody had is not known", ask(port, "GET", "/jobs/node/targets?collector_id=z")[0] == 404)
+    service.quit()
+    config["allocator"]["rejoin"] = False
+    service = Service(folder, journal, config)
+    service.is_up()
+    time.sleep(2.6)
+    seen = lists_of(service.port, "a", is_filled, 1)
+    tell("with rejoin false it stays away", set(seen) == {(200, "[]")}, seen[0])
+    service.quit()
+
+
 def replayed(journal):
     """Each event of a journal beside its answer, by `allocd replay`."""
     with open(journal, "rb") as it:
@@ -1083,7 +1134,7 @@ def long_journals(folder):
 
 
 PARTS = (
-    words_and_configurations, faults, members_of_prometheus, failures, routes, reloads, signals, absences, journals, kills, kills_while_reloading, restarts,
+    words_and_configurations, faults, members_of_prometheus, failures, routes, reloads, signals, absences, returns, journals, kills, kills_while_reloading, restarts,
     kills_of_restarts, starts_at_once, renewals, long_journals, strangers, idle_clients, newcomers_at_the_end, slow_source, silent_source,
     full_disk, full_renewal,
 )
