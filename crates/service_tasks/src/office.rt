@@ -99,6 +99,7 @@ impl<S: Scrape + Drop, F: Drop, C: Configuration + Drop> Office<S, F, C> {
     ) -> Result<(), AllocError> {
         self.pages = Arc::try_clone(&service.pages)?;
         self.doors = Arc::try_clone(&service.doors)?;
+        self.connections = service.connections;
         self.watch.jobs = Arc::try_clone(&service.jobs)?;
         self.state.await_sources(sources.len() as u64);
         self.watch.sources = sources;
