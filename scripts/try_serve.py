@@ -390,7 +390,7 @@ def returns(folder):
     time.sleep(1.4)
     drained = 'allocd_collector_draining{collector="a"} 1' in ask(port, "GET", "/metrics")[2]
     again = lists_of(port, "a", lambda status, text: 'allocd_collector_draining{collector="a"} 0' in ask(port, "GET", "/metrics")[2])
-    tell("drained since it was absent, it joins anew where it asks again", drained and again[-1][0] == 200, again[-1])
+    tell("drained since it was absent, it joins anew where it asks again", drained and again[-1][0] == 200, again[-1][0])
     tell("and gets its targets back", is_filled(*lists_of(port, "a", is_filled)[-1]))
     time.sleep(2.6)
     gone = ask(port, "GET", "/jobs/node/targets")[2] == "{}"
