@@ -1,5 +1,5 @@
 -- A line with the history of a state: how deep it is, and what it opens.
-use Rattle.std.proofs.Common.{◌≡◌, ◌≤◌, ℕ, true, List, length, Option, Some, None, IfSome, IfOk, String, BTreeMap, Global, Result, Ok, refl, sym, ap, subst, ◌∙◌, arith}
+use Rattle.std.proofs.Common.{◌≡◌, ◌≤◌, ℕ, true, List, length, Option, Some, None, String, BTreeMap, Global, Result, Ok, refl, sym, ap, subst, ◌∙◌, arith}
 use Rattle.std.specs.Prelude.{option_map, option_and_then, codes, if◌then◌else◌, unwrap_or}
 use Rattle.std.specs.Option.{ok_or}
 use Rattle.std.specs.Result.{result_ok}
@@ -25,9 +25,9 @@ use Rattle.sd_documents.specs.Config.{config_said}
 use Rattle.sd_documents.specs.Reading.{◌>>=◌}
 use Rattle.sd_documents.specs.declared.error.SdError.TheVariants.{NotJson}
 use Rattle.replay_lines.specs.Configurations.{jobs_in, opened, opened_from, resumed_with, same_jobs, specs_of}
-use Rattle.durable_journal.specs.Configured.{OpensAgain, goes_on, with_history}
+use Rattle.durable_journal.specs.Configured.{goes_on, with_history}
 use Rattle.durable_journal.specs.Marks.{SaysMarked}
-use Rattle.durable_journal.proofs.Marked.{if_given, put_levels, says_opens}
+use Rattle.durable_journal.proofs.Marked.{put_levels, says_opens}
 use Rattle.durable_journal.proofs.Opening.{opened_data, shallow}
 
 -- ---- how deep it is
@@ -92,22 +92,11 @@ opened_renewed document m (string s) r before e = cc
 opened_renewed document m (array ds) r before e = cc
 opened_renewed document m (object ms) r before e = ap opened_data (sym e) ∙ opened_with_history document (history_data m) ms before
 
-renewed_opens : (line document : List ℕ) (m : State) (d r : Data) → json_of document ≡ Some d → with_history m d ≡ Some r → SaysMarked r line → opened line ≡ goes_on m document
+pub renewed_opens : (line document : List ℕ) (m : State) (d r : Data) → json_of document ≡ Some d → with_history m d ≡ Some r → SaysMarked r line → opened line ≡ goes_on m document
 renewed_opens line document m d r before e says = says_opens line r (renewed_levels m d r (shallow document d before) e) says ∙ opened_renewed document m d r before e
 
-again_by : (m : State) (document : List ℕ) (said : Result State HistoryError) (jobs : List JobSpec) → said ≡ Ok (restored m.fleet (current_pairs m) m.problem m.plan m.round) → jobs_in document ≡ Some jobs → same_jobs m.fleet.jobs jobs ≡ true
+pub again_by : (m : State) (document : List ℕ) (said : Result State HistoryError) (jobs : List JobSpec) → said ≡ Ok (restored m.fleet (current_pairs m) m.problem m.plan m.round) → jobs_in document ≡ Some jobs → same_jobs m.fleet.jobs jobs ≡ true
     → option_and_then (λ jobs. resumed_with jobs said) (jobs_in document) ≡ Some (restored m.fleet (current_pairs m) m.problem m.plan m.round)
 again_by m document said jobs reads jobs_are same =
     ap (λ (o : Option (List JobSpec)). option_and_then (λ js. resumed_with js said) o) jobs_are ∙ ap (resumed_with jobs) reads
     ∙ ap (λ b. if b then Some (restored m.fleet (current_pairs m) m.problem m.plan m.round) else None) same
-
--- ---- the line that is given, if one is
-
-pub renewed_line_opens : {E : Type 0} (document : List ℕ) (m : State) (d r : Data) (o : Result (Option (List ℕ)) E) → json_of document ≡ Some d → with_history m d ≡ Some r → IfOk o (λ l. IfSome l (SaysMarked r)) → IfOk o (λ l. IfSome l (λ line. opened line ≡ goes_on m document))
-renewed_line_opens document m d r o before e says = if_given o (SaysMarked r) (λ line. opened line ≡ goes_on m document) (λ line s. renewed_opens line document m d r before e s) says
-
-pub renewed_line_again : {E : Type 0} (document : List ℕ) (m : State) (d r : Data) (o : Result (Option (List ℕ)) E) → ReadsBack m (history_in (history_data m)) → json_of document ≡ Some d → with_history m d ≡ Some r → IfOk o (λ l. IfSome l (SaysMarked r))
-    → IfOk o (λ l. IfSome l (OpensAgain m document))
-renewed_line_again document m d r o reads before e says =
-    if_given o (SaysMarked r) (OpensAgain m document)
-    (λ line s jobs good jobs_are same. renewed_opens line document m d r before e s ∙ again_by m document (history_in (history_data m)) jobs (reads good) jobs_are same) says

@@ -11,3 +11,4 @@ pub mod Histories
 pub mod Refused
 pub mod FileTexts
 pub mod Noted
+mod FirstLines

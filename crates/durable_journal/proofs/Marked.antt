@@ -34,7 +34,7 @@ put_levels n k d (member l e ms) hd hms =
     let rest : members_depth ms ≤ n = omega arith in
     put_levels_at (slice_cmp nat_cmp k l) n k l d e ms hd he rest (put_levels n k d ms hd rest)
 
-marked_levels : (d m : Data) → marked d ≡ Some m → depth d ≤ max_depth → depth m ≤ max_depth
+pub marked_levels : (d m : Data) → marked d ≡ Some m → depth d ≤ max_depth → depth m ≤ max_depth
 marked_levels null m e h = cc
 marked_levels (boolean b) m e h = cc
 marked_levels (number n) m e h = cc

@@ -5,4 +5,6 @@ pub mod Journals
 pub mod Configured
 pub mod Marks
 pub mod Files
+pub mod Beginnings
+pub mod Pieces
 pub mod ByHand

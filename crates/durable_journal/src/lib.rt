@@ -7,6 +7,7 @@
 
 mod appending;
 mod archive;
+mod beginning;
 mod by_hand;
 mod configuring;
 mod jobs;
@@ -14,14 +15,15 @@ mod laws;
 mod marking;
 mod recovering;
 mod renewing;
+mod sealing;
 mod writing;
 
 pub use appending::append;
 pub use archive::Archive;
+pub use beginning::{Begun, FirstLine};
 pub use by_hand::sealed_by_hand;
 pub use configuring::configuration_line;
 pub use jobs::are_jobs_of;
 pub use laws::{files_survive, journals_resume, journals_survive, refused_are_left_out, settles};
 pub use recovering::{MOST_JOURNAL, Recovered, recover};
-pub use renewing::renewed_line;
-pub use writing::{Lines, first_lines, journal_lines};
+pub use writing::{Lines, journal_lines};

@@ -1,7 +1,6 @@
 //! The lines of events.
-ghost use Rattle.std.specs.Prelude.{◌≡◌, [], ◌∷◌, ◌++◌, IfOk, OnOk, Some};
+ghost use Rattle.std.specs.Prelude.{◌≡◌, [], ◌∷◌, ◌++◌, IfOk, OnOk};
 ghost use Rattle.fleet_events.specs.Writing.{event_text};
-ghost use Rattle.sealed_lines.specs.Chains.{behind, sealed, start};
 ghost use Rattle.durable_journal.specs.Events.{AreSaid, IsLineOf, event_lines};
 ghost use Rattle.durable_journal.specs.Files.{bytes_of, chain_past};
 ghost use Rattle.durable_journal.specs.Kept.{is_kept, kept_in};
@@ -20,19 +19,6 @@ pub struct Lines {
     pub bytes: List<u8>,
     /// The digest of the last line of the file then, where its lines have digests.
     pub chain: Option<Chain>,
-}
-
-/// The first line of a file whose lines have digests.
-pub fn first_lines(alloc: Global, line: &[u8]) -> Result<Lines, AllocError>
-    ensures form { IfOk result (λ l. l.bytes ≡ sealed start (line.now ∷ [])) }
-    ensures chain { IfOk result (λ l. l.chain ≡ Some (behind start line.now)) }
-{
-    let mut bytes = Vec::new(alloc);
-    let chain = seal_line(alloc, Chain::start(), line, &mut bytes)?;
-    Ok(Lines {
-        bytes: List::from_vec(bytes),
-        chain: Some(chain),
-    })
 }
 
 /// The lines of the entries' events that were not refused, behind a line with this digest, or without digests.

@@ -5,7 +5,7 @@
 //! lock of `PATH.lock`, which keeps its name.
 use crate::fault::Fault;
 use crate::guarding::{check_file, goal_of};
-use durable_journal::{Archive, append};
+use durable_journal::{Archive, Begun, FirstLine};
 use std::alloc::{AllocError, AllocGlobal, Global};
 use std::fs::{DirEntry, File, OpenOptions};
 use std::os::unix::fs::OpenOptionsExt;
@@ -77,17 +77,17 @@ impl<R> Journals<R> {
 }
 
 impl<R: Files<File = File> + AllocGlobal + Clone + Drop> Journals<R> {
-    /// Begins the next journal with these bytes and puts it in the place of the last one, which is at this path.
-    pub(crate) fn change(&self, path: &str, first: &[u8]) -> io::Result<File> {
+    /// Begins the next journal with this line and puts it in the place of the last one, which is at this path.
+    pub(crate) fn change(&self, path: &str, first: &FirstLine) -> io::Result<Begun<File>> {
         let next = next_path(self.alloc, path)?;
         self.change_to(path, next.as_str(), first)
     }
 
     /// Begins the next journal at a path of its own.
-    fn change_to(&self, path: &str, next: &str, first: &[u8]) -> io::Result<File> {
-        let file = begin_next(&self.rt, next, first)?;
+    fn change_to(&self, path: &str, next: &str, first: &FirstLine) -> io::Result<Begun<File>> {
+        let begun = begin_next(&self.rt, self.alloc, next, first)?;
         match self.put_in_place(path, next) {
-            Ok(()) => Ok(file),
+            Ok(()) => Ok(begun),
             Err(error) => Err(error),
         }
     }
@@ -127,7 +127,7 @@ impl<R: Files<File = File> + AllocGlobal + Clone + Drop> Journals<R> {
 }
 
 impl<R: Files<File = File> + AllocGlobal + Clone + Drop> Archive<File> for Journals<R> {
-    fn begin(&mut self, first: &[u8]) -> io::Result<File> {
+    fn begin(&mut self, first: &FirstLine) -> io::Result<Begun<File>> {
         match self.path() {
             Some(path) => self.change(path, first),
             None => Err(io::ErrorKind::NotFound.into()),
@@ -180,22 +180,26 @@ pub(crate) fn open_journal<R: Files<File = File>>(rt: &R, path: &str) -> io::Res
         .open(rt, path)
 }
 
-/// Begins the next journal, which nobody else may have, with these bytes.
-fn begin_next<R: Files<File = File>>(rt: &R, next: &str, first: &[u8]) -> io::Result<File> {
-    let mut file = open_journal(rt, next)?;
-    match fill(&mut file, first) {
-        Ok(()) => Ok(file),
+/// Begins the next journal, which nobody else may have, with this line.
+fn begin_next<R: Files<File = File>>(
+    rt: &R,
+    alloc: Global,
+    next: &str,
+    first: &FirstLine,
+) -> io::Result<Begun<File>> {
+    let file = open_journal(rt, next)?;
+    match empty(&file) {
+        Ok(()) => first.begin(alloc, file),
         Err(error) => Err(error),
     }
 }
 
-/// Has a file that nobody else may have hold these bytes alone.
-fn fill(file: &mut File, bytes: &[u8]) -> io::Result<()> {
+/// Empties a file that nobody else may have.
+fn empty(file: &File) -> io::Result<()> {
     if file.try_lock().is_err() {
         return Err(io::ErrorKind::ResourceBusy.into());
     }
-    file.set_len(0)?;
-    append(file, bytes)
+    file.set_len(0)
 }
 
 /// The greatest number of an old journal of the one at a path, or 0.

@@ -3,7 +3,7 @@ use crate::fault::Fault;
 use crate::journals::{Journals, end_renewal, lock_file, open_journal, sync_folder};
 use crate::reading::{Journal, Next, Start, configured, read_journal};
 use allocation_core::Core;
-use durable_journal::append;
+use durable_journal::{Begun, FirstLine};
 use log::{info, warn};
 use logfmt::Logfmt;
 use sd_documents::Job;
@@ -23,6 +23,14 @@ pub struct Opened<F> {
     pub bytes: u64,
     /// The digest of the journal's last line, where its lines have digests.
     pub chain: Option<Chain>,
+}
+
+/// The file of a journal that is written from now on.
+#[derive(Drop)]
+struct Written {
+    file: File,
+    bytes: u64,
+    chain: Option<Chain>,
 }
 
 /// The allocator that the last of the journals leads to, under these jobs of a configuration. Where it has other jobs it is renewed under
@@ -85,16 +93,12 @@ fn begin<R: Files<File = File> + AllocGlobal + Clock + Eprint + Copy + Drop>(
     start: Start,
 ) -> Result<Opened<File>, Fault> {
     match next_file(journals, path, file, &start.journal) {
-        Ok(file) => {
-            let bytes = start.journal.bytes();
-            let chain = start.journal.chain();
-            Ok(Opened {
-                core: start.core,
-                file: Some(file),
-                bytes,
-                chain,
-            })
-        }
+        Ok(written) => Ok(Opened {
+            core: start.core,
+            file: Some(written.file),
+            bytes: written.bytes,
+            chain: written.chain,
+        }),
         Err(error) => Err(Fault::Machine(error)),
     }
 }
@@ -105,15 +109,19 @@ fn next_file<R: Files<File = File> + AllocGlobal + Clock + Eprint + Copy + Drop>
     path: &str,
     file: File,
     journal: &Journal,
-) -> io::Result<File> {
+) -> io::Result<Written> {
     cut(&journals.rt, &file, journal)?;
     match &journal.next {
-        Next::Begins(first) => begun(&journals.rt, path, file, first.bytes.as_slice()),
+        Next::Begins(first) => begun(journals, path, file, first),
         Next::GoesOn(events) => {
             log_read(&journals.rt, *events);
-            Ok(file)
+            Ok(Written {
+                file,
+                bytes: journal.whole,
+                chain: journal.chain,
+            })
         }
-        Next::IsReplaced(first) => replaced(journals, path, first.bytes.as_slice()),
+        Next::IsReplaced(first) => replaced(journals, path, first),
     }
 }
 
@@ -121,42 +129,42 @@ fn log_read<R: Clock + Eprint + Copy>(rt: &R, events: u64) {
     info!(Logfmt(*rt); events; "the journal is read");
 }
 
-/// The file of a journal that takes the place of the last one and begins with these bytes.
+/// The file of a journal that takes the place of the last one and begins with this line.
 fn replaced<R: Files<File = File> + AllocGlobal + Clock + Eprint + Copy + Drop>(
     journals: &Journals<R>,
     path: &str,
-    first: &[u8],
-) -> io::Result<File> {
-    let next = journals.change(path, first)?;
+    first: &FirstLine,
+) -> io::Result<Written> {
+    let begun = journals.change(path, first)?;
     log_replaced(&journals.rt);
-    Ok(next)
+    Ok(written(begun))
+}
+
+/// What is written from now on of a journal that has just begun.
+fn written(begun: Begun<File>) -> Written {
+    Written {
+        file: begun.file,
+        bytes: begun.bytes,
+        chain: Some(begun.chain),
+    }
 }
 
 fn log_replaced<R: Clock + Eprint + Copy>(rt: &R) {
     info!(Logfmt(*rt); "the configuration has other jobs than the journal: the allocator is renewed");
 }
 
-/// The file of a journal that begins with these bytes.
+/// The file of a journal that begins with this line.
 fn begun<R: Files<File = File>>(
-    rt: &R,
+    journals: &Journals<R>,
     path: &str,
-    mut file: File,
-    first: &[u8],
-) -> io::Result<File> {
-    match begin_file(rt, path, &mut file, first) {
-        Ok(()) => Ok(file),
+    file: File,
+    first: &FirstLine,
+) -> io::Result<Written> {
+    let begun = first.begin(journals.alloc, file)?;
+    match sync_folder(&journals.rt, path) {
+        Ok(()) => Ok(written(begun)),
         Err(error) => Err(error),
     }
-}
-
-fn begin_file<R: Files<File = File>>(
-    rt: &R,
-    path: &str,
-    file: &mut File,
-    first: &[u8],
-) -> io::Result<()> {
-    append(file, first)?;
-    sync_folder(rt, path)
 }
 
 /// Cuts off the torn line at the end of a journal.

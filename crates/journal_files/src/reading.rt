@@ -2,7 +2,7 @@
 use crate::fault::Fault;
 use crate::guarding::{altered, no_journal, too_long};
 use allocation_core::{Core, JobSpec, NotRenewed, RenewalError};
-use durable_journal::{Lines, Recovered, are_jobs_of, first_lines, recover, renewed_line};
+use durable_journal::{FirstLine, Recovered, are_jobs_of, recover};
 use lists::copies;
 use replay_lines::{Damage, Resumption, resume};
 use sd_documents::Job;
@@ -30,33 +30,15 @@ pub(crate) struct Journal {
     pub(crate) next: Next,
 }
 
-impl Journal {
-    /// How many bytes the journal has that goes on.
-    pub(crate) fn bytes(&self) -> u64 {
-        match &self.next {
-            Next::GoesOn(_) => self.whole,
-            Next::Begins(first) | Next::IsReplaced(first) => first.bytes.len() as u64,
-        }
-    }
-
-    /// The digest of the last line of the journal that goes on, where its lines have digests.
-    pub(crate) fn chain(&self) -> Option<Chain> {
-        match &self.next {
-            Next::GoesOn(_) => self.chain,
-            Next::Begins(first) | Next::IsReplaced(first) => first.chain,
-        }
-    }
-}
-
 /// What is to become of a journal.
 #[derive(Drop)]
 pub(crate) enum Next {
     /// It has no line, and begins with this one.
-    Begins(Lines),
+    Begins(FirstLine),
     /// It goes on behind so many events.
     GoesOn(u64),
     /// Another one begins with this line in its place.
-    IsReplaced(Lines),
+    IsReplaced(FirstLine),
 }
 
 /// Reads the journal at a path to its end, and changes nothing of it.
@@ -117,7 +99,7 @@ pub(crate) fn configured(alloc: Global, line: &str) -> Result<Core, Fault> {
 }
 
 fn start_anew(alloc: Global, line: &str) -> Result<(Core, Next), Fault> {
-    let first = first_lines(alloc, line.as_bytes())?;
+    let first = given(FirstLine::configured(alloc, line.as_bytes())?)?;
     let core = configured(alloc, line)?;
     Ok((core, Next::Begins(first)))
 }
@@ -138,14 +120,14 @@ fn jobs_in(alloc: Global, line: &str) -> Result<Vec<JobSpec>, Fault> {
 }
 
 fn replaced(alloc: Global, line: &str, core: Core) -> Result<(Core, Next), Fault> {
-    let first = first_line(alloc, line, &core)?;
+    let first = given(FirstLine::renewed(alloc, line.as_bytes(), &core)?)?;
     Ok((core, Next::IsReplaced(first)))
 }
 
-/// The line with which the journal of an allocator begins that was just renewed under the jobs of a configuration's line.
-fn first_line(alloc: Global, line: &str, core: &Core) -> Result<Lines, Fault> {
-    match renewed_line(alloc, line.as_bytes(), core)? {
-        Some(line) => Ok(first_lines(alloc, line.as_str().as_bytes())?),
+/// The first line, if a document has one, as that of a configuration has.
+fn given(line: Option<FirstLine>) -> Result<FirstLine, Fault> {
+    match line {
+        Some(line) => Ok(line),
         None => Err(Fault::Machine(io::ErrorKind::InvalidData.into())),
     }
 }

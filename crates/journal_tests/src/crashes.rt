@@ -3,13 +3,13 @@ use crate::device::Memory;
 use alloc_desk::Entry;
 use allocation_core::{Answer, Core, Refusal};
 use durable_journal::{
-    Lines, Recovered, append, configuration_line, first_lines, journal_lines, recover,
-    renewed_line, sealed_by_hand,
+    Begun, FirstLine, Lines, Recovered, append, configuration_line, journal_lines, recover,
+    sealed_by_hand,
 };
 use fleet_events::{Event, read_event};
 use replay_lines::resume;
 use sealed_lines::Chain;
-use std::alloc::Global;
+use std::alloc::{AllocError, Global};
 
 /// A configuration over several lines, with a number that is not read.
 const CONFIGURATION: &str =
@@ -23,23 +23,41 @@ const ROUND: &str = "{\"event\":\"round\"}";
 const LINES: &str =
     "{\"\":\"allocd journal\",\"pause\":0.5,\"scrape_configs\":[{\"job_name\":\"j\",\"target_limit\":1}]}\n{\"event\":\"join\",\"name\":\"a\",\"reach\":[]}\n{\"event\":\"round\"}\n";
 
-/// Appends the first line and both events, and of a third what a crash leaves.
-fn crashes(alloc: Global, file: &mut Memory) -> bool {
-    match begins(alloc, file) {
-        Some(chain) => enters_both(alloc, chain, file) && append(file, b"{\"event").is_ok(),
-        None => false,
+/// A file with the first line and both events, and of a third what a crash leaves.
+fn crashed(alloc: Global) -> Option<Memory> {
+    match begun(
+        alloc,
+        FirstLine::configured(alloc, CONFIGURATION.as_bytes()),
+    ) {
+        Some(begun) => entered(alloc, begun),
+        None => None,
     }
 }
 
-/// Appends the first line, and gives its digest.
-fn begins(alloc: Global, file: &mut Memory) -> Option<Chain> {
-    match configuration_line(alloc, CONFIGURATION.as_bytes()) {
-        Ok(Some(line)) => match first_lines(alloc, line.as_str().as_bytes()) {
-            Ok(lines) => appends(file, &lines),
-            Err(_) => None,
-        },
+/// A file with a first line alone, whose bytes are counted.
+fn begun(alloc: Global, line: Result<Option<FirstLine>, AllocError>) -> Option<Begun<Memory>> {
+    let file = Memory {
+        bytes: Vec::new(alloc),
+    };
+    match line {
+        Ok(Some(line)) => line.begin(alloc, file).ok(),
         _ => None,
     }
+}
+
+fn entered(alloc: Global, begun: Begun<Memory>) -> Option<Memory> {
+    let Begun {
+        mut file,
+        chain,
+        bytes,
+    } = begun;
+    if bytes == file.bytes.len() as u64
+        && enters_both(alloc, chain, &mut file)
+        && append(&mut file, b"{\"event").is_ok()
+    {
+        return Some(file);
+    }
+    None
 }
 
 fn appends(file: &mut Memory, lines: &Lines) -> Option<Chain> {
@@ -111,10 +129,9 @@ fn leads_to(alloc: Global, lines: &[u8], round: u32, events: u64) -> bool {
 
 #[test]
 fn finds_again_what_was_appended(rt: HostRuntime) {
-    let mut file = Memory {
-        bytes: Vec::new(rt.alloc()),
+    let Some(file) = crashed(rt.alloc()) else {
+        panic!(rt; "the journal is not written");
     };
-    assert!(rt; crashes(rt.alloc(), &mut file));
     assert!(rt; finds(rt.alloc(), file.bytes.as_slice(), LINES, 7));
     assert!(rt; leads_to(rt.alloc(), LINES.as_bytes(), 2, 2));
 }
@@ -128,10 +145,47 @@ fn goes_on(alloc: Global, lines: &[u8]) -> bool {
 }
 
 fn goes_on_from(alloc: Global, core: &Core) -> bool {
-    match renewed_line(alloc, CONFIGURATION.as_bytes(), core) {
-        Ok(Some(first)) => leads_to(alloc, first.as_str().as_bytes(), 2, 0),
+    match begun(
+        alloc,
+        FirstLine::renewed(alloc, CONFIGURATION.as_bytes(), core),
+    ) {
+        Some(begun) => is_found_at(alloc, begun.file.bytes.as_slice(), 2),
+        None => false,
+    }
+}
+
+/// Whether a file leads to this round with its first line alone.
+fn is_found_at(alloc: Global, file: &[u8], round: u32) -> bool {
+    let mut reader = file;
+    match recover(alloc, &mut reader) {
+        Ok(
+            Recovered::Found {
+                lines,
+                chain: Some(_),
+                whole: _,
+                torn: 0,
+            },
+        ) => leads_to(alloc, lines.as_slice(), round, 0),
         _ => false,
     }
+}
+
+/// Whether this is the line of the configuration.
+fn is_its_line(alloc: Global, line: &str) -> bool {
+    match configuration_line(alloc, CONFIGURATION.as_bytes()) {
+        Ok(Some(given)) => given.as_str() == line,
+        _ => false,
+    }
+}
+
+#[test]
+fn a_configuration_is_one_line(rt: HostRuntime) {
+    assert!(rt;
+        is_its_line(
+            rt.alloc(),
+            "{\"\":\"allocd journal\",\"pause\":0.5,\"scrape_configs\":[{\"job_name\":\"j\",\"target_limit\":1}]}"
+        )
+    );
 }
 
 #[test]

@@ -1,4 +1,5 @@
 pub mod Lines
 pub mod Chains
+pub mod Running
 pub mod Reading
 pub mod Laws

@@ -11,7 +11,7 @@ mod line;
 mod sealing;
 mod unsealing;
 
-pub use chain::Chain;
+pub use chain::{Chain, RunningDigest};
 pub use laws::{accepted_are_sealed, sealed_are_read};
 pub use line::first_line;
 pub use sealing::seal_line;

@@ -1,5 +1,5 @@
 //! The file of a journal.
-use durable_journal::{Lines, append};
+use durable_journal::{Begun, Lines, append};
 use sealed_lines::Chain;
 use std::fs::OpenFile;
 use std::io;
@@ -35,14 +35,13 @@ impl<F> JournalFile<F> {
         }
     }
 
-    /// The file of a journal that has this first line. Where that is long, the journal may grow to twice of it.
-    pub(crate) fn begun(file: F, first: &Lines) -> JournalFile<F> {
-        let bytes = first.bytes.len() as u64;
+    /// The file of a journal that has just begun. Where its first line is long, the journal may grow to twice of it.
+    pub(crate) fn begun(begun: Begun<F>) -> JournalFile<F> {
         JournalFile {
-            file,
-            grown: bytes,
-            chain: first.chain,
-            most: MOST_GROWN.max(bytes.saturating_mul(2)),
+            file: begun.file,
+            grown: begun.bytes,
+            chain: Some(begun.chain),
+            most: MOST_GROWN.max(begun.bytes.saturating_mul(2)),
             is_broken: false,
         }
     }

@@ -9,7 +9,7 @@ use crate::office::{Office, sources_of};
 use crate::service::Service;
 use crate::source::Source;
 use allocation_core::{Core, JobSpec, NotRenewed};
-use durable_journal::{Archive, are_jobs_of, first_lines, renewed_line};
+use durable_journal::{Archive, FirstLine, are_jobs_of};
 use http_get::Scrape;
 use lists::copies;
 use replay_lines::resume;
@@ -180,13 +180,12 @@ fn begin_journal<R: Clock + Eprint + Copy, F: Drop, A: Archive<F>>(
     let Some(file) = file else {
         return Ok(());
     };
-    let Some(line) = renewed_line(alloc, service.line().as_bytes(), core)? else {
+    let Some(first) = FirstLine::renewed(alloc, service.line().as_bytes(), core)? else {
         return Err(io::ErrorKind::InvalidData.into());
     };
-    let first = first_lines(alloc, line.as_str().as_bytes())?;
-    match archive.begin(first.bytes.as_slice()) {
-        Ok(next) => {
-            *file = JournalFile::begun(next, &first);
+    match archive.begin(&first) {
+        Ok(begun) => {
+            *file = JournalFile::begun(begun);
             Ok(())
         }
         Err(error) => break_down(rt, file, error),

@@ -1,0 +1,4 @@
+mod OneLine
+pub mod Said
+pub mod Plain
+pub mod Steps
