@@ -2,7 +2,7 @@ use Rattle.std.specs.Prelude.{option_and_then}
 use Rattle.json_values.specs.Texts.{json_of}
 use Rattle.durable_journal.specs.Configured.{with_history}
 use Rattle.durable_journal.proofs.FirstLines.{first_begins, renewed_first_again, renewed_first_opens}
-use Rattle.durable_journal.proofs.renewing.FirstLine.renewed.Goals as goal
+use Rattle.durable_journal.proofs.beginning.FirstLine.renewed.Goals as goal
 
 pub returns-clause-opens : goal.returns-clause-opens
 returns-clause-opens c = renewed_first_opens c.args.document.now c.args.core.now c.renewed_line.result c.renewed_line.ensures.given
