@@ -137,11 +137,11 @@ fn replaced<R: Files<File = File> + AllocGlobal + Clock + Eprint + Copy + Drop>(
 ) -> io::Result<Written> {
     let begun = journals.change(path, first)?;
     log_replaced(&journals.rt);
-    Ok(written(begun))
+    Ok(begun_file(begun))
 }
 
 /// What is written from now on of a journal that has just begun.
-fn written(begun: Begun<File>) -> Written {
+fn begun_file(begun: Begun<File>) -> Written {
     Written {
         file: begun.file,
         bytes: begun.bytes,
@@ -162,7 +162,7 @@ fn begun<R: Files<File = File>>(
 ) -> io::Result<Written> {
     let begun = first.begin(journals.alloc, file)?;
     match sync_folder(&journals.rt, path) {
-        Ok(()) => Ok(written(begun)),
+        Ok(()) => Ok(begun_file(begun)),
         Err(error) => Err(error),
     }
 }
