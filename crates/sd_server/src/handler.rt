@@ -198,7 +198,7 @@ impl<R: Wait + Clock + Copy, L: Ledger, B: Ledger, N: DeskName> Handler<R, L, B,
     {
         match ask {
             Ask::Reload => self.reload(),
-            Ask::CollectorTargets { job, name } => self.collector(job.as_str(), name),
+            Ask::CollectorTargets { job, name } => self.collector(job, name),
             _ => Entry::Now(self.page(ask)),
         }
     }
@@ -392,10 +392,10 @@ impl<R: Wait + Clock + Copy, L: Ledger, B: Ledger, N: DeskName> Handler<R, L, B,
         )
     }
 
-    fn collector(&self, job: &str, name: &CollectorName) -> Entry
+    fn collector(&self, job: &Text, name: &CollectorName) -> Entry
         ensures { Leads (SaysCollector N.opening name.now (place_of job.now (arc_value self.now.pages).names)) result }
     {
-        let Some(place) = self.pages.place(job) else {
+        let Some(place) = self.pages.place(job.as_str()) else {
             return Entry::Now(Said::Answer(Answer::Not(Refusal::UnknownJob)));
         };
         self.held(place, name.as_str())
