@@ -76,6 +76,12 @@ def supervisor_can_ask():
     return found
 
 
+def compiler():
+    """A C compiler: that of CC, the system's or the kit's, or None."""
+    kit = shutil.which("rt") and os.path.dirname(subprocess.run(["rt", "doc"], capture_output=True, text=True).stdout.strip())
+    return next(filter(None, map(shutil.which, (os.environ.get("CC", "cc"), "gcc", "clang", f"{kit}/toolchain/bin/clang"))), None)
+
+
 def line_of(text):
     """The answer or the refusal of a reply's body."""
     said = json.loads(text)

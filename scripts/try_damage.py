@@ -8,7 +8,6 @@ import http.server
 import json
 import os
 import re
-import shutil
 import socket
 import struct
 import subprocess
@@ -16,7 +15,7 @@ import sys
 import tempfile
 import threading
 
-from allocd_service import PROGRAM, ROOT, Service, comes, replayed, run
+from allocd_service import PROGRAM, ROOT, Service, compiler, comes, replayed, run
 from parts import run_parts, tell
 
 
@@ -257,12 +256,6 @@ def is_cut_off(words, text, whole):
         status = process.wait(60)
     # A text that fits the pipe was written before its reader went.
     return whole.startswith(front) and status in ((3,) if len(whole) > 65_536 else (0, 1, 2, 3))
-
-
-def compiler():
-    """A C compiler: that of CC, the system's or the kit's, or None."""
-    kit = shutil.which("rt") and os.path.dirname(subprocess.run(["rt", "doc"], capture_output=True, text=True).stdout.strip())
-    return next(filter(None, map(shutil.which, (os.environ.get("CC", "cc"), "gcc", "clang", f"{kit}/toolchain/bin/clang"))), None)
 
 
 def streams(folder):
