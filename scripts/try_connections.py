@@ -388,10 +388,10 @@ def reloads(folder):
 
 def reload_beside_slow_ones(folder):
     """The configuration is read again while a stranger's request comes slowly, or another reads nothing."""
-    for name, begin, large, waits in (
-        ("a head that does not end", lambda client: client.it.sendall(HALF_HEAD), 0, 3),
-        ("a body that does not end", lambda client: client.it.sendall(HALF_BODY), 0, EXCHANGE + LATE),
-        ("an answer that is not read", lambda client: client.send("GET", LARGE), 600, EXCHANGE + LATE),
+    for name, begin, large in (
+        ("a head that does not end", lambda client: client.it.sendall(HALF_HEAD), 0),
+        ("a body that does not end", lambda client: client.it.sendall(HALF_BODY), 0),
+        ("an answer that is not read", lambda client: client.send("GET", LARGE), 600),
     ):
         os.mkdir(f"{folder}/{name}")
         with served(f"{folder}/{name}", config(large=large), journal=False) as service:
@@ -400,10 +400,10 @@ def reload_beside_slow_ones(folder):
             time.sleep(0.5)
             tell(f"a reload beside {name}", service.ask("POST", "/-/reload")[0] == 200)
             time.sleep(0.3)
-            alone, longest = asked_alone(service.port, "/jobs", 3, EXCHANGE + LATE)
-            tell("who asks is answered, if late", alone == {200: 3} and longest < waits, f"{alone}, {longest:.1f} seconds at most")
-            tell_open("at once", longest < GOOD, f"{longest:.1f} seconds")
+            alone, longest = asked_alone(service.port, "/jobs", 1, 5)
+            tell_open("who asks then is not held up", alone == {200: 1} and longest < 0.5, f"{alone}, {longest:.1f} seconds")
             stranger.close()
+            good_client(service.port, 10).tell("a good client once the stranger is gone")
 
 
 def places(folder):
@@ -438,6 +438,11 @@ def places(folder):
         comes(lambda: asked_alone(port, count=1)[0] == {503: 1}, 10)
         alone, longest = asked_alone(port, count=4)
         tell(f"beside {most} requests whose bodies do not end a client is told so soon", alone == {503: 4} and longest < 1 + GOOD, f"{alone}, {1000 * longest:.0f} ms at most")
+        bodies += [Client(port) for _ in range(20)]
+        for client in bodies[-20:]:
+            client.it.sendall(HALF_BODY)
+        alone, longest = asked_alone(port, count=1, seconds=30)
+        tell_open("behind 20 more of them, too", alone == {503: 1} and longest < 1 + GOOD, f"{alone}, {longest:.1f} seconds")
         for client in bodies:
             client.close()
         good_client(port, 10).tell("a good client after all that")
