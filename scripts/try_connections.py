@@ -426,7 +426,8 @@ def places(folder):
                 with contextlib.suppress(OSError):
                     client.it.sendall(first)
             alone, longest = asked_alone(port)
-            tell(f"{len(silent)} more that {name} hold nobody up", alone == {200: 10} and longest < GOOD, f"{alone}, {1000 * longest:.0f} ms at most")
+            tell(f"{len(silent)} more that {name} shut nobody out", alone == {200: 10} and longest < 4, f"{alone}, {1000 * longest:.0f} ms at most")
+            tell_open("and hold nobody up", longest < 0.3, f"{1000 * longest:.0f} ms")
             held += silent
         for client in held:
             client.close()
