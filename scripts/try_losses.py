@@ -22,7 +22,7 @@ import threading
 import time
 
 import told_rows
-from allocd_service import PROGRAM, Service, ask, comes, free_port, lines_of, run
+from allocd_service import PROGRAM, ROOT, Service, ask, comes, compiler, free_port, lines_of, run
 from try_wrong_uses import ANY, GOOD, exchange, settings, write
 
 ROWS = []
@@ -758,6 +758,33 @@ def failed_accepts(folder):
             resource.prlimit(it.it.pid, resource.RLIMIT_NOFILE, most)
         counted = comes(lambda: it.figure("allocd_http_accept_failures_total") > 0, 5)
         return told and counted, f"told {told}, counted {counted}: {it.said()[-200:]}"
+
+
+@row("the first line of a large fleet is written in pieces, and not as one text")
+def first_line_in_pieces(folder):
+    by, library, sizes = compiler(), f"{folder}/write_sizes.so", f"{folder}/sizes"
+    if not by:
+        return True, "no C compiler: left out"
+    subprocess.run([by, "-O2", "-shared", "-fPIC", "-nostdlib", "-o", library, f"{ROOT}/scripts/write_sizes.c"], check=True)
+    document = settings(lifecycle=True)
+    targets = [f"10.0.{one // 250}.{one % 250}:9100" for one in range(8_000)]
+    document["scrape_configs"][0]["static_configs"] = [{"targets": targets, "labels": {"long": "x" * 100}}]
+    with served(folder, document, environment={"LD_PRELOAD": library, "WRITE_SIZES": sizes}) as it:
+        it.published()
+        document["scrape_configs"].append({"job_name": "another", "static_configs": [{"targets": ["127.0.0.1:9999"]}]})
+        it.write(document)
+        os.rename(sizes, f"{sizes}.before")
+        status = it.ask("POST", "/-/reload")[0]
+        comes(lambda: os.path.exists(f"{it.journal}.1"), 10)
+        line = first_line(it.journal)
+        with open(sizes) as found:
+            most = max(map(int, found))
+    return status == 200 and len(line) > 1_000_000 and most <= 2 * 65_536, f"status {status}, {len(line)} bytes, {most} at once at the most"
+
+
+def first_line(journal):
+    with open(journal, "rb") as it:
+        return it.readline()
 
 
 @row("too few descriptors: said at the start, or refused")
