@@ -108,14 +108,6 @@ where
         served
     }
 
-    /// Opens rounds and reallocates until the desk is to be closed. Where the service is to end, no request is taken from then on.
-    fn schedule<C: Configuration>(&self, pass: &mut Pass<L, B, N>, schedule: &mut Schedule<C>) {
-        self.shared.keep_schedule(pass, schedule);
-        if self.shared.is_quitting() {
-            self.stop();
-        }
-    }
-
     /// Answers requests until the gate is stopped. Where no server can be, the service ends.
     fn serve(&self, listener: &TcpListener) -> io::Result<()> {
         let served = serve_by_loops(
@@ -128,6 +120,16 @@ where
         );
         self.shared.quit();
         served
+    }
+}
+
+impl<R: Wait + Clock + Eprint + Copy, L: Ledger, B: Ledger, N: DeskName> Served<'_, R, L, B, N> {
+    /// Opens rounds and reallocates until the desk is to be closed. Where the service is to end, no request is taken from then on.
+    fn schedule<C: Configuration>(&self, pass: &mut Pass<L, B, N>, schedule: &mut Schedule<C>) {
+        self.shared.keep_schedule(pass, schedule);
+        if self.shared.is_quitting() {
+            self.stop();
+        }
     }
 
     fn stop(&self) {
