@@ -123,7 +123,7 @@ pub(crate) const HELD_ROWS: [Row; 8] = [
     },
     Row {
         request: "GET /jobs/j/targets?collector_id=h HTTP/1.1\r\nhost: h\r\n\r\n",
-        begins: "HTTP/1.1 404 Not Found\r\n",
-        ends: "\r\n\r\n{\"refused\":\"UnknownCollector\"}",
+        begins: "HTTP/1.1 200 OK\r\n",
+        ends: "\r\n\r\n[]",
     },
 ];
