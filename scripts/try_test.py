@@ -25,7 +25,6 @@ ROWS = (
     ("damage/nesting", b"unreadable Shape", b"unreadable Shapf"),
     ("serve/routes", b"allocd_targets", b"allocd_targett"),
     ("serve/unknown_members_come_in_order", b"unknown member", b"unknown membes"),
-    ("connections/places", b"allocd_http_connections_max", b"allocd_http_connections_may"),
     ("edge/figures", b"allocd_events_total", b"allocd_events_totam"),
     ("supervise", b"allocd ends. Goodbye", b"allocd ends. Goodbyf"),
     ("wrong_uses", b"unknown member", b"unknown membes"),
