@@ -19,7 +19,7 @@ use tokio::sync::{OwnedNotified, OwnedSemaphorePermit};
 use tokio::time::{Handle, Sleep};
 
 /// How long no connection is taken where there is no place for one, or one could not be taken.
-const PAUSE_MILLIS: u64 = 20;
+const PAUSE_MILLIS: u64 = 5;
 
 /// So often a place is looked for, after a pause each, before a connection is turned away.
 const MOST_TRIES: u32 = 50;

@@ -54,11 +54,14 @@ impl<K: Clock> Limits<K> {
             return false;
         }
         self.exchanges.end_with_next();
-        if self.exchanges.was_used() {
-            return true;
-        }
-        self.set_limit_to(self.times.linger);
-        false
+        let was_used = self.exchanges.was_used();
+        let millis = if was_used {
+            self.times.last
+        } else {
+            self.times.linger
+        };
+        self.set_limit_to(millis);
+        was_used
     }
 
     /// The limit begins anew where the connection began to be idle, or ceased to be.
@@ -66,12 +69,18 @@ impl<K: Clock> Limits<K> {
         if !self.exchanges.has_changed() {
             return;
         }
-        let millis = if self.exchanges.is_busy() {
+        self.set_limit_to(self.limit_now());
+    }
+
+    /// How long the connection may go on as it is now, in milliseconds.
+    fn limit_now(&self) -> u64 {
+        if self.exchanges.is_ending() {
+            self.times.last
+        } else if self.exchanges.is_busy() {
             self.times.request
         } else {
             self.times.idle
-        };
-        self.set_limit_to(millis);
+        }
     }
 
     /// The limit is so many milliseconds away.

@@ -9,16 +9,19 @@ pub struct Times {
     pub pressed: u64,
     /// How long an exchange may take, from the first byte of its head to the last byte of its answer.
     pub request: u64,
+    /// How long an exchange may go on once the server is to end.
+    pub last: u64,
     /// For how long what a peer still sends is thrown away once it has its last answer.
     pub linger: u64,
 }
 
 impl Times {
-    /// 90 seconds, 2, 25 and 1.
+    /// 90 seconds, 2, 25, 5 and 1.
     pub const DEFAULT: Times = Times {
         idle: 90_000,
         pressed: 2_000,
         request: 25_000,
+        last: 5_000,
         linger: 1_000,
     };
 }
