@@ -3,21 +3,23 @@ use Rattle.std.proofs.Common.{◌≡◌, ℕ, ◌<◌, ◌≤◌, List, [], ◌�
 use Rattle.std.specs.Prelude.{nat_lt, nat_le, max, ◌||◌, ◌&&◌, map, filter}
 use Rattle.std.proofs.lemmas.Bool.{ltb-false, leb-true, leb-false, le-leb, le-ltb, lt-leb, eqb-true, eq-eqb, ne_eqb, cases_eq, cases_lt, cond-false}
 use Rattle.std.proofs.lemmas.List.Elements.{All-head, All-tail}
-use Rattle.handover.specs.Handover.{holder_in, taken_by}
+use Rattle.handover.specs.Handover.{holder_in}
+use Rattle.served_lists.specs.Served.{is_free, slot_of}
 use Rattle.scrape_books.specs.Books.{greatest_round, last_round_of}
 use Rattle.scrape_books.specs.declared.report.Entry.{Entry}
 use Rattle.scrape_books.specs.declared.report.Outcome.{Outcome}
 use Rattle.fleet.specs.Fleet.{is_joined}
 use Rattle.allocation_core.specs.State.{State}
-use Rattle.allocation_core.specs.Steps.{entry_of, refusal_of, report_refusal, holder_refusal, round_refusal, is_holder, is_booked}
+use Rattle.allocation_core.specs.Steps.{entry_of, refusal_of, report_refusal, holder_refusal, number_for, slot_refusal, round_refusal, is_holder, is_booked}
 use Rattle.allocation_core.specs.Booked.{report_of}
 use Rattle.fleet_events.specs.declared.refusal.Refusal.{Refusal}
-use Rattle.fleet_events.specs.declared.refusal.Refusal.TheVariants.{UnknownCollector, NotTaken, UnknownTarget, NotHolder, RoundClosed, RoundNotOpen, AlreadyBooked}
+use Rattle.fleet_events.specs.declared.refusal.Refusal.TheVariants.{UnknownCollector, NotTaken, UnknownTarget, NotHolder, StillServed, RoundClosed, RoundNotOpen, AlreadyBooked}
 
 pub record Admitted (m : State) (collector number target round : ℕ) : Type 0 where
   pub joined : is_joined m.fleet collector ≡ true
-  pub taken : taken_by m.taken collector ≡ number
+  pub taken : number_for m collector target ≡ number
   pub held : holder_in m.published number target ≡ Some collector
+  pub free : is_free m.served.slots collector target ≡ true
   pub opened : m.round ≡ round
   pub fresh : is_booked m.booked target round ≡ false
 
@@ -36,16 +38,18 @@ holder_by (Some h) collector e = ap (λ (n : ℕ). (let s : Option ℕ = Some n 
 pub admitted : (m : State) (collector number target round : ℕ) (outcome : Outcome) → refusal_of m (report_of (target, entry_of collector number round outcome)) ≡ None → Admitted m collector number target round
 admitted m collector number target round outcome free =
     let known = guard_by (is_joined m.fleet collector) (report_refusal m collector number target round) UnknownCollector free in
-    let took = guard_by (eqb (taken_by m.taken collector) number) _ (NotTaken (taken_by m.taken collector)) known.1 in
+    let took = guard_by (eqb (number_for m collector target) number) _ (NotTaken (number_for m collector target)) known.1 in
     let there = guard_by (nat_lt target (length m.fleet.known)) (holder_refusal m (holder_in m.published number target) collector target round) UnknownTarget took.1 in
-    let holds = guard_by (is_holder (holder_in m.published number target) collector) (round_refusal m target round) (NotHolder (holder_in m.published number target)) there.1 in
-    let closed = ban_by (nat_lt round m.round) _ (RoundClosed m.round) holds.1 in
+    let holds = guard_by (is_holder (holder_in m.published number target) collector) (slot_refusal m collector target round) (NotHolder (holder_in m.published number target)) there.1 in
+    let let_go = guard_by (is_free m.served.slots collector target) (round_refusal m target round) (StillServed (slot_of m.served.slots target)) holds.1 in
+    let closed = ban_by (nat_lt round m.round) _ (RoundClosed m.round) let_go.1 in
     let ahead = ban_by (nat_lt m.round round) _ (RoundNotOpen m.round) closed.1 in
     let twice = ban_by (is_booked m.booked target round) None AlreadyBooked ahead.1 in
     record {
       joined = known.0;
-      taken = eqb-true (taken_by m.taken collector) number took.0;
+      taken = eqb-true (number_for m collector target) number took.0;
       held = holder_by (holder_in m.published number target) collector holds.0;
+      free = let_go.0;
       opened = omega (arith, ltb-false round m.round closed.0, ltb-false m.round round ahead.0);
       fresh = twice.0;
     }

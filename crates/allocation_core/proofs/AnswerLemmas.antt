@@ -5,7 +5,8 @@ use Rattle.std.specs.Option.{option_map}
 use Rattle.price_certificate.specs.Faults.{fault_of}
 use Rattle.price_certificate.specs.declared.plan.Plan.{Plan}
 use Rattle.price_certificate.specs.declared.verdict.Fault.{Fault}
-use Rattle.handover.specs.Handover.{holder_in, taken_by}
+use Rattle.handover.specs.Handover.{holder_in}
+use Rattle.served_lists.specs.Served.{count_had, is_free, slot_of}
 use Rattle.fleet.specs.Changes.{drain_refusal, join_refusal, limits_refusal, list_refusal}
 use Rattle.fleet.specs.Fleet.{is_joined}
 use Rattle.fleet.specs.declared.outcome.ListRefusal.{ListRefusal}
@@ -17,14 +18,15 @@ use Rattle.fleet.specs.declared.outcome.DrainRefusal.TheVariants.{UnknownCollect
 use Rattle.fleet.specs.declared.outcome.LimitsRefusal.{LimitsRefusal}
 use Rattle.fleet.specs.declared.outcome.LimitsRefusal.TheVariants.{UnknownCollector as NobodyLimited, UnknownJob as NoJobLimited}
 use Rattle.fleet_events.specs.declared.event.Event.{Event}
-use Rattle.fleet_events.specs.declared.event.Event.TheVariants.{Discover, Join, Leave, Drain, SetLimits, Install, NextRound, Take, Report}
-use Rattle.fleet_events.specs.declared.answer.Answer.TheVariants.{Discovered, Joined, Left, Draining, LimitsSet, Published, RoundOpen, Taken, Booked}
-use Rattle.fleet_events.specs.declared.refusal.Refusal.TheVariants.{UnknownCollector, Unchanged, NumbersSpent, RoundsSpent, NotTaken, UnknownTarget, NotHolder, RoundClosed, RoundNotOpen, AlreadyBooked}
+use Rattle.fleet_events.specs.declared.event.Event.TheVariants.{Discover, Join, Leave, Drain, SetLimits, Install, NextRound, Take, Serve, Release, Report}
+use Rattle.fleet_events.specs.declared.answer.Answer.{Answer}
+use Rattle.fleet_events.specs.declared.answer.Answer.TheVariants.{Discovered, Joined, Left, Draining, LimitsSet, Published, RoundOpen, Taken, Served, Released, Booked, Not}
+use Rattle.fleet_events.specs.declared.refusal.Refusal.TheVariants.{UnknownJob, UnknownCollector, Unchanged, NumbersSpent, RoundsSpent, NotTaken, UnknownTarget, NotHolder, StillServed, RoundClosed, RoundNotOpen, AlreadyBooked}
 use Rattle.handover.specs.declared.holders.TheConstants.{LAST_NUMBER}
 use Rattle.allocation_core.specs.declared.limits.TheConstants.{LAST_ROUND}
-use Rattle.allocation_core.specs.State.{State, allocation_at, current_of, current_pairs, held_by, instance_at}
-use Rattle.allocation_core.specs.Steps.{answer_by, answer_of, is_booked, is_holder, plan_refusal, same_pairs, undrained, unjoined, unlimited, unlisted}
-use Rattle.allocation_core.specs.Answers.{IsAnswerTo, is_discover_answer, is_join_answer, is_leave_answer, is_drain_answer, is_limits_answer, is_install_answer, is_round_answer, is_take_answer, is_report_answer}
+use Rattle.allocation_core.specs.State.{State, allocation_at, current_of, current_pairs, held_by, instance_at, left_out_at, list_at, was_given}
+use Rattle.allocation_core.specs.Steps.{answer_by, answer_of, is_booked, is_holder, number_for, place_named, place_of, plan_refusal, same_pairs, unless_released, unless_served, undrained, unjoined, unlimited, unlisted}
+use Rattle.allocation_core.specs.Answers.{IsAnswerTo, is_discover_answer, is_join_answer, is_leave_answer, is_drain_answer, is_limits_answer, is_install_answer, is_round_answer, is_take_answer, is_serve_answer, is_release_answer, is_report_answer}
 
 discover_answer : (o : Option ListRefusal) (x y : ℕ) → IsTrue (is_discover_answer (answer_by (option_map unlisted o) (Discovered x y)))
 discover_answer None x y = refl
@@ -71,17 +73,34 @@ take_answer : (b : Bool) (number round : ℕ) (held : List ℕ) → IsTrue (is_t
 take_answer true number round held = refl
 take_answer false number round held = refl
 
+given_by : (is : Answer → Bool) (b : Bool) (answer : Answer) → IsTrue (is answer) → IsTrue (is (Not UnknownCollector)) → IsTrue (is (answer_by (cond b None (Some UnknownCollector)) answer))
+given_by is true answer yes no = yes
+given_by is false answer yes no = no
+
+serve_answer : (m : State) (id : ℕ) (job : Option ℕ) (number round : ℕ) (listed left_out : List ℕ) → IsTrue (is_serve_answer (answer_by (unless_served m id job) (Served number round listed left_out)))
+serve_answer m id None number round listed left_out = refl
+serve_answer m id (Some job) number round listed left_out = given_by is_serve_answer (was_given m id) (Served number round listed left_out) refl refl
+
+released_answer : (m : State) (id : ℕ) (job : Option ℕ) (count : ℕ) → IsTrue (is_release_answer (answer_by (unless_served m id job) (Released count)))
+released_answer m id None count = refl
+released_answer m id (Some job) count = given_by is_release_answer (was_given m id) (Released count) refl refl
+
+release_answer : (m : State) (id : ℕ) (name : Option (List ℕ)) (count : ℕ) → IsTrue (is_release_answer (answer_by (unless_released m id name) (Released count)))
+release_answer m id None count = given_by is_release_answer (was_given m id) (Released count) refl refl
+release_answer m id (Some name) count = released_answer m id (place_of m name) count
+
 report_answer :
-    (joined took there holds closed ahead twice : Bool) (taken round : ℕ) (holder : Option ℕ)
-    → IsTrue (is_report_answer (answer_by (cond joined (cond took (cond there (cond holds (cond closed (Some (RoundClosed round)) (cond ahead (Some (RoundNotOpen round)) (cond twice (Some AlreadyBooked) None))) (Some (NotHolder holder))) (Some UnknownTarget)) (Some (NotTaken taken))) (Some UnknownCollector)) Booked))
-report_answer false took there holds closed ahead twice taken round holder = refl
-report_answer true false there holds closed ahead twice taken round holder = refl
-report_answer true true false holds closed ahead twice taken round holder = refl
-report_answer true true true false closed ahead twice taken round holder = refl
-report_answer true true true true true ahead twice taken round holder = refl
-report_answer true true true true false true twice taken round holder = refl
-report_answer true true true true false false true taken round holder = refl
-report_answer true true true true false false false taken round holder = refl
+    (joined took there holds free closed ahead twice : Bool) (number other round : ℕ) (holder : Option ℕ)
+    → IsTrue (is_report_answer (answer_by (cond joined (cond took (cond there (cond holds (cond free (cond closed (Some (RoundClosed round)) (cond ahead (Some (RoundNotOpen round)) (cond twice (Some AlreadyBooked) None))) (Some (StillServed other))) (Some (NotHolder holder))) (Some UnknownTarget)) (Some (NotTaken number))) (Some UnknownCollector)) Booked))
+report_answer false took there holds free closed ahead twice number other round holder = refl
+report_answer true false there holds free closed ahead twice number other round holder = refl
+report_answer true true false holds free closed ahead twice number other round holder = refl
+report_answer true true true false free closed ahead twice number other round holder = refl
+report_answer true true true true false closed ahead twice number other round holder = refl
+report_answer true true true true true true ahead twice number other round holder = refl
+report_answer true true true true true false true twice number other round holder = refl
+report_answer true true true true true false false true number other round holder = refl
+report_answer true true true true true false false false number other round holder = refl
 
 pub answers_fit : (m : State) (e : Event) → IsAnswerTo e (answer_of m e)
 unfolding answer_of
@@ -93,6 +112,10 @@ answers_fit m (SetLimits id limits) = limits_answer (limits_refusal m.fleet id l
 answers_fit m (Install plan) = install_answer m plan (fault_of (instance_at m) plan.pairs plan.item_prices plan.bin_prices) (current_of m + 1)
 answers_fit m NextRound = round_answer (nat_lt m.round LAST_ROUND) (m.round + 1)
 answers_fit m (Take id) = take_answer (is_joined m.fleet id) (current_of m) m.round (held_by m id)
+answers_fit m (Serve id name) = serve_answer m id (place_of m name) (current_of m) m.round (list_at m id (place_of m name)) (left_out_at m id (place_of m name))
+answers_fit m (Release id name) = release_answer m id name (count_had m.fleet.known m.served id (place_named m name))
 answers_fit m (Report report) =
     let holder : Option ℕ = holder_in m.published report.allocation report.target in
-    report_answer (is_joined m.fleet report.collector) (taken_by m.taken report.collector == report.allocation) (nat_lt report.target (length m.fleet.known)) (is_holder holder report.collector) (nat_lt report.round m.round) (nat_lt m.round report.round) (is_booked m.booked report.target report.round) (taken_by m.taken report.collector) m.round holder
+    let number : ℕ = number_for m report.collector report.target in
+    report_answer (is_joined m.fleet report.collector) (number == report.allocation) (nat_lt report.target (length m.fleet.known)) (is_holder holder report.collector) (is_free m.served.slots report.collector report.target) (nat_lt report.round m.round) (nat_lt m.round report.round) (is_booked m.booked report.target report.round)
+    number (slot_of m.served.slots report.target) m.round holder

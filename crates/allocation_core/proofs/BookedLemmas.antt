@@ -20,7 +20,7 @@ use Rattle.allocation_core.specs.Kept.{IsKept}
 use Rattle.allocation_core.specs.Booked.{AllBooked, AlwaysBooked, WasBooked, report_of}
 use Rattle.fleet.specs.declared.job.JobSpec.{JobSpec}
 use Rattle.fleet_events.specs.declared.event.Event.{Event}
-use Rattle.fleet_events.specs.declared.event.Event.TheVariants.{Discover, Join, Leave, Drain, SetLimits, Install, NextRound, Take, Report}
+use Rattle.fleet_events.specs.declared.event.Event.TheVariants.{Discover, Join, Leave, Drain, SetLimits, Install, NextRound, Take, Serve, Release, Report}
 use Rattle.fleet_events.specs.declared.answer.Answer.TheVariants.{Booked}
 use Rattle.fleet_events.specs.declared.refusal.Refusal.{Refusal}
 use Rattle.allocation_core.proofs.Admission.{Admitted, admitted}
@@ -56,6 +56,8 @@ books m (SetLimits id limits) = inl (same_by m _ (refusal_of m (SetLimits id lim
 books m (Install plan) = inl (same_by m _ (refusal_of m (Install plan)) refl)
 books m NextRound = inl (same_by m _ (refusal_of m NextRound) refl)
 books m (Take id) = inl (same_by m _ (refusal_of m (Take id)) refl)
+books m (Serve id name) = inl (same_by m _ (refusal_of m (Serve id name)) refl)
+books m (Release id name) = inl (same_by m _ (refusal_of m (Release id name)) refl)
 books m (Report report) =
     let entry : ℕ × Entry = (report.target, entry_of report.collector report.allocation report.round report.outcome) in
     elim (report_by m (changed m (report_of entry)) entry (refusal_of m (report_of entry)) (admitted m report.collector report.allocation report.target report.round report.outcome) refl) [
@@ -112,6 +114,7 @@ here_booked m e es k b low high there p =
       joined = p.free.joined;
       taken = p.free.taken;
       held = p.free.held;
+      free = p.free.free;
       opened = p.free.opened;
     })
 
@@ -133,6 +136,7 @@ run_booked m (e ∷ es) k b low there = elim (cases_lt k (length (state_after m 
         joined = later.joined;
         taken = later.taken;
         held = later.held;
+        free = later.free;
         opened = later.opened;
       }
 ]
@@ -218,6 +222,7 @@ farther first events done left place b e was =
       joined = was.joined;
       taken = was.taken;
       held = was.held;
+      free = was.free;
       opened = was.opened;
     }
 
@@ -252,6 +257,8 @@ total_rises m (SetLimits id limits) = nothing_by m (changed m (SetLimits id limi
 total_rises m (Install plan) = nothing_by m (changed m (Install plan)) (refusal_of m (Install plan)) refl
 total_rises m NextRound = nothing_by m (changed m NextRound) (refusal_of m NextRound) refl
 total_rises m (Take id) = nothing_by m (changed m (Take id)) (refusal_of m (Take id)) refl
+total_rises m (Serve id name) = nothing_by m (changed m (Serve id name)) (refusal_of m (Serve id name)) refl
+total_rises m (Release id name) = nothing_by m (changed m (Release id name)) (refusal_of m (Release id name)) refl
 total_rises m (Report report) =
     gained_by m (changed m (Report report)) report.collector report.allocation report.target report.round report.outcome (refusal_of m (Report report)) refl
 

@@ -4,6 +4,7 @@ pub mod BestLemmas
 pub mod BookedLemmas
 pub mod FleetSteps
 pub mod InstalledLemmas
+pub mod ListLemmas
 pub mod RenewedLemmas
 pub mod RunLemmas
 pub mod StepLemmas

@@ -6,10 +6,11 @@ use Rattle.handover.specs.Handover.{only}
 use Rattle.fleet.specs.Jobs.{are_jobs}
 use Rattle.fleet.specs.declared.job.JobSpec.{JobSpec}
 use Rattle.fleet.specs.declared.limits.TheConstants.{MOST_BINS}
-use Rattle.fleet_renewal.specs.Renewed.{carried, fleet_refusal, renewed_fleet}
+use Rattle.fleet_renewal.specs.Renewed.{carried, fleet_refusal, renewed_fleet, renewed_slots}
 use Rattle.fleet_renewal.specs.declared.error.RenewError.{RenewError as FleetError}
 use Rattle.fleet_renewal.specs.declared.error.RenewError.TheVariants.{BadJobs as BadList, TooManyBins as ManyBins, Memory as NoMemory}
 use Rattle.fleet_renewal.proofs.RenewedKept.{renewed_kept}
+use Rattle.fleet_renewal.proofs.SlotLemmas.{renewed_slots_all, renewed_slots_fit}
 use Rattle.fleet_events.specs.declared.event.Event.{Event}
 use Rattle.allocation_core.specs.State.{State, current_pairs}
 use Rattle.allocation_core.specs.Kept.{IsKept}
@@ -46,8 +47,10 @@ unfolding renewed
 renewed_state_kept m jobs kept named free =
     let fits = free_fleet m jobs free in
     record {
-      fleet = renewed_kept m.fleet (current_pairs m) jobs kept.fleet named fits.good fits.bins;
-      few_published = omega (arith, few_only (carried m.fleet (current_pairs m) jobs));
+      fleet = renewed_kept m.fleet (current_pairs m) m.served.slots jobs kept.fleet named fits.good fits.bins;
+      few_published = omega (arith, few_only (carried m.fleet (current_pairs m) m.served.slots jobs));
+      few_slots = omega (arith, renewed_slots_fit m.fleet (current_pairs m) m.served.slots jobs);
+      given_slots = renewed_slots_all (λ (c : ℕ). c ≤ m.fleet.last_collector) m.fleet (current_pairs m) m.served.slots jobs kept.given_slots (omega arith);
       opened = omega arith;
       past_rounds = λ k d less. absurd (omega arith);
     }

@@ -1,7 +1,10 @@
 -- What an event does to the state, and that what holds at every moment holds after it.
-use Rattle.std.proofs.Common.{◌≡◌, ℕ, ◌+◌, ◌≤◌, ◌⊎◌, List, [], ◌∷◌, ◌++◌, All, Bool, true, false, Option, Some, None, cond, refl, inl, inr, arith, length-append}
-use Rattle.std.specs.Prelude.{nat_lt, is_some, if◌then◌else◌}
-use Rattle.std.specs.Option.{option_map}
+use Rattle.std.proofs.Common.{◌≡◌, ℕ, ◌+◌, ◌≤◌, ◌⊎◌, List, [], ◌∷◌, ◌++◌, All, Bool, true, false, Option, Some, None, cond, length, refl, sym, ap, ◌∙◌, ◌<◌, inl, inr, arith, append_assoc, length-append}
+use Rattle.std.specs.Prelude.{nat_le, nat_lt, is_some, if◌then◌else◌}
+use Rattle.std.specs.List.{list_any}
+use Rattle.std.specs.Option.{option_map, option_map_or}
+use Rattle.std.proofs.lemmas.Bool.{and_parts, leb-true}
+use Rattle.std.proofs.lemmas.List.{append-nil}
 use Rattle.std.proofs.lemmas.List.Elements.{All-push}
 use borrow.Author.Tests.{ltb-true}
 use Rattle.price_certificate.specs.Faults.{fault_of}
@@ -9,7 +12,13 @@ use Rattle.price_certificate.specs.declared.plan.Plan.{Plan}
 use Rattle.price_certificate.specs.declared.verdict.Fault.{Fault}
 use Rattle.handover.specs.Handover.{with_taken}
 use Rattle.scrape_books.specs.declared.report.Entry.{Entry}
-use Rattle.fleet.specs.Changes.{join_refusal, list_refusal, with_collector, with_draining, with_draining_at, with_limits, with_limits_at, with_listing, without_collector}
+use Rattle.fleet.specs.Jobs.{job_named}
+use Rattle.fleet.specs.KnownTarget.{known_with, same_known, with_known}
+use Rattle.fleet.specs.declared.known_target.KnownTarget.{KnownTarget}
+use Rattle.label_sets.specs.Target.{FinalTarget}
+use Rattle.served_lists.specs.Served.{Served as Lists, without_list}
+use Rattle.served_lists.proofs.SlotLemmas.{with_list_all, with_list_length, without_list_all, without_list_length}
+use Rattle.fleet.specs.Changes.{join_refusal, list_refusal, relisted, with_collector, with_draining, with_draining_at, with_limits, with_limits_at, with_listing, without_collector}
 use Rattle.fleet.specs.Fleet.{FleetState, first_fleet}
 use Rattle.fleet.specs.IsFleet.{IsFleet}
 use Rattle.fleet.specs.declared.collector.Collector.{Collector}
@@ -20,11 +29,11 @@ use Rattle.fleet.proofs.ChangeLemmas.{collector_kept, listing_kept}
 use Rattle.fleet.proofs.KeptLemmas.{changed_kept as fleet_changed_kept, first_kept as fleet_first_kept, leave_kept}
 use Rattle.fleet_events.specs.declared.answer.Answer.TheVariants.{Published}
 use Rattle.fleet_events.specs.declared.event.Event.{Event}
-use Rattle.fleet_events.specs.declared.event.Event.TheVariants.{Discover, Join, Leave, Drain, SetLimits, Install, NextRound, Take, Report}
+use Rattle.fleet_events.specs.declared.event.Event.TheVariants.{Discover, Join, Leave, Drain, SetLimits, Install, NextRound, Take, Serve, Release, Report}
 use Rattle.fleet_events.specs.declared.refusal.Refusal.{Refusal}
-use Rattle.fleet_events.specs.declared.refusal.Refusal.TheVariants.{Unchanged, NumbersSpent}
-use Rattle.allocation_core.specs.State.{State, allocation_at, current_of, current_pairs, first_state, instance_at}
-use Rattle.allocation_core.specs.Steps.{answer_by, answer_of, changed, entry_of, number_refusal, plan_refusal, refusal_of, same_pairs, state_after, unjoined, unlisted}
+use Rattle.fleet_events.specs.declared.refusal.Refusal.TheVariants.{UnknownCollector, Unchanged, NumbersSpent}
+use Rattle.allocation_core.specs.State.{State, allocation_at, current_of, current_pairs, first_state, held_live, instance_at, served_at, was_given}
+use Rattle.allocation_core.specs.Steps.{answer_by, answer_of, changed, entry_of, number_refusal, plan_refusal, place_named, place_of, refusal_of, same_pairs, state_after, unjoined, unless_served, unlisted}
 use Rattle.handover.specs.declared.holders.TheConstants.{LAST_NUMBER}
 use Rattle.allocation_core.specs.Runs.{state_of}
 use Rattle.allocation_core.specs.Kept.{IsKept}
@@ -50,13 +59,95 @@ install_kept m plan kept e =
     record {
       fleet = kept.fleet;
       few_published = omega (arith, length-append m.published (allocation_at m plan.pairs ∷ []), ltb-true (current_of m) LAST_NUMBER free);
+      few_slots = kept.few_slots;
+      given_slots = kept.given_slots;
       opened = kept.opened;
       past_rounds = kept.past_rounds;
     }
 
--- another fleet
-fleet_kept : (m : State) (fleet : FleetState) → IsKept m → IsFleet fleet → IsKept (record m { fleet = fleet })
-fleet_kept m fleet kept sound = record { fleet = sound; few_published = kept.few_published; opened = kept.opened; past_rounds = kept.past_rounds }
+-- another fleet, of which not fewer targets are known, nor fewer collectors joined
+fleet_kept : (m : State) (fleet : FleetState) → IsKept m → IsFleet fleet → length m.fleet.known ≤ length fleet.known → m.fleet.last_collector ≤ fleet.last_collector → IsKept (record m { fleet = fleet })
+fleet_kept m fleet kept sound known joined =
+    record {
+      fleet = sound;
+      few_published = kept.few_published;
+      few_slots = omega (arith, kept.few_slots, known);
+      given_slots = λ k d l. omega (arith, kept.given_slots k d l, joined);
+      opened = kept.opened;
+      past_rounds = kept.past_rounds;
+    }
+
+-- known targets stay in front
+pub record Grown (known later : List KnownTarget) : Type 0 where
+  pub more : List KnownTarget
+  pub is : later ≡ known ++ more
+
+with_grown : (b : Bool) (known : List KnownTarget) (k : KnownTarget) → Grown known (cond b known (known ++ k ∷ []))
+with_grown true known k = record { more = []; is = sym (append-nil known) }
+with_grown false known k = record { more = k ∷ []; is = refl }
+
+known_grown : (known : List KnownTarget) (job : ℕ) (targets : List FinalTarget) → Grown known (known_with known job targets)
+known_grown known job [] = record { more = []; is = sym (append-nil known) }
+known_grown known job (target ∷ targets) =
+    let k : KnownTarget = record { job = job; target = target } in
+    let first = with_grown (list_any (same_known k) known) known k in
+    let rest = known_grown (with_known known k) job targets in
+    record { more = first.more ++ rest.more; is = rest.is ∙ ap (λ (ks : List KnownTarget). ks ++ rest.more) first.is ∙ append_assoc known first.more rest.more }
+
+relisted_grown : (fleet : FleetState) (o : Option ℕ) (source : ℕ) (targets : List FinalTarget) → Grown fleet.known (option_map_or (λ (job : ℕ). relisted fleet job source targets) o fleet).known
+relisted_grown fleet None source targets = record { more = []; is = sym (append-nil fleet.known) }
+relisted_grown fleet (Some job) source targets = known_grown fleet.known job targets
+
+pub listing_grown : (fleet : FleetState) (name : List ℕ) (source : ℕ) (targets : List FinalTarget) → Grown fleet.known (with_listing fleet name source targets).known
+listing_grown fleet name source targets = relisted_grown fleet (job_named fleet.jobs name) source targets
+
+relisted_joined : (fleet : FleetState) (o : Option ℕ) (source : ℕ) (targets : List FinalTarget) → (option_map_or (λ (job : ℕ). relisted fleet job source targets) o fleet).last_collector ≡ fleet.last_collector
+relisted_joined fleet None source targets = refl
+relisted_joined fleet (Some job) source targets = refl
+
+listed_kept : (m : State) (name : List ℕ) (source : ℕ) (targets : List FinalTarget) → IsKept m → IsFleet (with_listing m.fleet name source targets) → IsKept (record m { fleet = with_listing m.fleet name source targets })
+listed_kept m name source targets kept sound =
+    let grown = listing_grown m.fleet name source targets in
+    fleet_kept m (with_listing m.fleet name source targets) kept sound
+    (omega (arith, ap (λ (ks : List KnownTarget). length ks) grown.is, length-append m.fleet.known grown.more))
+    (omega (arith, relisted_joined m.fleet (job_named m.fleet.jobs name) source targets))
+
+-- other lists served last
+lists_kept : (m : State) (served : Lists) → IsKept m → length served.slots ≤ length m.fleet.known → All (λ (c : ℕ). c ≤ m.fleet.last_collector) served.slots → IsKept (record m { served = served })
+lists_kept m served kept few given =
+    record {
+      fleet = kept.fleet;
+      few_published = kept.few_published;
+      few_slots = few;
+      given_slots = given;
+      opened = kept.opened;
+      past_rounds = kept.past_rounds;
+    }
+
+-- who is served joined once
+pub given_when : (m : State) (id : ℕ) → was_given m id ≡ true → (0 < id) × (id ≤ m.fleet.last_collector)
+given_when m id e = (let both = and_parts (nat_lt 0 id) (nat_le id m.fleet.last_collector) e in (ltb-true 0 id both.0, leb-true id m.fleet.last_collector both.1))
+
+given_by : (b : Bool) → cond b (let n : Option Refusal = None in n) (Some UnknownCollector) ≡ None → b ≡ true
+given_by true e = refl
+given_by false e = cc
+
+pub served_given : (m : State) (id job : ℕ) → unless_served m id (Some job) ≡ None → was_given m id ≡ true
+served_given m id job e = given_by (was_given m id) e
+
+serve_kept : (m : State) (id : ℕ) (job : Option ℕ) → IsKept m → unless_served m id job ≡ None → IsKept (record m { served = served_at m id job })
+serve_kept m id None kept free = kept
+serve_kept m id (Some job) kept free =
+    let given = given_when m id (served_given m id job free) in
+    lists_kept m (served_at m id (Some job)) kept
+    (omega (arith, with_list_length m.fleet.known m.served id job (current_of m) (held_live m id)))
+    (with_list_all (λ (c : ℕ). c ≤ m.fleet.last_collector) m.fleet.known m.served id job (current_of m) (held_live m id) kept.given_slots given.1 (omega arith))
+
+release_kept : (m : State) (id : ℕ) (job : Option ℕ) → IsKept m → IsKept (record m { served = without_list m.fleet.known m.served id job })
+release_kept m id job kept =
+    lists_kept m (without_list m.fleet.known m.served id job) kept
+    (omega (arith, without_list_length m.fleet.known m.served id job, kept.few_slots))
+    (without_list_all (λ (c : ℕ). c ≤ m.fleet.last_collector) m.fleet.known m.served id job kept.given_slots (omega arith))
 
 not_mapped : (o : Option ListRefusal) → option_map unlisted o ≡ None → o ≡ None
 not_mapped None e = refl
@@ -72,19 +163,23 @@ kept_with m taken round booked kept opened past =
     record {
       fleet = kept.fleet;
       few_published = kept.few_published;
+      few_slots = kept.few_slots;
+      given_slots = kept.given_slots;
       opened = opened;
       past_rounds = past;
     }
 
 changed_kept : (m : State) (e : Event) → IsKept m → refusal_of m e ≡ None → IsKept (changed m e)
-changed_kept m (Discover name source targets) kept free = fleet_kept m (with_listing m.fleet name source targets) kept (listing_kept m.fleet name source targets kept.fleet (not_mapped (list_refusal m.fleet name source targets) free))
-changed_kept m (Join name reach limits) kept free = fleet_kept m (with_collector m.fleet name reach limits) kept (collector_kept m.fleet name reach limits kept.fleet (not_joined (join_refusal m.fleet name limits) free))
-changed_kept m (Leave id) kept free = fleet_kept m (without_collector m.fleet id) kept (leave_kept m.fleet (λ (c : Collector). _) kept.fleet)
-changed_kept m (Drain id) kept free = fleet_kept m (with_draining m.fleet id) kept (fleet_changed_kept m.fleet (with_draining_at id) (λ c. refl) (λ c. refl) kept.fleet)
-changed_kept m (SetLimits id limits) kept free = fleet_kept m (with_limits m.fleet id limits) kept (fleet_changed_kept m.fleet (with_limits_at id limits) (λ c. refl) (λ c. refl) kept.fleet)
+changed_kept m (Discover name source targets) kept free = listed_kept m name source targets kept (listing_kept m.fleet name source targets kept.fleet (not_mapped (list_refusal m.fleet name source targets) free))
+changed_kept m (Join name reach limits) kept free = fleet_kept m (with_collector m.fleet name reach limits) kept (collector_kept m.fleet name reach limits kept.fleet (not_joined (join_refusal m.fleet name limits) free)) (omega arith) (omega arith)
+changed_kept m (Leave id) kept free = fleet_kept m (without_collector m.fleet id) kept (leave_kept m.fleet (λ (c : Collector). _) kept.fleet) (omega arith) (omega arith)
+changed_kept m (Drain id) kept free = fleet_kept m (with_draining m.fleet id) kept (fleet_changed_kept m.fleet (with_draining_at id) (λ c. refl) (λ c. refl) kept.fleet) (omega arith) (omega arith)
+changed_kept m (SetLimits id limits) kept free = fleet_kept m (with_limits m.fleet id limits) kept (fleet_changed_kept m.fleet (with_limits_at id limits) (λ c. refl) (λ c. refl) kept.fleet) (omega arith) (omega arith)
 changed_kept m (Install plan) kept free = install_kept m plan kept free
 changed_kept m NextRound kept free = kept_with m m.taken (m.round + 1) m.booked kept (omega arith) (λ k d l. omega (arith, kept.past_rounds k d l))
 changed_kept m (Take id) kept free = kept_with m (with_taken m.taken id (current_of m)) m.round m.booked kept kept.opened kept.past_rounds
+changed_kept m (Serve id name) kept free = serve_kept m id (place_of m name) kept free
+changed_kept m (Release id name) kept free = release_kept m id (place_named m name) kept
 changed_kept m (Report report) kept free =
     let b : ℕ × Entry = (report.target, entry_of report.collector report.allocation report.round report.outcome) in
     let opened : m.round ≡ report.round = (admitted m report.collector report.allocation report.target report.round report.outcome free).opened in
@@ -94,12 +189,19 @@ pub step_kept : (m : State) (e : Event) → IsKept m → IsKept (state_after m e
 unfolding state_after
 step_kept m e kept = after_by m (changed m e) IsKept (refusal_of m e) kept (changed_kept m e kept)
 
-pub first_kept : (m : State) → IsFleet m.fleet → m.published ≡ [] → m.round ≡ 1 → m.booked ≡ [] → IsKept m
-first_kept m fleet published round booked =
-    record { fleet = fleet; few_published = rw published (omega arith); opened = omega (arith, round); past_rounds = rw booked (λ k d less. absurd (omega arith)) }
+pub first_kept : (m : State) → IsFleet m.fleet → m.published ≡ [] → m.served.slots ≡ [] → m.round ≡ 1 → m.booked ≡ [] → IsKept m
+first_kept m fleet published slots round booked =
+    record {
+      fleet = fleet;
+      few_published = rw published (omega arith);
+      few_slots = rw slots (omega arith);
+      given_slots = rw slots (λ k d less. absurd (omega arith));
+      opened = omega (arith, round);
+      past_rounds = rw booked (λ k d less. absurd (omega arith));
+    }
 
 pub start_kept : (jobs : List JobSpec) → IsKept (first_state jobs)
-start_kept jobs = first_kept (first_state jobs) (fleet_first_kept (first_fleet jobs) refl refl refl refl) refl refl refl
+start_kept jobs = first_kept (first_state jobs) (fleet_first_kept (first_fleet jobs) refl refl refl refl) refl refl refl refl
 
 pub run_kept : (m : State) (es : List Event) → IsKept m → IsKept (state_of m es)
 run_kept m [] kept = kept
@@ -135,6 +237,8 @@ publishes m (Drain id) = inl (same_by m _ (refusal_of m (Drain id)) refl)
 publishes m (SetLimits id limits) = inl (same_by m _ (refusal_of m (SetLimits id limits)) refl)
 publishes m NextRound = inl (same_by m _ (refusal_of m NextRound) refl)
 publishes m (Take id) = inl (same_by m _ (refusal_of m (Take id)) refl)
+publishes m (Serve id name) = inl (same_by m _ (refusal_of m (Serve id name)) refl)
+publishes m (Release id name) = inl (same_by m _ (refusal_of m (Release id name)) refl)
 publishes m (Report report) = inl (same_by m _ (refusal_of m (Report report)) refl)
 publishes m (Install plan) =
     elim (install_by m plan (refusal_of m (Install plan)) (λ e. (plan_by m plan (fault_of (instance_at m) plan.pairs plan.item_prices plan.bin_prices) e).0)) [

@@ -1,10 +1,10 @@
 -- Which answers an event can have.
 use Rattle.std.specs.Prelude.{Bool, true, false, IsTrue}
 use Rattle.fleet_events.specs.declared.event.Event.{Event}
-use Rattle.fleet_events.specs.declared.event.Event.TheVariants.{Discover, Join, Leave, Drain, SetLimits, Install, NextRound, Take, Report}
+use Rattle.fleet_events.specs.declared.event.Event.TheVariants.{Discover, Join, Leave, Drain, SetLimits, Install, NextRound, Take, Serve, Release, Report}
 use Rattle.fleet_events.specs.declared.answer.Answer.{Answer}
-use Rattle.fleet_events.specs.declared.answer.Answer.TheVariants.{Discovered, Joined, Left, Draining, LimitsSet, Published, RoundOpen, Taken, Booked, Not}
-use Rattle.fleet_events.specs.declared.refusal.Refusal.TheVariants.{UnknownJob, UnknownSource, TooManyLive, TooManyKnown, AlreadyJoined, TooManyCollectors, IdsSpent, UnknownCollector, AlreadyDraining, Refused, Unchanged, NumbersSpent, RoundsSpent, NotTaken, UnknownTarget, NotHolder, RoundClosed, RoundNotOpen, AlreadyBooked}
+use Rattle.fleet_events.specs.declared.answer.Answer.TheVariants.{Discovered, Joined, Left, Draining, LimitsSet, Published, RoundOpen, Taken, Served, Released, Booked, Not}
+use Rattle.fleet_events.specs.declared.refusal.Refusal.TheVariants.{UnknownJob, UnknownSource, TooManyLive, TooManyKnown, AlreadyJoined, TooManyCollectors, IdsSpent, UnknownCollector, AlreadyDraining, Refused, Unchanged, NumbersSpent, RoundsSpent, NotTaken, UnknownTarget, NotHolder, StillServed, RoundClosed, RoundNotOpen, AlreadyBooked}
 
 abbrev pub is_discover_answer : Answer → Bool
 is_discover_answer (Discovered added removed) = true
@@ -56,12 +56,25 @@ is_take_answer (Taken number round held) = true
 is_take_answer (Not UnknownCollector) = true
 is_take_answer _ = false
 
+abbrev pub is_serve_answer : Answer → Bool
+is_serve_answer (Served number round listed left_out) = true
+is_serve_answer (Not UnknownJob) = true
+is_serve_answer (Not UnknownCollector) = true
+is_serve_answer _ = false
+
+abbrev pub is_release_answer : Answer → Bool
+is_release_answer (Released count) = true
+is_release_answer (Not UnknownJob) = true
+is_release_answer (Not UnknownCollector) = true
+is_release_answer _ = false
+
 abbrev pub is_report_answer : Answer → Bool
 is_report_answer Booked = true
 is_report_answer (Not UnknownCollector) = true
 is_report_answer (Not (NotTaken number)) = true
 is_report_answer (Not UnknownTarget) = true
 is_report_answer (Not (NotHolder holder)) = true
+is_report_answer (Not (StillServed other)) = true
 is_report_answer (Not (RoundClosed round)) = true
 is_report_answer (Not (RoundNotOpen round)) = true
 is_report_answer (Not AlreadyBooked) = true
@@ -76,6 +89,8 @@ IsAnswerTo (SetLimits id limits) answer = IsTrue (is_limits_answer answer)
 IsAnswerTo (Install plan) answer = IsTrue (is_install_answer answer)
 IsAnswerTo NextRound answer = IsTrue (is_round_answer answer)
 IsAnswerTo (Take id) answer = IsTrue (is_take_answer answer)
+IsAnswerTo (Serve id name) answer = IsTrue (is_serve_answer answer)
+IsAnswerTo (Release id name) answer = IsTrue (is_release_answer answer)
 IsAnswerTo (Report report) answer = IsTrue (is_report_answer answer)
 
 -- the events that take no memory
@@ -84,11 +99,13 @@ needs_no_memory (Leave id) = true
 needs_no_memory (Drain id) = true
 needs_no_memory (SetLimits id limits) = true
 needs_no_memory NextRound = true
+needs_no_memory (Release id name) = true
 needs_no_memory _ = false
 
 -- the events that want memory only where nothing is against them
 abbrev pub checks_first : Event → Bool
 checks_first (Join name reach limits) = true
 checks_first (Take id) = true
+checks_first (Serve id name) = true
 checks_first (Report report) = true
 checks_first _ = false

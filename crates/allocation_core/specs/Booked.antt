@@ -1,11 +1,12 @@
 -- What every booked report is: one of the target's holder, and the only one of its target and round.
 use Rattle.std.specs.Prelude.{◌≡◌, ℕ, List, ◌∷◌, ◌++◌, All, Some, true, length, slice_get}
-use Rattle.handover.specs.Handover.{holder_in, taken_by}
+use Rattle.handover.specs.Handover.{holder_in}
+use Rattle.served_lists.specs.Served.{is_free}
 use Rattle.scrape_books.specs.Kept.{RoundsRise}
 use Rattle.scrape_books.specs.declared.report.Entry.{Entry}
 use Rattle.fleet.specs.Fleet.{is_joined}
 use Rattle.allocation_core.specs.State.{State, first_state}
-use Rattle.allocation_core.specs.Steps.{answer_of}
+use Rattle.allocation_core.specs.Steps.{answer_of, number_for}
 use Rattle.allocation_core.specs.Runs.{state_of}
 use Rattle.fleet.specs.declared.job.JobSpec.{JobSpec}
 use Rattle.fleet_events.specs.declared.event.Event.{Event}
@@ -17,7 +18,8 @@ abbrev pub report_of : ℕ × Entry → Event
 report_of b = Report (record { collector = b.1.collector; allocation = b.1.number; target = b.0; round = b.1.round; outcome = b.1.outcome })
 
 -- A Report among the events booked the entry, in this place. Just before that event its collector was live, had last taken the
--- allocation that the report names, and held the target there; and the round was the open one.
+-- allocation that the report names, or been served the list of the target's job of it, and held the target there; no other collector's
+-- list had the target; and the round was the open one.
 pub record WasBooked (first : State) (events : List Event) (place : ℕ) (b : ℕ × Entry) : Type 0 where
   pub earlier : List Event
   pub later : List Event
@@ -25,8 +27,9 @@ pub record WasBooked (first : State) (events : List Event) (place : ℕ) (b : �
   pub before : length (state_of first earlier).booked ≡ place
   pub answered : answer_of (state_of first earlier) (report_of b) ≡ Booked
   pub joined : is_joined (state_of first earlier).fleet b.1.collector ≡ true
-  pub taken : taken_by (state_of first earlier).taken b.1.collector ≡ b.1.number
+  pub taken : number_for (state_of first earlier) b.1.collector b.0 ≡ b.1.number
   pub held : holder_in (state_of first earlier).published b.1.number b.0 ≡ Some b.1.collector
+  pub free : is_free (state_of first earlier).served.slots b.1.collector b.0 ≡ true
   pub opened : (state_of first earlier).round ≡ b.1.round
 
 -- Each booked report was booked by these events as it should be, its collector holds the target in the allocation that it names,

@@ -11,6 +11,9 @@ use Rattle.allocation_core.specs.Runs.{state_of}
 pub record IsKept (m : State) : Type 0 where
   pub fleet : IsFleet m.fleet
   pub few_published : length m.published ≤ LAST_NUMBER
+  -- lists have known targets, and collectors that joined once
+  pub few_slots : length m.served.slots ≤ length m.fleet.known
+  pub given_slots : All (λ (collector : ℕ). collector ≤ m.fleet.last_collector) m.served.slots
   pub opened : 1 ≤ m.round
   -- no round past the open one is booked
   pub past_rounds : All (λ (b : ℕ × Entry). b.1.round ≤ m.round) m.booked

@@ -3,6 +3,7 @@ pub mod Best
 pub mod Booked
 pub mod Installed
 pub mod Kept
+pub mod Lists
 pub mod Renewed
 pub mod Runs
 pub mod State

@@ -2,7 +2,7 @@
 use Rattle.std.specs.Prelude.{◌≡◌, ℕ, ◌+◌, nat_lt, if◌then◌else◌, List, [], Option, Some, None}
 use Rattle.handover.specs.Handover.{only}
 use Rattle.fleet.specs.declared.job.JobSpec.{JobSpec}
-use Rattle.fleet_renewal.specs.Renewed.{carried, fleet_refusal, renewed_fleet}
+use Rattle.fleet_renewal.specs.Renewed.{carried, fleet_refusal, renewed_fleet, renewed_slots}
 use Rattle.fleet_renewal.specs.declared.error.RenewError.{RenewError as FleetError}
 use Rattle.fleet_renewal.specs.declared.error.RenewError.TheVariants.{BadJobs as BadList, TooManyBins as ManyBins, Memory as NoMemory}
 use Rattle.allocation_core.specs.State.{State, current_pairs}
@@ -10,14 +10,15 @@ use Rattle.allocation_core.specs.declared.limits.TheConstants.{LAST_ROUND}
 use Rattle.allocation_core.specs.declared.renewal.RenewalError.{RenewalError}
 use Rattle.allocation_core.specs.declared.renewal.RenewalError.TheVariants.{BadJobs, Memory, RoundsSpent, TooManyBins}
 
--- The fleet goes on under the jobs, and the current allocation is carried over in its new numbers as the first and only one.
--- Nobody has taken anything and nothing is booked; the next round is open; the certificate is that of the last Published.
+-- The fleet goes on under the jobs, and the current allocation is carried over in its new numbers as the first and only one. The lists
+-- that were served last still have their targets, as far as their jobs go on. Nobody has taken anything and nothing is booked; the next round is open; the certificate is that of the last Published.
 unfoldable pub renewed : State → List JobSpec → State
 renewed m jobs =
     record m {
-      fleet = renewed_fleet m.fleet (current_pairs m) jobs;
-      published = only (carried m.fleet (current_pairs m) jobs);
+      fleet = renewed_fleet m.fleet (current_pairs m) m.served.slots jobs;
+      published = only (carried m.fleet (current_pairs m) m.served.slots jobs);
       taken = [];
+      served = record { slots = renewed_slots m.fleet (current_pairs m) m.served.slots jobs; numbers = [] };
       round = m.round + 1;
       booked = [];
     }

@@ -1,11 +1,12 @@
 -- What the allocator knows.
-use Rattle.std.specs.Prelude.{ℕ, List, [], length}
+use Rattle.std.specs.Prelude.{ℕ, nat_le, nat_lt, ◌&&◌, Bool, if◌then◌else◌, List, [], length, Option, Some, None}
 use Rattle.price_certificate.specs.Problem.{Problem}
 use Rattle.price_certificate.specs.declared.plan.Plan.{Plan}
 use Rattle.price_certificate.specs.declared.version.Version.TheVariants.{Two}
 use Rattle.handover.specs.Handover.{last_of, held_in, only}
+use Rattle.served_lists.specs.Served.{Served, left_out_of, listed_of, nothing_served, with_list}
 use Rattle.scrape_books.specs.declared.report.Entry.{Entry}
-use Rattle.fleet.specs.Fleet.{FleetState, first_fleet}
+use Rattle.fleet.specs.Fleet.{FleetState, first_fleet, is_joined}
 use Rattle.fleet.specs.declared.job.JobSpec.{JobSpec}
 use Rattle.fleet_assignment.specs.Allocation.{allocation_of}
 use Rattle.fleet_assignment.specs.Instance.{instance_of}
@@ -20,12 +21,14 @@ pub record State : Type 0 where
   pub plan : Plan
   -- the collectors that took an allocation, in order of their first time, each beside the number of the one that it took last
   pub taken : List (ℕ × ℕ)
+  -- the lists that collectors were served last
+  pub served : Served
   -- the open round
   pub round : ℕ
   -- the reports that are booked, beside their targets, in order of booking
   pub booked : List (ℕ × Entry)
 
--- nothing is listed, known, published or booked, and nobody joined
+-- nothing is listed, known, published, served or booked, and nobody joined
 abbrev pub first_state : List JobSpec → State
 first_state jobs =
     record {
@@ -34,14 +37,25 @@ first_state jobs =
       problem = record { version = Two; limits = []; draining = []; rows = []; before = [] };
       plan = record { pairs = []; item_prices = []; bin_prices = [] };
       taken = [];
+      served = nothing_served;
       round = 1;
       booked = [];
     }
 
 -- The state that a renewal leaves, from what it keeps: the allocation is the first and only one, or there is none where it is
--- empty. Nobody has taken anything, and nothing is booked.
-abbrev pub restored : FleetState → List (ℕ × ℕ) → Problem → Plan → ℕ → State
-restored fleet pairs problem plan round = record { fleet = fleet; published = only pairs; problem = problem; plan = plan; taken = []; round = round; booked = [] }
+-- empty. The lists that were served last still have their targets. Nobody has taken anything, and nothing is booked.
+abbrev pub restored : FleetState → List (ℕ × ℕ) → List ℕ → Problem → Plan → ℕ → State
+restored fleet pairs slots problem plan round =
+    record {
+      fleet = fleet;
+      published = only pairs;
+      problem = problem;
+      plan = plan;
+      taken = [];
+      served = record { slots = slots; numbers = [] };
+      round = round;
+      booked = [];
+    }
 
 -- the number of the current allocation
 abbrev pub current_of : State → ℕ
@@ -62,3 +76,26 @@ instance_at m = instance_of m.fleet (current_pairs m)
 -- a plan's pairs as pairs of a target and a collector
 abbrev pub allocation_at : State → List (ℕ × ℕ) → List (ℕ × ℕ)
 allocation_at m pairs = allocation_of m.fleet pairs
+
+-- a collector joined under the number once
+abbrev pub was_given : State → ℕ → Bool
+was_given m id = nat_lt 0 id && nat_le id m.fleet.last_collector
+
+-- what is served of: what a live collector holds, and nothing where it has left
+abbrev pub held_live : State → ℕ → List ℕ
+held_live m id = if is_joined m.fleet id then held_by m id else []
+
+-- the list of a job that a collector is served, of the job at a place where there is one
+abbrev pub list_at : State → ℕ → Option ℕ → List ℕ
+list_at m id None = []
+list_at m id (Some job) = listed_of m.fleet.known m.served.slots id job (held_live m id)
+
+-- what that list leaves out
+abbrev pub left_out_at : State → ℕ → Option ℕ → List ℕ
+left_out_at m id None = []
+left_out_at m id (Some job) = left_out_of m.fleet.known m.served.slots id job (held_live m id)
+
+-- the lists that were served last, once it is served
+abbrev pub served_at : State → ℕ → Option ℕ → Served
+served_at m id None = m.served
+served_at m id (Some job) = with_list m.fleet.known m.served id job (current_of m) (held_live m id)

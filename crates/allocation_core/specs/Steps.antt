@@ -1,16 +1,19 @@
 -- One step of the machine: the first refusal is the answer, and the state stays; else the answer and the new state.
-use Rattle.std.specs.Prelude.{ℕ, ◌+◌, ◌==◌, ◌&&◌, not, Bool, false, if◌then◌else◌, nat_lt, List, [], ◌∷◌, ◌++◌, length, Option, Some, None, is_some}
+use Rattle.std.specs.Prelude.{ℕ, ◌+◌, ◌==◌, ◌&&◌, not, Bool, false, if◌then◌else◌, nat_lt, List, [], ◌∷◌, ◌++◌, length, slice_get, option_and_then, Option, Some, None, is_some, Result, Ok, Err}
 use Rattle.std.specs.List.{list_any}
-use Rattle.std.specs.Option.{option_map}
+use Rattle.std.specs.Option.{option_map, option_map_or}
 use Rattle.std.specs.Cmp.Lexicographic.{pointwise}
 use Rattle.price_certificate.specs.Faults.{fault_of}
 use Rattle.price_certificate.specs.declared.plan.Plan.{Plan}
 use Rattle.price_certificate.specs.declared.verdict.Fault.{Fault}
 use Rattle.handover.specs.Handover.{holder_in, taken_by, with_taken}
+use Rattle.served_lists.specs.Served.{count_had, is_free, number_of, slot_of, without_list}
 use Rattle.scrape_books.specs.Books.{samples_of}
 use Rattle.scrape_books.specs.declared.report.Entry.{Entry}
 use Rattle.scrape_books.specs.declared.report.Outcome.{Outcome}
 use Rattle.fleet.specs.Fleet.{is_joined}
+use Rattle.fleet.specs.Jobs.{job_named}
+use Rattle.fleet.specs.declared.known_target.KnownTarget.{KnownTarget}
 use Rattle.fleet.specs.Changes.{difference, drain_refusal, join_refusal, limits_refusal, list_refusal, with_collector, with_draining, with_limits, with_listing, without_collector}
 use Rattle.fleet.specs.declared.outcome.Listing.{Listing}
 use Rattle.fleet.specs.declared.outcome.Listing.TheVariants.{Changed, Refused as NotListed}
@@ -30,13 +33,13 @@ use Rattle.fleet.specs.declared.outcome.LimitsRefusal.{LimitsRefusal}
 use Rattle.fleet.specs.declared.outcome.LimitsRefusal.TheVariants.{UnknownCollector as NobodyLimited, UnknownJob as NoJobLimited}
 use Rattle.handover.specs.declared.holders.TheConstants.{LAST_NUMBER}
 use Rattle.allocation_core.specs.declared.limits.TheConstants.{LAST_ROUND}
-use Rattle.allocation_core.specs.State.{State, allocation_at, current_of, current_pairs, held_by, instance_at}
+use Rattle.allocation_core.specs.State.{State, allocation_at, current_of, current_pairs, held_by, instance_at, left_out_at, list_at, served_at, was_given}
 use Rattle.fleet_events.specs.declared.event.Event.{Event}
-use Rattle.fleet_events.specs.declared.event.Event.TheVariants.{Discover, Join, Leave, Drain, SetLimits, Install, NextRound, Take, Report}
+use Rattle.fleet_events.specs.declared.event.Event.TheVariants.{Discover, Join, Leave, Drain, SetLimits, Install, NextRound, Take, Serve, Release, Report}
 use Rattle.fleet_events.specs.declared.answer.Answer.{Answer}
-use Rattle.fleet_events.specs.declared.answer.Answer.TheVariants.{Discovered, Joined, Left, Draining, LimitsSet, Published, RoundOpen, Taken, Booked, Not}
+use Rattle.fleet_events.specs.declared.answer.Answer.TheVariants.{Discovered, Joined, Left, Draining, LimitsSet, Published, RoundOpen, Taken, Served, Released, Booked, Not}
 use Rattle.fleet_events.specs.declared.refusal.Refusal.{Refusal}
-use Rattle.fleet_events.specs.declared.refusal.Refusal.TheVariants.{UnknownJob, UnknownSource, TooManyLive, TooManyKnown, AlreadyJoined, TooManyCollectors, IdsSpent, UnknownCollector, AlreadyDraining, Refused, Unchanged, NumbersSpent, RoundsSpent, NotTaken, UnknownTarget, NotHolder, RoundClosed, RoundNotOpen, AlreadyBooked}
+use Rattle.fleet_events.specs.declared.refusal.Refusal.TheVariants.{UnknownJob, UnknownSource, TooManyLive, TooManyKnown, AlreadyJoined, TooManyCollectors, IdsSpent, UnknownCollector, AlreadyDraining, Refused, Unchanged, NumbersSpent, RoundsSpent, NotTaken, UnknownTarget, NotHolder, StillServed, RoundClosed, RoundNotOpen, AlreadyBooked}
 
 -- why a source does not list targets, as a refusal
 abbrev pub unlisted : ListRefusal → Refusal
@@ -99,6 +102,33 @@ plan_refusal m plan None = number_refusal m (allocation_at m plan.pairs)
 abbrev pub unless_unknown : State → ℕ → Option Refusal → Option Refusal
 unless_unknown m id others = if is_joined m.fleet id then others else Some UnknownCollector
 
+-- the place of the job of a name
+abbrev pub place_of : State → List ℕ → Option ℕ
+place_of m name = job_named m.fleet.jobs name
+
+-- the same where a job is named
+abbrev pub place_named : State → Option (List ℕ) → Option ℕ
+place_named m name = option_and_then (place_of m) name
+
+-- no collector ever had the number
+abbrev pub unless_given : State → ℕ → Option Refusal
+unless_given m id = if was_given m id then None else Some UnknownCollector
+
+-- there is no such job, or no collector ever had the number
+abbrev pub unless_served : State → ℕ → Option ℕ → Option Refusal
+unless_served m id None = Some UnknownJob
+unless_served m id (Some job) = unless_given m id
+
+-- the place of a job that is named, if one is, or why there is none
+abbrev pub job_meant : State → Option (List ℕ) → Result (Option ℕ) Refusal
+job_meant m None = Ok None
+job_meant m (Some name) = option_map_or (λ (job : ℕ). Ok (Some job)) (place_of m name) (Err UnknownJob)
+
+-- the same where a job is named
+abbrev pub unless_released : State → ℕ → Option (List ℕ) → Option Refusal
+unless_released m id None = unless_given m id
+unless_released m id (Some name) = unless_served m id (place_of m name)
+
 -- the target's holder is this collector
 abbrev pub is_holder : Option ℕ → ℕ → Bool
 is_holder None collector = false
@@ -113,13 +143,31 @@ abbrev pub round_refusal : State → ℕ → ℕ → Option Refusal
 round_refusal m target round =
     if nat_lt round m.round then Some (RoundClosed m.round) else if nat_lt m.round round then Some (RoundNotOpen m.round) else if is_booked m.booked target round then Some AlreadyBooked else None
 
+-- the list of another collector has the target
+abbrev pub slot_refusal : State → ℕ → ℕ → ℕ → Option Refusal
+slot_refusal m collector target round = if is_free m.served.slots collector target then round_refusal m target round else Some (StillServed (slot_of m.served.slots target))
+
 abbrev pub holder_refusal : State → Option ℕ → ℕ → ℕ → ℕ → Option Refusal
-holder_refusal m holder collector target round = if is_holder holder collector then round_refusal m target round else Some (NotHolder holder)
+holder_refusal m holder collector target round = if is_holder holder collector then slot_refusal m collector target round else Some (NotHolder holder)
+
+-- a number, or another where there is none
+abbrev pub number_or : ℕ → Option ℕ → ℕ
+number_or other None = other
+number_or other (Some number) = number
+
+abbrev pub number_at : State → ℕ → Option KnownTarget → ℕ
+number_at m collector None = taken_by m.taken collector
+number_at m collector (Some known) = number_or (taken_by m.taken collector) (number_of m.served.numbers collector known.job)
+
+-- the number that a collector's report of a target names: that of the allocation of which the list of the target's job was served to it
+-- last, or that it took last where no such list was served
+abbrev pub number_for : State → ℕ → ℕ → ℕ
+number_for m collector target = number_at m collector (slice_get m.fleet.known target)
 
 -- the first reason against a report of a live collector
 abbrev pub report_refusal : State → ℕ → ℕ → ℕ → ℕ → Option Refusal
 report_refusal m collector number target round =
-    if taken_by m.taken collector == number then (if nat_lt target (length m.fleet.known) then holder_refusal m (holder_in m.published number target) collector target round else Some UnknownTarget) else Some (NotTaken (taken_by m.taken collector))
+    if number_for m collector target == number then (if nat_lt target (length m.fleet.known) then holder_refusal m (holder_in m.published number target) collector target round else Some UnknownTarget) else Some (NotTaken (number_for m collector target))
 
 -- the first reason against an event
 abbrev pub refusal_of : State → Event → Option Refusal
@@ -131,6 +179,8 @@ refusal_of m (SetLimits id limits) = option_map unlimited (limits_refusal m.flee
 refusal_of m (Install plan) = plan_refusal m plan (fault_of (instance_at m) plan.pairs plan.item_prices plan.bin_prices)
 refusal_of m NextRound = if nat_lt m.round LAST_ROUND then None else Some RoundsSpent
 refusal_of m (Take id) = unless_unknown m id None
+refusal_of m (Serve id name) = unless_served m id (place_of m name)
+refusal_of m (Release id name) = unless_released m id name
 refusal_of m (Report report) = unless_unknown m report.collector (report_refusal m report.collector report.allocation report.target report.round)
 
 -- a report as it is booked
@@ -147,6 +197,8 @@ changed m (SetLimits id limits) = record m { fleet = with_limits m.fleet id limi
 changed m (Install plan) = record m { published = m.published ++ allocation_at m plan.pairs ∷ []; problem = instance_at m; plan = plan }
 changed m NextRound = record m { round = m.round + 1 }
 changed m (Take id) = record m { taken = with_taken m.taken id (current_of m) }
+changed m (Serve id name) = record m { served = served_at m id (place_of m name) }
+changed m (Release id name) = record m { served = without_list m.fleet.known m.served id (place_named m name) }
 changed m (Report report) = record m { booked = m.booked ++ (report.target, entry_of report.collector report.allocation report.round report.outcome) ∷ [] }
 
 -- the answer to it
@@ -159,6 +211,8 @@ granted m (SetLimits id limits) = LimitsSet
 granted m (Install plan) = Published (current_of m + 1)
 granted m NextRound = RoundOpen (m.round + 1)
 granted m (Take id) = Taken (current_of m) m.round (held_by m id)
+granted m (Serve id name) = Served (current_of m) m.round (list_at m id (place_of m name)) (left_out_at m id (place_of m name))
+granted m (Release id name) = Released (count_had m.fleet.known m.served id (place_named m name))
 granted m (Report report) = Booked
 
 abbrev pub answer_by : Option Refusal → Answer → Answer

@@ -6,6 +6,7 @@ ghost use Rattle.allocation_core.specs.Best.{AlwaysBest};
 ghost use Rattle.allocation_core.specs.Booked.{AlwaysBooked};
 ghost use Rattle.allocation_core.specs.Installed.{CertifiedAreInstalled};
 ghost use Rattle.allocation_core.specs.Kept.{AlwaysKept};
+ghost use Rattle.allocation_core.specs.Lists.{AlwaysDisjoint, AlwaysWhole};
 ghost use Rattle.fleet_events.specs.declared.event.Event.{Event};
 
 use fleet_assignment::{
@@ -32,6 +33,18 @@ pub fn published_are_best()
 /// this collector last took, in the round then open, and at most once for each target and round.
 pub fn booked_by_holders()
     ensures { AlwaysBooked }
+{}
+
+/// Over every list of events, no target stands in two of the lists that collectors were served last and that are not released: whatever
+/// is published, and whoever joins, drains or leaves.
+pub fn lists_are_disjoint()
+    ensures { AlwaysDisjoint }
+{}
+
+/// Over every list of events, a list that is served has what its collector holds of the job in the current allocation, but for what stands
+/// in the list of another collector that was served last and is not released.
+pub fn lists_are_whole()
+    ensures { AlwaysWhole }
 {}
 
 /// Each event has only answers of its kind.

@@ -16,6 +16,7 @@ mod joining;
 mod renewing;
 mod reporting;
 mod restoring;
+mod serving;
 mod taking;
 
 use crate::certificate::{empty_instance, empty_plan};
@@ -26,6 +27,7 @@ use label_sets::Target;
 use lists::{List, Plain};
 use price_certificate::{Instance, Plan};
 use scrape_books::Books;
+use served_lists::ServedLists;
 use std::alloc::{AllocError, Global};
 use std::marker::Model;
 
@@ -37,6 +39,7 @@ pub struct Core {
     holders: Holders,
     instance: Instance,
     plan: Plan,
+    served: ServedLists,
     round: u32,
     books: Books,
 }
@@ -47,9 +50,9 @@ impl Model for Core {
 
     ghost Value = { State };
 
-    ghost view = { λ c. record { fleet = c.fleet; published = c.holders.published; problem = c.instance; plan = c.plan; taken = c.holders.taken; round = c.round; booked = c.books } };
+    ghost view = { λ c. record { fleet = c.fleet; published = c.holders.published; problem = c.instance; plan = c.plan; taken = c.holders.taken; served = c.served; round = c.round; booked = c.books } };
 
-    ghost invariant = { λ c. IsKept (record { fleet = c.fleet; published = c.holders.published; problem = c.instance; plan = c.plan; taken = c.holders.taken; round = c.round; booked = c.books }) };
+    ghost invariant = { λ c. IsKept (record { fleet = c.fleet; published = c.holders.published; problem = c.instance; plan = c.plan; taken = c.holders.taken; served = c.served; round = c.round; booked = c.books }) };
 }
 
 impl Core {
@@ -66,13 +69,14 @@ impl Core {
             holders: Holders::open(alloc),
             instance,
             plan: empty_plan(alloc),
+            served: ServedLists::open(alloc),
             round: 1,
             books: Books::open(alloc),
         })
     }
 
-    /// One step. Without memory nothing changes, and Leave, Drain, SetLimits and NextRound take none. Join, Take and Report
-    /// want it only after all their checks.
+    /// One step. Without memory nothing changes, and Leave, Drain, SetLimits, NextRound and Release take none. Join, Take, Serve and
+    /// Report want it only after all their checks.
     #[tactic(auto, using(crate::proofs::BookedLemmas::total_rises))]
     pub fn apply(&mut self, event: Event) -> Result<Answer, AllocError>
         ensures answer { IfOk result (λ a. a ≡ answer_of self.old event) }
@@ -100,6 +104,8 @@ impl Core {
             Event::Install(plan) => self.install(plan),
             Event::NextRound => Ok(self.next_round()),
             Event::Take(collector) => self.take(collector),
+            Event::Serve { collector, job } => self.serve(collector, job),
+            Event::Release { collector, job } => Ok(self.release(collector, job)),
             Event::Report(report) => self.report(report),
         }
     }

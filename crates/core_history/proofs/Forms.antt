@@ -1,5 +1,5 @@
 -- A history as it is written has no float and few levels, so its text is known and reads back.
-use Rattle.std.proofs.Common.{◌≡◌, ◌≤◌, ℕ, List, false, refl, arith}
+use Rattle.std.proofs.Common.{◌≡◌, ◌≤◌, ℕ, List, Option, Some, None, false, refl, arith}
 use Rattle.std.proofs.lemmas.Bool.{or_from}
 use Rattle.serde_json.specs.Data.{depth}
 use Rattle.serde_json.specs.Read.{max_depth}
@@ -15,7 +15,7 @@ use Rattle.fleet.specs.declared.known_target.KnownTarget.{KnownTarget}
 use Rattle.fleet_events.proofs.Forms.{target_no_float, reach_no_float, limits_no_float, target_levels, reach_levels, limits_levels}
 use Rattle.allocation_core.specs.State.{State, current_pairs}
 use Rattle.core_history.specs.Parts.{job_data, known_data, collector_data, fleet_data}
-use Rattle.core_history.specs.History.{history_data}
+use Rattle.core_history.specs.History.{history_by, history_data, slots_said}
 
 -- ---- no float
 
@@ -33,8 +33,13 @@ fleet_no_float fleet =
     or_from _ _ (no_float collector_data collector_no_float fleet.collectors) (or_from _ _ (no_float job_data (λ job. refl) fleet.jobs)
     (or_from _ _ (no_float (list_data (list_data number_data)) (no_float (list_data number_data) numbers_no_float) fleet.listed) (or_from _ _ (no_float known_data known_no_float fleet.known) refl)))
 
+rest_no_float : (m : State) (slots : Option (List ℕ)) → has_float (history_by (list_data pair_data (current_pairs m)) (document_data m.problem m.plan.pairs m.plan.item_prices m.plan.bin_prices) (fleet_data m.fleet) (number_data m.round) slots) ≡ false
+rest_no_float m None = or_from _ _ (no_float pair_data (λ q. refl) (current_pairs m)) (or_from _ _ (has_float-document_data m.problem m.plan.pairs m.plan.item_prices m.plan.bin_prices) (or_from _ _ (fleet_no_float m.fleet) refl))
+rest_no_float m (Some slots) =
+    or_from _ _ (no_float pair_data (λ q. refl) (current_pairs m)) (or_from _ _ (has_float-document_data m.problem m.plan.pairs m.plan.item_prices m.plan.bin_prices) (or_from _ _ (fleet_no_float m.fleet) (or_from _ _ (numbers_no_float slots) refl)))
+
 pub history_no_float : (m : State) → has_float (history_data m) ≡ false
-history_no_float m = or_from _ _ (no_float pair_data (λ q. refl) (current_pairs m)) (or_from _ _ (has_float-document_data m.problem m.plan.pairs m.plan.item_prices m.plan.bin_prices) (or_from _ _ (fleet_no_float m.fleet) refl))
+history_no_float m = rest_no_float m (slots_said m.served.slots)
 
 -- ---- few levels
 
@@ -54,6 +59,10 @@ fleet_levels : (fleet : FleetState) → depth (fleet_data fleet) ≤ 5
 fleet_levels fleet =
     omega (arith, levels collector_data 3 collector_levels fleet.collectors, levels job_data 1 (λ job. omega arith) fleet.jobs, levels (list_data (list_data number_data)) 2 sources_levels fleet.listed, levels known_data 3 known_levels fleet.known)
 
+rest_levels : (m : State) (slots : Option (List ℕ)) → depth (history_by (list_data pair_data (current_pairs m)) (document_data m.problem m.plan.pairs m.plan.item_prices m.plan.bin_prices) (fleet_data m.fleet) (number_data m.round) slots) ≤ max_depth
+rest_levels m None = omega (arith, levels pair_data 1 (λ q. omega arith) (current_pairs m), levels-document_data m.problem m.plan.pairs m.plan.item_prices m.plan.bin_prices, fleet_levels m.fleet)
+rest_levels m (Some slots) =
+    omega (arith, levels pair_data 1 (λ q. omega arith) (current_pairs m), levels-document_data m.problem m.plan.pairs m.plan.item_prices m.plan.bin_prices, fleet_levels m.fleet, numbers_levels slots)
+
 pub history_levels : (m : State) → depth (history_data m) ≤ max_depth
-history_levels m =
-    omega (arith, levels pair_data 1 (λ q. omega arith) (current_pairs m), levels-document_data m.problem m.plan.pairs m.plan.item_prices m.plan.bin_prices, fleet_levels m.fleet)
+history_levels m = rest_levels m (slots_said m.served.slots)

@@ -1,6 +1,7 @@
--- A renewed core as JSON: `allocation`, pairs of a target and its collector, `certificate`, a certificate document, `fleet`, and
--- `round`. What a line says is a state, or the first fault in this order: the shape, the fleet's parts, the allocation, the round.
-use Rattle.std.specs.Prelude.{◌≡◌, true, ℕ, ◌==◌, List, Bool, not, ◌&&◌, nat_lt, if◌then◌else◌, length, map, Option, Some, None, option_map, option_and_then, Result, Ok, Err, codes}
+-- A renewed core as JSON: `allocation`, pairs of a target and its collector, `certificate`, a certificate document, `fleet`, `round`, and
+-- `served`, for each known target the collector of which a list that was served last has it, 0 for none; left out where none has any. What
+-- a line says is a state, or the first fault in this order: the shape, the fleet's parts, the allocation, the round, the lists served.
+use Rattle.std.specs.Prelude.{◌≡◌, true, ℕ, ◌==◌, List, Bool, not, ◌&&◌, nat_le, nat_lt, if◌then◌else◌, length, map, replicate, Option, Some, None, option_map, option_and_then, Result, Ok, Err, codes}
 use Rattle.std.specs.List.{list_all}
 use Rattle.lists.specs.Rising.{rises}
 use Rattle.serde_json.specs.Data.{Data, object, no_members, member}
@@ -21,7 +22,7 @@ use Rattle.fleet.specs.declared.fleet_parts.FleetParts.{FleetParts}
 use Rattle.allocation_core.specs.State.{State, current_pairs, restored}
 use Rattle.core_history.specs.Parts.{fleet_data, fleet_parts_in, parts_of}
 use Rattle.core_history.specs.declared.error.HistoryError.{HistoryError}
-use Rattle.core_history.specs.declared.error.HistoryError.TheVariants.{Shape, BadJobs, BadTargets, BadLists, BadCollectors, RepeatedTarget, BadAllocation, BadRound, Memory}
+use Rattle.core_history.specs.declared.error.HistoryError.TheVariants.{Shape, BadJobs, BadTargets, BadLists, BadCollectors, RepeatedTarget, BadAllocation, BadRound, BadServed, Memory}
 use Rattle.core_history.specs.declared.history.Certificate.{Certificate}
 use Rattle.core_history.specs.declared.history.History.{History}
 
@@ -33,13 +34,19 @@ certificate_of problem plan = record { instance = problem; plan = plan }
 unfoldable pub certificate_in : Data → Option Certificate
 certificate_in d = option_and_then (λ problem. option_map (certificate_of problem) (plan_in d)) (problem_in d)
 
-abbrev pub history_of : List (ℕ × ℕ) → Certificate → FleetParts → ℕ → History
-history_of allocation certificate fleet round = record { allocation = allocation; certificate = certificate; fleet = fleet; round = round }
+abbrev pub history_of : List (ℕ × ℕ) → Certificate → FleetParts → ℕ → Option (List ℕ) → History
+history_of allocation certificate fleet round served = record { allocation = allocation; certificate = certificate; fleet = fleet; round = round; served = served }
+
+-- whose lists have which targets: nothing where the member is left out
+abbrev pub served_or_none : Option Data → Option (Option (List ℕ))
+served_or_none None = Some None
+served_or_none (Some d) = option_map (λ (slots : List ℕ). Some slots) (list_in number_in d)
 
 -- the members of a history; others don't matter
 unfoldable pub parts_in : Data → Option History
 parts_in d =
-    option_and_then (λ allocation. option_and_then (λ certificate. option_and_then (λ fleet. option_map (history_of allocation certificate fleet) (member_in number_in (codes "round") d))
+    option_and_then
+    (λ allocation. option_and_then (λ certificate. option_and_then (λ fleet. option_and_then (λ round. option_map (history_of allocation certificate fleet round) (served_or_none (get (codes "served") d))) (member_in number_in (codes "round") d))
     (member_in fleet_parts_in (codes "fleet") d)) (member_in certificate_in (codes "certificate") d)) (member_in (list_in pair_in) (codes "allocation") d)
 
 -- ---- the state
@@ -60,12 +67,24 @@ IsFaultOf fleet error = (fault : PartsError) × (parts_fault fleet ≡ Some faul
 abbrev pub is_allocation : FleetState → List (ℕ × ℕ) → Bool
 is_allocation fleet pairs = list_all (λ (q : ℕ × ℕ). nat_lt q.0 (length fleet.known) && is_joined fleet q.1) pairs && rises (map (λ (q : ℕ × ℕ). q.0) pairs)
 
+-- not more slots than known targets, of collectors that joined once
+abbrev pub are_slots : FleetState → Option (List ℕ) → Bool
+are_slots fleet None = true
+are_slots fleet (Some slots) = nat_le (length slots) (length fleet.known) && list_all (λ (collector : ℕ). nat_le collector fleet.last_collector) slots
+
+-- no list has a known target, where nothing is said
+abbrev pub slots_of : FleetState → Option (List ℕ) → List ℕ
+slots_of fleet None = replicate (length fleet.known) 0
+slots_of fleet (Some slots) = slots
+
 abbrev pub state_of : History → State
-state_of history = restored (fleet_of history.fleet) history.allocation history.certificate.instance history.certificate.plan history.round
+state_of history = restored (fleet_of history.fleet) history.allocation (slots_of (fleet_of history.fleet) history.served) history.certificate.instance history.certificate.plan history.round
 
 -- what a history comes to whose fleet has no fault
 abbrev pub with_fleet : History → Result State HistoryError
-with_fleet history = if not (is_allocation (fleet_of history.fleet) history.allocation) then Err BadAllocation else (if history.round == 0 then Err BadRound else Ok (state_of history))
+with_fleet history =
+    if not (is_allocation (fleet_of history.fleet) history.allocation) then Err BadAllocation
+    else (if history.round == 0 then Err BadRound else (if not (are_slots (fleet_of history.fleet) history.served) then Err BadServed else Ok (state_of history)))
 
 abbrev pub by_fault : Option PartsError → History → Result State HistoryError
 by_fault None history = with_fleet history
@@ -95,17 +114,34 @@ history_said line = said_by (json_of line)
 abbrev pub history_object : Data → Data → Data → Data → Data
 history_object allocation certificate fleet round = object (member (codes "allocation") allocation (member (codes "certificate") certificate (member (codes "fleet") fleet (member (codes "round") round no_members))))
 
+abbrev pub served_object : Data → Data → Data → Data → Data → Data
+served_object allocation certificate fleet round served =
+    object (member (codes "allocation") allocation
+    (member (codes "certificate") certificate
+    (member (codes "fleet") fleet
+    (member (codes "round") round
+    (member (codes "served") served no_members)))))
+
+-- the slots, or nothing where no list has a target
+abbrev pub slots_said : List ℕ → Option (List ℕ)
+slots_said slots = if list_all (λ (collector : ℕ). collector == 0) slots then None else Some slots
+
+abbrev pub history_by : Data → Data → Data → Data → Option (List ℕ) → Data
+history_by allocation certificate fleet round None = history_object allocation certificate fleet round
+history_by allocation certificate fleet round (Some slots) = served_object allocation certificate fleet round (list_data number_data slots)
+
 abbrev pub history_data : State → Data
-history_data m = history_object (list_data pair_data (current_pairs m)) (document_data m.problem m.plan.pairs m.plan.item_prices m.plan.bin_prices) (fleet_data m.fleet) (number_data m.round)
+history_data m =
+    history_by (list_data pair_data (current_pairs m)) (document_data m.problem m.plan.pairs m.plan.item_prices m.plan.bin_prices) (fleet_data m.fleet) (number_data m.round) (slots_said m.served.slots)
 
 abbrev pub history_text : State → List ℕ
 history_text m = compact_text (history_data m)
 
 -- what is written of a state
 abbrev pub kept_of : State → History
-kept_of m = history_of (current_pairs m) (certificate_of m.problem m.plan) (parts_of m.fleet) m.round
+kept_of m = history_of (current_pairs m) (certificate_of m.problem m.plan) (parts_of m.fleet) m.round (slots_said m.served.slots)
 
 -- What is written of a state where its allocation names known targets and live collectors reads back as the state without its
 -- earlier allocations, takes and reports: so a renewed state reads back whole.
 abbrev pub ReadsBack : State → Result State HistoryError → Type 0
-ReadsBack m said = is_allocation m.fleet (current_pairs m) ≡ true → said ≡ Ok (restored m.fleet (current_pairs m) m.problem m.plan m.round)
+ReadsBack m said = is_allocation m.fleet (current_pairs m) ≡ true → said ≡ Ok (restored m.fleet (current_pairs m) (slots_of m.fleet (slots_said m.served.slots)) m.problem m.plan m.round)

@@ -30,6 +30,9 @@ pub enum HistoryError {
     /// The round is 0.
     #[error("the round is 0")]
     BadRound,
+    /// The lists that were served last name more targets than are known, or a collector that never joined.
+    #[error("the lists served are none of the fleet's")]
+    BadServed,
     #[error("no memory")]
     Memory,
 }

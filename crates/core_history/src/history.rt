@@ -18,4 +18,6 @@ pub(crate) struct History {
     pub(crate) certificate: Certificate,
     pub(crate) fleet: FleetParts,
     pub(crate) round: u32,
+    /// For each known target the collector of which a list that was served last has it, 0 for none.
+    pub(crate) served: Option<List<u32>>,
 }

@@ -1,9 +1,10 @@
 //! Histories out of JSON.
 ghost use Rattle.std.specs.Prelude.{◌≡◌, ◌≢◌, Err, IfErr, IfOk, Ok, codes};
+ghost use Rattle.serde_json.specs.Find.{get};
 ghost use Rattle.serde_json.specs.View.{view};
 ghost use Rattle.json_values.specs.Spelling.{member_in};
 ghost use Rattle.core_history.specs.Parts.{fleet_parts_in};
-ghost use Rattle.core_history.specs.History.{certificate_in, history_in, history_said, parts_in};
+ghost use Rattle.core_history.specs.History.{certificate_in, history_in, history_said, parts_in, served_or_none};
 ghost use Rattle.core_history.specs.declared.error.HistoryError.TheVariants.{Memory};
 
 use crate::error::HistoryError;
@@ -13,6 +14,7 @@ use crate::restoring::restored;
 use allocation_core::Core;
 use fleet::FleetParts;
 use json_values::{Spelled, member, parse};
+use lists::List;
 use price_certificate::{Plan, instance_of};
 use serde_json::Value;
 use std::alloc::{AllocError, Global};
@@ -57,12 +59,29 @@ fn parts_in(alloc: Global, value: &Value) -> Result<Option<History>, AllocError>
     let Some(round) = member(alloc, value, "round")? else {
         return Ok(None);
     };
+    let Some(served) = served_or_none(alloc, value)? else {
+        return Ok(None);
+    };
     Ok(Some(History {
         allocation,
         certificate,
         fleet,
         round,
+        served,
     }))
+}
+
+/// Whose lists have which targets: nothing where the member is left out.
+fn served_or_none(alloc: Global, value: &Value) -> Result<Option<Option<List<u32>>>, AllocError>
+    ensures { IfOk result (λ o. o ≡ served_or_none (get (codes "served") (view value.now))) }
+{
+    let Some(slots) = value.get("served") else {
+        return Ok(Some(None));
+    };
+    match Spelled::read(alloc, slots)? {
+        Some(slots) => Ok(Some(Some(slots))),
+        None => Ok(None),
+    }
 }
 
 fn certificate_member(alloc: Global, value: &Value) -> Result<Option<Certificate>, AllocError>

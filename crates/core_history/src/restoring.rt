@@ -1,17 +1,18 @@
 //! A core made of a history's parts, once there is no fault in them.
-ghost use Rattle.std.specs.Prelude.{◌≡◌, ◌≢◌, ◌&&◌, ◌<◌, ℕ, AllPairs, IfErr, IfOk, Ok, Err, None, true, length, map, nat_lt};
+ghost use Rattle.std.specs.Prelude.{◌≡◌, ◌≢◌, ◌&&◌, ◌<◌, ℕ, AllPairs, IfErr, IfOk, Ok, Err, None, true, length, map, nat_le, nat_lt};
 ghost use Rattle.std.specs.List.{list_all};
 ghost use Rattle.lists.specs.Rising.{rises};
 ghost use Rattle.fleet.specs.Fleet.{is_joined};
 ghost use Rattle.fleet.specs.Parts.{fleet_of, parts_fault};
-ghost use Rattle.core_history.specs.History.{checked, IsFaultOf, is_allocation};
+ghost use Rattle.core_history.specs.History.{checked, IsFaultOf, are_slots, is_allocation, slots_of};
 ghost use Rattle.core_history.specs.declared.error.HistoryError.TheVariants.{Memory};
 
 use crate::error::HistoryError;
 use crate::history::{Certificate, History};
 use allocation_core::Core;
 use fleet::{Fleet, FleetParts};
-use std::alloc::Global;
+use lists::List;
+use std::alloc::{AllocError, Global};
 
 /// The core of a history, or the first fault.
 #[tactic(auto, unfolding(crate::specs::History::checked))]
@@ -24,6 +25,7 @@ pub(crate) fn restored(alloc: Global, history: History) -> Result<Core, HistoryE
         certificate,
         fleet,
         round,
+        served,
     } = history;
     let fleet = fleet_restored(alloc, fleet)?;
     if !is_allocation(&fleet, allocation.as_slice()) {
@@ -32,9 +34,50 @@ pub(crate) fn restored(alloc: Global, history: History) -> Result<Core, HistoryE
     if round == 0 {
         return Err(HistoryError::BadRound);
     }
+    if !are_slots(&fleet, &served) {
+        return Err(HistoryError::BadServed);
+    }
+    let slots = slots_of(alloc, &fleet, served)?;
     let Certificate { instance, plan } = certificate;
-    let core = Core::restored(alloc, fleet, allocation, round, instance, plan)?;
+    let core = Core::restored(alloc, fleet, allocation, slots, round, instance, plan)?;
     Ok(core)
+}
+
+/// Whether there are not more slots than known targets, of collectors that joined once.
+fn are_slots(fleet: &Fleet, served: &Option<List<u32>>) -> bool
+    ensures { result ≡ are_slots fleet.now served.now }
+{
+    match served {
+        Some(slots) => {
+            slots.len() <= fleet.known().len()
+                && were_given(slots.as_slice(), fleet.last_collector())
+        }
+        None => true,
+    }
+}
+
+fn were_given(collectors: &[u32], last: u32) -> bool
+    ensures { result ≡ list_all (λ (collector : ℕ). nat_le collector last) collectors.now }
+{
+    collectors.iter().all(|collector| *collector <= last)
+}
+
+/// The slots; no list has a known target where nothing is said.
+fn slots_of(
+    alloc: Global,
+    fleet: &Fleet,
+    served: Option<List<u32>>,
+) -> Result<Vec<u32>, AllocError>
+    ensures { IfOk result (λ v. v.items ≡ slots_of fleet.now served) }
+{
+    match served {
+        Some(slots) => Ok(slots.into_vec()),
+        None => {
+            let mut slots = Vec::new(alloc);
+            slots.resize(fleet.known().len(), 0)?;
+            Ok(slots)
+        }
+    }
 }
 
 /// The fleet of the parts, or their first fault.

@@ -1,10 +1,10 @@
 //! Histories as JSON.
-ghost use Rattle.std.specs.Prelude.{◌≡◌, Some, IfOk, false};
-ghost use Rattle.std.specs.List.{list_any};
+ghost use Rattle.std.specs.Prelude.{◌≡◌, ◌==◌, ℕ, Some, IfOk, false};
+ghost use Rattle.std.specs.List.{list_all, list_any};
 ghost use Rattle.serde_json.specs.View.{view};
 ghost use Rattle.json_values.specs.Texts.{is_line_feed};
 ghost use Rattle.price_certificate.specs.Document.{document_data};
-ghost use Rattle.core_history.specs.History.{ReadsBack, certificate_in, certificate_of, history_data, history_in, history_object, history_said, history_text, kept_of, parts_in};
+ghost use Rattle.core_history.specs.History.{ReadsBack, certificate_in, certificate_of, history_data, history_in, history_object, history_said, history_text, kept_of, parts_in, served_object};
 
 use crate::fleet_parts::fleet_value;
 use allocation_core::Core;
@@ -43,7 +43,37 @@ fn parts_value(alloc: Global, core: &Core) -> Result<Value, AllocError>
     let certificate = certificate_value(alloc, core)?;
     let fleet = fleet_value(alloc, core.fleet())?;
     let round = core.round().write(alloc)?;
-    object_of(alloc, allocation, certificate, fleet, round)
+    if is_nothing_served(core.slots()) {
+        return object_of(alloc, allocation, certificate, fleet, round);
+    }
+    let served = array_of(alloc, core.slots())?;
+    served_object_of(alloc, allocation, certificate, fleet, round, served)
+}
+
+/// Whether no list has a target.
+fn is_nothing_served(slots: &[u32]) -> bool
+    ensures { result ≡ list_all (λ (collector : ℕ). collector == 0) slots.now }
+{
+    slots.iter().all(|collector| *collector == 0)
+}
+
+fn served_object_of(
+    alloc: Global,
+    allocation: Value,
+    certificate: Value,
+    fleet: Value,
+    round: Value,
+    served: Value,
+) -> Result<Value, AllocError>
+    ensures { IfOk result (λ v. view v ≡ served_object (view allocation) (view certificate) (view fleet) (view round) (view served)) }
+{
+    json!(in alloc; {
+        "allocation": allocation,
+        "certificate": certificate,
+        "fleet": fleet,
+        "round": round,
+        "served": served
+    })
 }
 
 fn object_of(

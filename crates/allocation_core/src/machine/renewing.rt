@@ -1,8 +1,8 @@
 //! A new list of jobs, under which what is needed goes on.
-ghost use Rattle.std.specs.Prelude.{◌≡◌, ◌+◌, ◌<◌, ◌≤◌, [], length, None, IfErr, IfOk, OnOk};
+ghost use Rattle.std.specs.Prelude.{◌≡◌, ◌+◌, ◌<◌, ◌≤◌, ℕ, All, [], length, None, IfErr, IfOk, OnOk};
 ghost use Rattle.handover.specs.Handover.{carried_over};
 ghost use Rattle.fleet.specs.IsFleet.{IsFleet};
-ghost use Rattle.fleet_renewal.specs.Renewed.{carried, fleet_refusal, renewed_fleet};
+ghost use Rattle.fleet_renewal.specs.Renewed.{carried, fleet_refusal, renewed_fleet, renewed_slots};
 ghost use Rattle.allocation_core.specs.State.{current_pairs};
 ghost use Rattle.allocation_core.specs.Renewed.{IsWhyNot, renewal_refusal, renewed, rounds_left};
 
@@ -13,11 +13,12 @@ use fleet::{Fleet, JobSpec};
 use fleet_renewal::{RenewError, fleet_refusal, renew_fleet};
 use handover::Holders;
 use scrape_books::Books;
+use served_lists::ServedLists;
 use std::alloc::AllocError;
 
 impl Core {
     /// The allocator under a new list of jobs. What nobody needs is forgotten: targets of jobs that went, targets that are
-    /// neither live nor held, older allocations, who took which, and booked reports. The rest goes on, the targets numbered anew
+    /// neither live nor held nor in a list that was served last, older allocations, who took which, and booked reports. The rest goes on, the targets numbered anew
     /// from 0 in their old order. Where it is refused the core comes back as it was.
     #[tactic(auto, unfolding(crate::specs::Renewed::renewed))]
     pub fn renew(self, jobs: Vec<JobSpec>) -> Result<Core, NotRenewed>
@@ -30,7 +31,7 @@ impl Core {
             return Err(NotRenewed { core: self, why });
         }
         match self.carried(jobs) {
-            Ok((fleet, holders)) => Ok(self.with_fleet(fleet, holders)),
+            Ok((fleet, holders, served)) => Ok(self.with_fleet(fleet, holders, served)),
             Err(_) => Err(NotRenewed {
                 core: self,
                 why: RenewalError::Memory,
@@ -59,29 +60,34 @@ impl Core {
         None
     }
 
-    /// The fleet that goes on, and the allocation that is carried over.
-    fn carried(&self, jobs: Vec<JobSpec>) -> Result<(Fleet, Holders), AllocError>
-        ensures fleet { IfOk result (λ r. r.0 ≡ renewed_fleet self.now.fleet (current_pairs self.now) jobs.items) }
-        ensures holders { IfOk result (λ r. r.1 ≡ carried_over (carried self.now.fleet (current_pairs self.now) jobs.items)) }
+    /// The fleet that goes on, the allocation that is carried over, and the lists that still have their targets.
+    fn carried(&self, jobs: Vec<JobSpec>) -> Result<(Fleet, Holders, ServedLists), AllocError>
+        ensures fleet { IfOk result (λ r. r.0 ≡ renewed_fleet self.now.fleet (current_pairs self.now) self.now.served.slots jobs.items) }
+        ensures holders { IfOk result (λ r. r.1 ≡ carried_over (carried self.now.fleet (current_pairs self.now) self.now.served.slots jobs.items)) }
+        ensures served { IfOk result (λ r. r.2 ≡ record { slots = renewed_slots self.now.fleet (current_pairs self.now) self.now.served.slots jobs.items; numbers = [] }) }
+        ensures fit { IfOk result (λ r. length r.2.slots ≡ length r.0.known) }
         ensures kept { IfOk result (λ r. IsFleet r.0) }
         ensures granted { OnOk result (fleet_refusal self.now.fleet jobs.items ≡ None) }
     {
         let pairs = self.holders.current_pairs();
-        match renew_fleet(self.alloc, &self.fleet, jobs, pairs) {
+        match renew_fleet(self.alloc, &self.fleet, jobs, pairs, self.served.slots()) {
             Ok(renewed) => {
                 let holders = Holders::carried_over(self.alloc, renewed.pairs)?;
-                Ok((renewed.fleet, holders))
+                let served = ServedLists::carried_over(self.alloc, renewed.slots);
+                Ok((renewed.fleet, holders, served))
             }
             Err(_) => Err(AllocError),
         }
     }
 
     /// The core with these in place of its own, in the next round, with nothing booked.
-    fn with_fleet(self, fleet: Fleet, holders: Holders) -> Core
+    fn with_fleet(self, fleet: Fleet, holders: Holders, served: ServedLists) -> Core
         requires kept { IsFleet fleet }
+        requires few_slots { length served.slots ≤ length fleet.known }
+        requires given_slots { All (λ (collector : ℕ). collector ≤ fleet.last_collector) served.slots }
         requires few { length holders.published ≤ 1 }
         requires left { self.round < LAST_ROUND }
-        ensures { result ≡ record self { fleet = fleet; published = holders.published; taken = holders.taken; round = self.round + 1; booked = [] } }
+        ensures { result ≡ record self { fleet = fleet; published = holders.published; taken = holders.taken; served = served; round = self.round + 1; booked = [] } }
     {
         Core {
             alloc: self.alloc,
@@ -89,6 +95,7 @@ impl Core {
             holders,
             instance: self.instance,
             plan: self.plan,
+            served,
             round: self.round + 1,
             books: Books::open(self.alloc),
         }

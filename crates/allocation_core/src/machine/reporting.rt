@@ -1,9 +1,9 @@
 //! Reports of scrapes, each booked where nothing is against it.
 ghost use Rattle.std.specs.Prelude.{◌≡◌, None, IfOk, OnOk, OnErr};
-ghost use Rattle.allocation_core.specs.Steps.{answer_of, refusal_of, state_after, report_refusal, round_refusal};
+ghost use Rattle.allocation_core.specs.Steps.{answer_of, number_for, refusal_of, state_after, report_refusal, round_refusal, slot_refusal};
 
 use super::Core;
-use fleet_events::{Answer, Event, Refusal, Report, Round, TargetId};
+use fleet_events::{AllocationNumber, Answer, CollectorId, Event, Refusal, Report, Round, TargetId};
 use scrape_books::Entry;
 use std::alloc::AllocError;
 
@@ -38,9 +38,9 @@ impl Core {
     fn report_refusal(&self, report: Report) -> Option<Refusal>
         ensures { result ≡ report_refusal self.now report.collector report.allocation report.target report.round }
     {
-        let taken = self.holders.taken(report.collector);
-        if taken != report.allocation {
-            return Some(Refusal::NotTaken(taken));
+        let number = self.number_for(report.collector, report.target);
+        if number != report.allocation {
+            return Some(Refusal::NotTaken(number));
         }
         if report.target as usize >= self.fleet.known().len() {
             return Some(Refusal::UnknownTarget);
@@ -49,7 +49,34 @@ impl Core {
         if holder != Some(report.collector) {
             return Some(Refusal::NotHolder(holder));
         }
-        self.round_refusal(report.target, report.round)
+        self.slot_refusal(report.collector, report.target, report.round)
+    }
+
+    /// The number that a collector's report of a target names.
+    fn number_for(&self, collector: CollectorId, target: TargetId) -> AllocationNumber
+        ensures { result ≡ number_for self.now collector target }
+    {
+        let taken = self.holders.taken(collector);
+        match self.fleet.known().get(target as usize) {
+            Some(known) => self.served.number(collector, known.job).unwrap_or(taken),
+            None => taken,
+        }
+    }
+
+    /// Another collector's list has the target, or its round is against the report.
+    fn slot_refusal(
+        &self,
+        collector: CollectorId,
+        target: TargetId,
+        round: Round,
+    ) -> Option<Refusal>
+        ensures { result ≡ slot_refusal self.now collector target round }
+    {
+        let other = self.served.slot(target);
+        if other != 0 && other != collector {
+            return Some(Refusal::StillServed(other));
+        }
+        self.round_refusal(target, round)
     }
 
     /// The round is not the open one, or the target's report of it is booked.

@@ -1,5 +1,5 @@
 //! A core from what a renewal keeps, and readers of that.
-ghost use Rattle.std.specs.Prelude.{◌≡◌, ◌<◌, ◌≤◌, ℕ, AllPairs, IfOk};
+ghost use Rattle.std.specs.Prelude.{◌≡◌, ◌<◌, ◌≤◌, ℕ, All, AllPairs, IfOk, length};
 ghost use Rattle.allocation_core.specs.State.{current_pairs, restored};
 
 use super::Core;
@@ -9,22 +9,26 @@ use handover::Holders;
 use lists::List;
 use price_certificate::{Instance, Plan};
 use scrape_books::Books;
+use served_lists::ServedLists;
 use std::alloc::{AllocError, Global};
 
 impl Core {
-    /// The allocator as a renewal leaves it: these pairs are its only allocation, in order of target. Nobody has taken anything, and
-    /// nothing is booked.
+    /// The allocator as a renewal leaves it: these pairs are its only allocation, in order of target, and the slots say whose list has
+    /// which known target, 0 where none has it. Nobody has taken anything, and nothing is booked.
     pub fn restored(
         alloc: Global,
         fleet: Fleet,
         pairs: List<(TargetId, CollectorId)>,
+        slots: Vec<CollectorId>,
         round: u32,
         instance: Instance,
         plan: Plan,
     ) -> Result<Core, AllocError>
         requires ascending { AllPairs (λ (a b : ℕ × ℕ). a.0 < b.0) pairs }
         requires opened { 1 ≤ round }
-        ensures { IfOk result (λ c. c ≡ restored fleet pairs instance plan round) }
+        requires few { length slots.items ≤ length fleet.known }
+        requires given { All (λ (collector : ℕ). collector ≤ fleet.last_collector) slots.items }
+        ensures { IfOk result (λ c. c ≡ restored fleet pairs slots.items instance plan round) }
     {
         let _jobs = fleet.jobs();
         let holders = Holders::carried_over(alloc, pairs)?;
@@ -34,6 +38,7 @@ impl Core {
             holders,
             instance,
             plan,
+            served: ServedLists::carried_over(alloc, slots),
             round,
             books: Books::open(alloc),
         })
@@ -52,5 +57,14 @@ impl Core {
         ensures ascending { AllPairs (λ (a b : ℕ × ℕ). a.0 < b.0) result.now }
     {
         self.holders.current_pairs()
+    }
+
+    /// Whose list has a known target, by the target's number, 0 where none has it; past the end none has.
+    pub fn slots(&self) -> &[CollectorId]
+        ensures slots { result.now ≡ self.now.served.slots }
+        ensures few { length result.now ≤ length self.now.fleet.known }
+        ensures given { All (λ (collector : ℕ). collector ≤ self.now.fleet.last_collector) result.now }
+    {
+        self.served.slots()
     }
 }

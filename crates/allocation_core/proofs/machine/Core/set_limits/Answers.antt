@@ -15,6 +15,7 @@ invariant_of-self c =
       problem = c.self.inside.instance;
       plan = c.self.inside.plan;
       taken = c.self.inside.holders.taken;
+      served = c.self.inside.served;
       round = c.self.inside.round;
       booked = c.self.inside.books;
     } in
@@ -29,6 +30,7 @@ returns-clause-answer c =
       problem = c.self.inside.instance;
       plan = c.self.inside.plan;
       taken = c.self.inside.holders.taken;
+      served = c.self.inside.served;
       round = c.self.inside.round;
       booked = c.self.inside.books;
     } in
@@ -43,6 +45,7 @@ returns-clause-state c =
       problem = c.self.inside.instance;
       plan = c.self.inside.plan;
       taken = c.self.inside.holders.taken;
+      served = c.self.inside.served;
       round = c.self.inside.round;
       booked = c.self.inside.books;
     } in
