@@ -1,5 +1,5 @@
 -- An event as it is written has no float and few levels, so its text is known and reads back.
-use Rattle.std.proofs.Common.{◌≡◌, ◌≤◌, ℕ, List, false, [], ◌∷◌, refl, arith}
+use Rattle.std.proofs.Common.{◌≡◌, ◌≤◌, ℕ, List, Option, Some, None, false, [], ◌∷◌, refl, arith}
 use Rattle.std.proofs.Math.Nat.{max-le}
 use Rattle.std.proofs.lemmas.Bool.{or_from}
 use Rattle.serde_json.specs.Data.{depth, members_depth}
@@ -17,9 +17,9 @@ use Rattle.reach_rules.specs.declared.rule.ReachTest.{ReachTest}
 use Rattle.reach_rules.specs.declared.rule.ReachTest.TheVariants.{Any, Present, Equals}
 use Rattle.scrape_books.specs.declared.report.Outcome.{Outcome}
 use Rattle.scrape_books.specs.declared.report.Outcome.TheVariants.{Up, Down}
-use Rattle.fleet_events.specs.Writing.{event_data, join_data, report_data}
+use Rattle.fleet_events.specs.Writing.{event_data, join_data, release_data, report_data}
 use Rattle.fleet_events.specs.declared.event.Event.{Event}
-use Rattle.fleet_events.specs.declared.event.Event.TheVariants.{Discover, Join, Leave, Drain, SetLimits, Install, NextRound, Take, Report}
+use Rattle.fleet_events.specs.declared.event.Event.TheVariants.{Discover, Join, Leave, Drain, SetLimits, Install, NextRound, Take, Serve, Release, Report}
 
 -- ---- no float
 
@@ -46,6 +46,10 @@ join_no_float : (name : List ℕ) (reach : List ReachRule) (limits : LimitList) 
 join_no_float name reach [] = or_from _ _ (reach_no_float reach) refl
 join_no_float name reach (entry ∷ limits) = or_from _ _ (limits_no_float limits) (or_from _ _ (reach_no_float reach) refl)
 
+release_no_float : (collector : ℕ) (job : Option (List ℕ)) → has_float (release_data collector job) ≡ false
+release_no_float collector None = refl
+release_no_float collector (Some job) = refl
+
 report_no_float : (collector allocation target round : ℕ) (outcome : Outcome) → has_float (report_data collector allocation target round outcome) ≡ false
 report_no_float collector allocation target round (Up samples) = refl
 report_no_float collector allocation target round Down = refl
@@ -60,6 +64,8 @@ event_no_float (Install plan) =
     or_from _ _ (no_float number_data (λ n. refl) plan.bin_prices) (or_from _ _ (no_float number_data (λ n. refl) plan.item_prices) (or_from _ _ (no_float pair_data (λ q. refl) plan.pairs) refl))
 event_no_float NextRound = refl
 event_no_float (Take collector) = refl
+event_no_float (Serve collector job) = refl
+event_no_float (Release collector job) = release_no_float collector job
 event_no_float (Report report) = report_no_float report.collector report.allocation report.target report.round report.outcome
 
 -- ---- few levels
@@ -87,6 +93,10 @@ join_levels : (name : List ℕ) (reach : List ReachRule) (limits : LimitList) �
 join_levels name reach [] = omega (arith, reach_levels reach)
 join_levels name reach (entry ∷ limits) = omega (arith, reach_levels reach, limits_levels limits)
 
+release_levels : (collector : ℕ) (job : Option (List ℕ)) → depth (release_data collector job) ≤ 1
+release_levels collector None = omega arith
+release_levels collector (Some job) = omega arith
+
 report_levels : (collector allocation target round : ℕ) (outcome : Outcome) → depth (report_data collector allocation target round outcome) ≤ 1
 report_levels collector allocation target round (Up samples) = omega arith
 report_levels collector allocation target round Down = omega arith
@@ -101,4 +111,6 @@ event_levels (Install plan) =
     omega (arith, levels number_data 0 (λ n. omega arith) plan.bin_prices, levels number_data 0 (λ n. omega arith) plan.item_prices, levels pair_data 1 (λ q. omega arith) plan.pairs)
 event_levels NextRound = omega arith
 event_levels (Take collector) = omega arith
+event_levels (Serve collector job) = omega arith
+event_levels (Release collector job) = omega (arith, release_levels collector job)
 event_levels (Report report) = omega (arith, report_levels report.collector report.allocation report.target report.round report.outcome)

@@ -3,9 +3,9 @@ use Rattle.std.specs.Prelude.{ℕ, List, [], ◌∷◌, ◌++◌, Option, Some, 
 use Rattle.std.specs.Fmt.{decimal}
 use Rattle.price_certificate.specs.Lines.{fault_line}
 use Rattle.fleet_events.specs.declared.answer.Answer.{Answer}
-use Rattle.fleet_events.specs.declared.answer.Answer.TheVariants.{Discovered, Joined, Left, Draining, LimitsSet, Published, RoundOpen, Taken, Booked, Not}
+use Rattle.fleet_events.specs.declared.answer.Answer.TheVariants.{Discovered, Joined, Left, Draining, LimitsSet, Published, RoundOpen, Taken, Served, Released, Booked, Not}
 use Rattle.fleet_events.specs.declared.refusal.Refusal.{Refusal}
-use Rattle.fleet_events.specs.declared.refusal.Refusal.TheVariants.{UnknownJob, UnknownSource, TooManyLive, TooManyKnown, AlreadyJoined, TooManyCollectors, IdsSpent, UnknownCollector, AlreadyDraining, Refused, Unchanged, NumbersSpent, RoundsSpent, NotTaken, UnknownTarget, NotHolder, RoundClosed, RoundNotOpen, AlreadyBooked}
+use Rattle.fleet_events.specs.declared.refusal.Refusal.TheVariants.{UnknownJob, UnknownSource, TooManyLive, TooManyKnown, AlreadyJoined, TooManyCollectors, IdsSpent, UnknownCollector, AlreadyDraining, Refused, Unchanged, NumbersSpent, RoundsSpent, NotTaken, UnknownTarget, NotHolder, StillServed, RoundClosed, RoundNotOpen, AlreadyBooked}
 
 -- a holder's number, or none
 abbrev pub holder_line : Option ℕ → List ℕ
@@ -39,6 +39,7 @@ refusal_line RoundsSpent = codes "RoundsSpent"
 refusal_line (NotTaken number) = codes "NotTaken " ++ decimal number
 refusal_line UnknownTarget = codes "UnknownTarget"
 refusal_line (NotHolder holder) = codes "NotHolder " ++ holder_line holder
+refusal_line (StillServed collector) = codes "StillServed " ++ decimal collector
 refusal_line (RoundClosed round) = codes "RoundClosed " ++ decimal round
 refusal_line (RoundNotOpen round) = codes "RoundNotOpen " ++ decimal round
 refusal_line AlreadyBooked = codes "AlreadyBooked"
@@ -52,5 +53,8 @@ answer_line LimitsSet = codes "LimitsSet"
 answer_line (Published number) = codes "Published " ++ decimal number
 answer_line (RoundOpen round) = codes "RoundOpen " ++ decimal round
 answer_line (Taken allocation round held) = codes "Taken " ++ (decimal allocation ++ (codes " " ++ (decimal round ++ (codes " " ++ numbers_line held))))
+answer_line (Served allocation round listed left_out) =
+    codes "Served " ++ (decimal allocation ++ (codes " " ++ (decimal round ++ (codes " " ++ (numbers_line listed ++ (codes " " ++ numbers_line left_out))))))
+answer_line (Released count) = codes "Released " ++ decimal count
 answer_line Booked = codes "Booked"
 answer_line (Not refusal) = refusal_line refusal

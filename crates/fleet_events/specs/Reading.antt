@@ -14,7 +14,7 @@ use Rattle.reach_rules.specs.Spelling.{reach_in}
 use Rattle.scrape_books.specs.declared.report.Outcome.{Outcome}
 use Rattle.scrape_books.specs.declared.report.Outcome.TheVariants.{Up, Down}
 use Rattle.fleet_events.specs.declared.event.Event.{Event}
-use Rattle.fleet_events.specs.declared.event.Event.TheVariants.{Discover, Join, Leave, Drain, SetLimits, Install, NextRound, Take, Report}
+use Rattle.fleet_events.specs.declared.event.Event.TheVariants.{Discover, Join, Leave, Drain, SetLimits, Install, NextRound, Take, Serve, Release, Report}
 use Rattle.fleet_events.specs.Targets.{target_in}
 
 -- ---- discover
@@ -69,6 +69,21 @@ set_limits_in d = option_and_then (λ collector. option_map (SetLimits collector
 abbrev pub install_in : Data → Option Event
 install_in d = option_map Install (plan_in d)
 
+-- ---- serve and release
+
+-- the number of a collector, and a job's name
+unfoldable pub serve_in : Data → Option Event
+serve_in d = option_and_then (λ collector. option_map (Serve collector) (member_in as_str (codes "job") d)) (collector_in d)
+
+-- a job's name: none is named where the member is left out
+abbrev pub job_or_none : Option Data → Option (Option (List ℕ))
+job_or_none None = Some None
+job_or_none (Some d) = option_map Some (as_str d)
+
+-- the number of a collector, and the name of the job whose list it lets go, if one is named
+unfoldable pub release_in : Data → Option Event
+release_in d = option_and_then (λ collector. option_map (Release collector) (job_or_none (get (codes "job") d))) (collector_in d)
+
 -- ---- report
 
 -- a scrape that failed has no samples: they are left out, or 0
@@ -109,7 +124,8 @@ event_named name d =
     else (if bytes_eq name (codes "leave") then leave_in d else (if bytes_eq name (codes "drain") then drain_in d
     else (if bytes_eq name (codes "limits") then set_limits_in d else (if bytes_eq name (codes "install") then install_in d
     else (if bytes_eq name (codes "round") then Some NextRound else (if bytes_eq name (codes "take") then take_in d
-    else (if bytes_eq name (codes "report") then report_in d else None))))))))
+    else (if bytes_eq name (codes "serve") then serve_in d else (if bytes_eq name (codes "release") then release_in d
+    else (if bytes_eq name (codes "report") then report_in d else None))))))))))
 
 -- the event that a JSON value says
 unfoldable pub event_in : Data → Option Event

@@ -1,5 +1,5 @@
 -- The one form in which an event is written: a compact JSON object, its members in byte order of their names.
-use Rattle.std.specs.Prelude.{ℕ, List, [], ◌∷◌, true, false, codes}
+use Rattle.std.specs.Prelude.{ℕ, List, [], ◌∷◌, Option, Some, None, true, false, codes}
 use Rattle.serde_json.specs.Data.{Data, boolean, string, object, no_members, member}
 use Rattle.serde_json.specs.Written.{compact_text}
 use Rattle.json_values.specs.Spelling.{number_data, pair_data, list_data}
@@ -11,7 +11,7 @@ use Rattle.reach_rules.specs.declared.rule.ReachRule.{ReachRule}
 use Rattle.scrape_books.specs.declared.report.Outcome.{Outcome}
 use Rattle.scrape_books.specs.declared.report.Outcome.TheVariants.{Up, Down}
 use Rattle.fleet_events.specs.declared.event.Event.{Event}
-use Rattle.fleet_events.specs.declared.event.Event.TheVariants.{Discover, Join, Leave, Drain, SetLimits, Install, NextRound, Take, Report}
+use Rattle.fleet_events.specs.declared.event.Event.TheVariants.{Discover, Join, Leave, Drain, SetLimits, Install, NextRound, Take, Serve, Release, Report}
 
 abbrev pub discover_data : List ℕ → ℕ → List FinalTarget → Data
 discover_data job source targets =
@@ -58,6 +58,23 @@ install_data plan =
 abbrev pub round_data : Data
 round_data = object (member (codes "event") (string (codes "round")) no_members)
 
+abbrev pub serve_data : ℕ → List ℕ → Data
+serve_data collector job =
+    object (member (codes "collector") (number_data collector)
+    (member (codes "event") (string (codes "serve"))
+    (member (codes "job") (string job) no_members)))
+
+abbrev pub job_release_data : ℕ → List ℕ → Data
+job_release_data collector job =
+    object (member (codes "collector") (number_data collector)
+    (member (codes "event") (string (codes "release"))
+    (member (codes "job") (string job) no_members)))
+
+-- a release that names no job has no member `job`
+abbrev pub release_data : ℕ → Option (List ℕ) → Data
+release_data collector None = collector_data (codes "release") collector
+release_data collector (Some job) = job_release_data collector job
+
 -- a scrape that failed has no member `samples`
 abbrev pub report_data : ℕ → ℕ → ℕ → ℕ → Outcome → Data
 report_data collector allocation target round (Up samples) =
@@ -85,6 +102,8 @@ event_data (SetLimits collector limits) = set_limits_data collector limits
 event_data (Install plan) = install_data plan
 event_data NextRound = round_data
 event_data (Take collector) = collector_data (codes "take") collector
+event_data (Serve collector job) = serve_data collector job
+event_data (Release collector job) = release_data collector job
 event_data (Report report) = report_data report.collector report.allocation report.target report.round report.outcome
 
 abbrev pub event_text : Event → List ℕ

@@ -34,6 +34,16 @@ pub enum Answer {
         round: Round,
         held: List<TargetId>,
     },
+    /// The number of the current allocation, the open round, the targets that the list has in order of number, and those that it leaves
+    /// out since another collector's list still has them.
+    Served {
+        allocation: AllocationNumber,
+        round: Round,
+        listed: List<TargetId>,
+        left_out: List<TargetId>,
+    },
+    /// How many targets the lists had.
+    Released(u32),
     /// The report is booked.
     Booked,
     /// Nothing changed.
@@ -60,6 +70,19 @@ impl Answer {
                 round,
                 held,
             } => taken_line(alloc, *allocation, *round, held.as_slice()),
+            Answer::Served {
+                allocation,
+                round,
+                listed,
+                left_out,
+            } => served_line(
+                alloc,
+                *allocation,
+                *round,
+                listed.as_slice(),
+                left_out.as_slice(),
+            ),
+            Answer::Released(count) => format!(in alloc; "Released {count}"),
             Answer::Booked => String::from_str(alloc, "Booked"),
             Answer::Not(refusal) => refusal.line(alloc),
         }
@@ -77,6 +100,23 @@ fn taken_line(
 {
     let mut line = format!(in alloc; "Taken {allocation} {round} ")?;
     push_numbers(&mut line, held)?;
+    Ok(line)
+}
+
+/// The line of what a collector was served.
+fn served_line(
+    alloc: Global,
+    allocation: AllocationNumber,
+    round: Round,
+    listed: &[TargetId],
+    left_out: &[TargetId],
+) -> Result<String, AllocError>
+    ensures { IfOk result (λ s. string_bytes s ≡ answer_line (Answer.Served allocation round listed.now left_out.now)) }
+{
+    let mut line = format!(in alloc; "Served {allocation} {round} ")?;
+    push_numbers(&mut line, listed)?;
+    line.push_str(" ")?;
+    push_numbers(&mut line, left_out)?;
     Ok(line)
 }
 
@@ -105,6 +145,22 @@ impl Plain for Answer {
                     held,
                 })
             }
+            Answer::Served {
+                allocation,
+                round,
+                listed,
+                left_out,
+            } => {
+                let listed = listed.copy()?;
+                let left_out = left_out.copy()?;
+                Ok(Answer::Served {
+                    allocation: *allocation,
+                    round: *round,
+                    listed,
+                    left_out,
+                })
+            }
+            Answer::Released(count) => Ok(Answer::Released(*count)),
             Answer::Booked => Ok(Answer::Booked),
             Answer::Not(refusal) => Ok(Answer::Not(*refusal)),
         }
@@ -143,6 +199,26 @@ impl Plain for Answer {
             ) => {
                 *allocation == *other_allocation && *round == *other_round && held.same(other_held)
             }
+            (
+                Answer::Served {
+                    allocation,
+                    round,
+                    listed,
+                    left_out,
+                },
+                Answer::Served {
+                    allocation: other_allocation,
+                    round: other_round,
+                    listed: other_listed,
+                    left_out: other_left_out,
+                },
+            ) => {
+                *allocation == *other_allocation
+                    && *round == *other_round
+                    && listed.same(other_listed)
+                    && left_out.same(other_left_out)
+            }
+            (Answer::Released(count), Answer::Released(other_count)) => *count == *other_count,
             (Answer::Booked, Answer::Booked) => true,
             (Answer::Not(refusal), Answer::Not(other_refusal)) => *refusal == *other_refusal,
             _ => false,

@@ -37,6 +37,17 @@ pub enum Event {
     NextRound,
     /// The collector takes the current allocation.
     Take(CollectorId),
+    /// The collector is served its list of a job: what it holds of it in the current allocation, but for what another collector's list
+    /// still has.
+    Serve {
+        collector: CollectorId,
+        job: Text,
+    },
+    /// The lists that the collector was served last count as let go, that of a job where one is named.
+    Release {
+        collector: CollectorId,
+        job: Option<Text>,
+    },
     /// A collector reports what a scrape came to.
     Report(Report),
 }
@@ -83,6 +94,20 @@ impl Plain for Event {
             Event::Install(plan) => Ok(Event::Install(plan.copy()?)),
             Event::NextRound => Ok(Event::NextRound),
             Event::Take(collector) => Ok(Event::Take(*collector)),
+            Event::Serve { collector, job } => {
+                let job = job.copy()?;
+                Ok(Event::Serve {
+                    collector: *collector,
+                    job,
+                })
+            }
+            Event::Release { collector, job } => {
+                let job = job.copy()?;
+                Ok(Event::Release {
+                    collector: *collector,
+                    job,
+                })
+            }
             Event::Report(report) => Ok(Event::Report(*report)),
         }
     }
@@ -131,6 +156,20 @@ impl Plain for Event {
             (Event::Take(collector), Event::Take(other_collector)) => {
                 *collector == *other_collector
             }
+            (
+                Event::Serve { collector, job },
+                Event::Serve {
+                    collector: other_collector,
+                    job: other_job,
+                },
+            ) => *collector == *other_collector && job.same(other_job),
+            (
+                Event::Release { collector, job },
+                Event::Release {
+                    collector: other_collector,
+                    job: other_job,
+                },
+            ) => *collector == *other_collector && job.same(other_job),
             (Event::Report(report), Event::Report(other_report)) => *report == *other_report,
             _ => false,
         }

@@ -1,16 +1,16 @@
 //! Events out of JSON.
-ghost use Rattle.std.specs.Prelude.{◌≡◌, IfOk, codes, true, false};
-ghost use Rattle.serde_json.specs.Find.{get};
+ghost use Rattle.std.specs.Prelude.{◌≡◌, Some, IfOk, option_map, codes, true, false};
+ghost use Rattle.serde_json.specs.Find.{as_str, get};
 ghost use Rattle.serde_json.specs.View.{view};
 ghost use Rattle.json_values.specs.Spelling.{member_in};
-ghost use Rattle.fleet_events.specs.Reading.{targets_in, discover_in, join_in, leave_in, install_in, take_in, report_in, drain_in, limits_or_none, set_limits_in, outcome_in, outcome_by, event_named, event_in, event_of};
+ghost use Rattle.fleet_events.specs.Reading.{targets_in, discover_in, join_in, leave_in, install_in, take_in, serve_in, job_or_none, release_in, report_in, drain_in, limits_or_none, set_limits_in, outcome_in, outcome_by, event_named, event_in, event_of};
 
 use crate::event::Event;
 use crate::report::Report;
 use crate::target::read_targets;
 use json_values::{Spelled, member, number, parse};
 use label_sets::Target;
-use lists::List;
+use lists::{List, Text};
 use price_certificate::Plan;
 use reach_rules::OwnLimits;
 use scrape_books::Outcome;
@@ -49,6 +49,8 @@ fn read_named(alloc: Global, name: &str, value: &Value) -> Result<Option<Event>,
         "install" => read_install(alloc, value),
         "round" => Ok(Some(Event::NextRound)),
         "take" => read_take(alloc, value),
+        "serve" => read_serve(alloc, value),
+        "release" => read_release(alloc, value),
         "report" => read_report(alloc, value),
         _ => Ok(None),
     }
@@ -159,6 +161,51 @@ fn read_take(alloc: Global, value: &Value) -> Result<Option<Event>, AllocError>
 {
     match member(alloc, value, "collector")? {
         Some(collector) => Ok(Some(Event::Take(collector))),
+        None => Ok(None),
+    }
+}
+
+#[tactic(auto, unfolding(crate::specs::Reading::serve_in))]
+fn read_serve(alloc: Global, value: &Value) -> Result<Option<Event>, AllocError>
+    ensures { IfOk result (λ o. o ≡ serve_in (view value.now)) }
+{
+    let Some(collector) = member(alloc, value, "collector")? else {
+        return Ok(None);
+    };
+    let Some(job) = member(alloc, value, "job")? else {
+        return Ok(None);
+    };
+    Ok(Some(Event::Serve { collector, job }))
+}
+
+#[tactic(auto, unfolding(crate::specs::Reading::release_in))]
+fn read_release(alloc: Global, value: &Value) -> Result<Option<Event>, AllocError>
+    ensures { IfOk result (λ o. o ≡ release_in (view value.now)) }
+{
+    let Some(collector) = member(alloc, value, "collector")? else {
+        return Ok(None);
+    };
+    let Some(job) = read_job_or_none(alloc, value)? else {
+        return Ok(None);
+    };
+    Ok(Some(Event::Release { collector, job }))
+}
+
+/// The job whose list is let go: none is named where the member is left out.
+fn read_job_or_none(alloc: Global, value: &Value) -> Result<Option<Option<Text>>, AllocError>
+    ensures { IfOk result (λ o. o ≡ job_or_none (get (codes "job") (view value.now))) }
+{
+    match value.get("job") {
+        Some(job) => read_job(alloc, job),
+        None => Ok(Some(None)),
+    }
+}
+
+fn read_job(alloc: Global, job: &Value) -> Result<Option<Option<Text>>, AllocError>
+    ensures { IfOk result (λ o. o ≡ option_map Some (as_str (view job.now))) }
+{
+    match Text::read(alloc, job)? {
+        Some(job) => Ok(Some(Some(job))),
         None => Ok(None),
     }
 }

@@ -36,12 +36,14 @@ pub enum Refusal {
     NumbersSpent,
     /// The last round is open.
     RoundsSpent,
-    /// The collector took another allocation last: that of this number, 0 if none.
+    /// The collector took, or was served the list of the target's job of, another allocation last: that of this number, 0 if none.
     NotTaken(AllocationNumber),
     /// No known target has the number.
     UnknownTarget,
     /// In the allocation named another collector, or none, holds the target.
     NotHolder(Option<CollectorId>),
+    /// Another collector's list still has the target: that of this one.
+    StillServed(CollectorId),
     /// The round is below the open one, which is this.
     RoundClosed(Round),
     /// The round is above the open one, which is this.
@@ -72,6 +74,7 @@ impl Refusal {
             Refusal::NotTaken(number) => format!(in alloc; "NotTaken {number}"),
             Refusal::UnknownTarget => String::from_str(alloc, "UnknownTarget"),
             Refusal::NotHolder(holder) => holder_line(alloc, *holder),
+            Refusal::StillServed(collector) => format!(in alloc; "StillServed {collector}"),
             Refusal::RoundClosed(open) => format!(in alloc; "RoundClosed {open}"),
             Refusal::RoundNotOpen(open) => format!(in alloc; "RoundNotOpen {open}"),
             Refusal::AlreadyBooked => String::from_str(alloc, "AlreadyBooked"),

@@ -1,5 +1,5 @@
 //! Events as JSON texts.
-ghost use Rattle.std.specs.Prelude.{◌≡◌, [], Some, false, IfOk, codes};
+ghost use Rattle.std.specs.Prelude.{◌≡◌, [], Some, None, false, IfOk, codes};
 ghost use Rattle.std.specs.List.{list_any};
 ghost use Rattle.serde_json.specs.View.{view, items_view};
 ghost use Rattle.json_values.specs.Spelling.{all_in, items_data};
@@ -7,7 +7,7 @@ ghost use Rattle.json_values.specs.Texts.{is_line_feed};
 ghost use Rattle.label_sets.specs.Target.{target_data};
 ghost use Rattle.fleet_events.specs.Targets.{target_in};
 ghost use Rattle.fleet_events.specs.Reading.{event_in, event_of, reported};
-ghost use Rattle.fleet_events.specs.Writing.{discover_data, unlimited_join_data, limited_join_data, join_data, collector_data, set_limits_data, install_data, round_data, report_data, event_data, event_text};
+ghost use Rattle.fleet_events.specs.Writing.{discover_data, unlimited_join_data, limited_join_data, join_data, collector_data, set_limits_data, install_data, round_data, serve_data, job_release_data, release_data, report_data, event_data, event_text};
 
 use crate::event::Event;
 use crate::ids::CollectorId;
@@ -53,6 +53,8 @@ impl Event {
             Event::Install(plan) => install_value(alloc, plan),
             Event::NextRound => round_value(alloc),
             Event::Take(collector) => take_value(alloc, *collector),
+            Event::Serve { collector, job } => serve_value(alloc, *collector, job),
+            Event::Release { collector, job } => release_value(alloc, *collector, job),
             Event::Report(report) => report_value(alloc, *report),
         }
     }
@@ -193,6 +195,46 @@ fn take_value(alloc: Global, collector: CollectorId) -> Result<Value, AllocError
     ensures reads_back { IfOk result (λ v. event_in (view v) ≡ Some (Event.Take collector)) }
 {
     json!(in alloc; {"collector": collector, "event": "take"})
+}
+
+#[tactic(auto, unfolding(crate::specs::Reading::event_in, crate::specs::Reading::serve_in))]
+fn serve_value(alloc: Global, collector: CollectorId, job: &Text) -> Result<Value, AllocError>
+    ensures form { IfOk result (λ v. view v ≡ serve_data collector job.now) }
+    ensures reads_back { IfOk result (λ v. event_in (view v) ≡ Some (Event.Serve collector job.now)) }
+{
+    let job = job.as_str();
+    json!(in alloc; {"collector": collector, "event": "serve", "job": job})
+}
+
+fn release_value(
+    alloc: Global,
+    collector: CollectorId,
+    job: &Option<Text>,
+) -> Result<Value, AllocError>
+    ensures form { IfOk result (λ v. view v ≡ release_data collector job.now) }
+    ensures reads_back { IfOk result (λ v. event_in (view v) ≡ Some (Event.Release collector job.now)) }
+{
+    match job {
+        Some(job) => job_release_value(alloc, collector, job),
+        None => whole_release_value(alloc, collector),
+    }
+}
+
+#[tactic(auto, unfolding(crate::specs::Reading::event_in, crate::specs::Reading::release_in))]
+fn job_release_value(alloc: Global, collector: CollectorId, job: &Text) -> Result<Value, AllocError>
+    ensures form { IfOk result (λ v. view v ≡ job_release_data collector job.now) }
+    ensures reads_back { IfOk result (λ v. event_in (view v) ≡ Some (Event.Release collector (Some job.now))) }
+{
+    let job = job.as_str();
+    json!(in alloc; {"collector": collector, "event": "release", "job": job})
+}
+
+#[tactic(auto, unfolding(crate::specs::Reading::event_in, crate::specs::Reading::release_in))]
+fn whole_release_value(alloc: Global, collector: CollectorId) -> Result<Value, AllocError>
+    ensures form { IfOk result (λ v. view v ≡ collector_data (codes "release") collector) }
+    ensures reads_back { IfOk result (λ v. event_in (view v) ≡ Some (Event.Release collector None)) }
+{
+    json!(in alloc; {"collector": collector, "event": "release"})
 }
 
 fn report_value(alloc: Global, report: Report) -> Result<Value, AllocError>
