@@ -36,10 +36,10 @@ joined_by fleet number q r false was e = none_some r e
 pub carries : (fleet : FleetState) (number : ℕ → Option ℕ) (q r : ℕ × ℕ) → carried_pair fleet number q ≡ Some r → Carries fleet number q r
 carries fleet number q r e = joined_by fleet number q r (is_joined fleet q.1) refl e
 
-pub carried_ascend : (fleet : FleetState) (pairs : List (ℕ × ℕ)) (jobs : List JobSpec) → AllPairs (λ (a b : ℕ × ℕ). a.0 < b.0) pairs → AllPairs (λ (a b : ℕ × ℕ). a.0 < b.0) (carried fleet pairs jobs)
+pub carried_ascend : (fleet : FleetState) (pairs : List (ℕ × ℕ)) (slots : List ℕ) (jobs : List JobSpec) → AllPairs (λ (a b : ℕ × ℕ). a.0 < b.0) pairs → AllPairs (λ (a b : ℕ × ℕ). a.0 < b.0) (carried fleet pairs slots jobs)
 unfolding carried
-carried_ascend fleet pairs jobs ascending =
-    let stays = survives fleet pairs jobs in
+carried_ascend fleet pairs slots jobs ascending =
+    let stays = survives fleet pairs slots jobs in
     kept_pairs (λ (a b : ℕ × ℕ). a.0 < b.0) (carried_pair fleet (new_number stays)) pairs
     (λ i j q r y z less here there is that.
     (let a = carries fleet (new_number stays) q y is in
@@ -50,49 +50,49 @@ carried_ascend fleet pairs jobs ascending =
     omega (arith, order, m.counts, n.counts)))
 
 -- the same, of a list that is the carried one
-pub ascends : (fleet : FleetState) (pairs others : List (ℕ × ℕ)) (jobs : List JobSpec) → others ≡ carried fleet pairs jobs → AllPairs (λ (a b : ℕ × ℕ). a.0 < b.0) pairs → AllPairs (λ (a b : ℕ × ℕ). a.0 < b.0) others
-ascends fleet pairs others jobs is ascending = subst (λ (ps : List (ℕ × ℕ)). AllPairs (λ (a b : ℕ × ℕ). a.0 < b.0) ps) (sym is) (carried_ascend fleet pairs jobs ascending)
+pub ascends : (fleet : FleetState) (pairs others : List (ℕ × ℕ)) (slots : List ℕ) (jobs : List JobSpec) → others ≡ carried fleet pairs slots jobs → AllPairs (λ (a b : ℕ × ℕ). a.0 < b.0) pairs → AllPairs (λ (a b : ℕ × ℕ). a.0 < b.0) others
+ascends fleet pairs others slots jobs is ascending = subst (λ (ps : List (ℕ × ℕ)). AllPairs (λ (a b : ℕ × ℕ). a.0 < b.0) ps) (sym is) (carried_ascend fleet pairs slots jobs ascending)
 
 -- ---- tables
 
-past_by : (fleet : FleetState) (pairs : List (ℕ × ℕ)) (jobs : List JobSpec) (n : ℕ) (b : Bool) → length fleet.known ≤ n → survives fleet pairs jobs n ≡ b → b ≡ false
-past_by fleet pairs jobs n true past e = absurd (omega (arith, survivor_within fleet pairs jobs n e, past))
-past_by fleet pairs jobs n false past e = refl
+past_by : (fleet : FleetState) (pairs : List (ℕ × ℕ)) (slots : List ℕ) (jobs : List JobSpec) (n : ℕ) (b : Bool) → length fleet.known ≤ n → survives fleet pairs slots jobs n ≡ b → b ≡ false
+past_by fleet pairs slots jobs n true past e = absurd (omega (arith, survivor_within fleet pairs slots jobs n e, past))
+past_by fleet pairs slots jobs n false past e = refl
 
 -- nothing past the known targets goes on
-past_known : (fleet : FleetState) (pairs : List (ℕ × ℕ)) (jobs : List JobSpec) (n : ℕ) → length fleet.known ≤ n → survives fleet pairs jobs n ≡ false
-past_known fleet pairs jobs n past = past_by fleet pairs jobs n (survives fleet pairs jobs n) past refl
+past_known : (fleet : FleetState) (pairs : List (ℕ × ℕ)) (slots : List ℕ) (jobs : List JobSpec) (n : ℕ) → length fleet.known ≤ n → survives fleet pairs slots jobs n ≡ false
+past_known fleet pairs slots jobs n past = past_by fleet pairs slots jobs n (survives fleet pairs slots jobs n) past refl
 
 number_alike : (p q : ℕ → Bool) (n : ℕ) → ((k : ℕ) → k < suc n → p k ≡ q k) → new_number p n ≡ new_number q n
 number_alike p q n same = λ i. (let o : Option ℕ = cond (same n (omega arith) i) (Some (count_alike p q n (λ k l. same k (omega arith)) i)) None in o)
 
 pub numbers_are :
-    (fleet : FleetState) (pairs : List (ℕ × ℕ)) (jobs : List JobSpec) (marks : List Bool) (numbers : List (Option ℕ)) → length marks ≡ length fleet.known → AreMarks (survives fleet pairs jobs) marks → AreNumbers marks numbers
-    → (n : ℕ) → number_in numbers n ≡ new_number (survives fleet pairs jobs) n
-numbers_are fleet pairs jobs marks numbers each are table n = elim (cases_lt n (length marks)) [
-  | inl l ↦ table.at n l ∙ number_alike (mark_at marks) (survives fleet pairs jobs) n (λ k less. are.at k (omega (arith, l, less)))
-  | inr g ↦ get_or_past numbers n None (omega (arith, table.each, g)) ∙ ap (λ (b : Bool). (let o : Option ℕ = cond b (Some (count_below (survives fleet pairs jobs) n)) None in o)) (sym (past_known fleet pairs jobs n (omega (arith, each, g))))
+    (fleet : FleetState) (pairs : List (ℕ × ℕ)) (slots : List ℕ) (jobs : List JobSpec) (marks : List Bool) (numbers : List (Option ℕ)) → length marks ≡ length fleet.known → AreMarks (survives fleet pairs slots jobs) marks → AreNumbers marks numbers
+    → (n : ℕ) → number_in numbers n ≡ new_number (survives fleet pairs slots jobs) n
+numbers_are fleet pairs slots jobs marks numbers each are table n = elim (cases_lt n (length marks)) [
+  | inl l ↦ table.at n l ∙ number_alike (mark_at marks) (survives fleet pairs slots jobs) n (λ k less. are.at k (omega (arith, l, less)))
+  | inr g ↦ get_or_past numbers n None (omega (arith, table.each, g)) ∙ ap (λ (b : Bool). (let o : Option ℕ = cond b (Some (count_below (survives fleet pairs slots jobs) n)) None in o)) (sym (past_known fleet pairs slots jobs n (omega (arith, each, g))))
 ]
 
 pub known_are :
-    (fleet : FleetState) (pairs : List (ℕ × ℕ)) (jobs : List JobSpec) (marks : List Bool) → length marks ≡ length fleet.known → AreMarks (survives fleet pairs jobs) marks
-    → renewed_known fleet.known (new_places fleet.jobs jobs) (mark_at marks) ≡ renewed_known fleet.known (new_places fleet.jobs jobs) (survives fleet pairs jobs)
-known_are fleet pairs jobs marks each are = ap (filter_map (moved_at fleet.known (new_places fleet.jobs jobs))) (chosen_alike (mark_at marks) (survives fleet pairs jobs) (length fleet.known) (λ k l. are.at k (omega (arith, each, l))))
+    (fleet : FleetState) (pairs : List (ℕ × ℕ)) (slots : List ℕ) (jobs : List JobSpec) (marks : List Bool) → length marks ≡ length fleet.known → AreMarks (survives fleet pairs slots jobs) marks
+    → renewed_known fleet.known (new_places fleet.jobs jobs) (mark_at marks) ≡ renewed_known fleet.known (new_places fleet.jobs jobs) (survives fleet pairs slots jobs)
+known_are fleet pairs slots jobs marks each are = ap (filter_map (moved_at fleet.known (new_places fleet.jobs jobs))) (chosen_alike (mark_at marks) (survives fleet pairs slots jobs) (length fleet.known) (λ k l. are.at k (omega (arith, each, l))))
 
 pub renewed_is :
-    (fleet : FleetState) (pairs : List (ℕ × ℕ)) (jobs : List JobSpec) (places numbers : List (Option ℕ)) (marks : List Bool) (listed : List (List (List ℕ))) (known : List KnownTarget) (collectors : List Collector) (last : ℕ)
-    → places ≡ new_places fleet.jobs jobs → length marks ≡ length fleet.known → AreMarks (survives fleet pairs jobs) marks → AreNumbers marks numbers → listed ≡ renewed_lists fleet (number_in numbers) jobs
+    (fleet : FleetState) (pairs : List (ℕ × ℕ)) (slots : List ℕ) (jobs : List JobSpec) (places numbers : List (Option ℕ)) (marks : List Bool) (listed : List (List (List ℕ))) (known : List KnownTarget) (collectors : List Collector) (last : ℕ)
+    → places ≡ new_places fleet.jobs jobs → length marks ≡ length fleet.known → AreMarks (survives fleet pairs slots jobs) marks → AreNumbers marks numbers → listed ≡ renewed_lists fleet (number_in numbers) jobs
     → known ≡ renewed_known fleet.known places (mark_at marks) → collectors ≡ map (renewed_collector jobs) fleet.collectors → last ≡ fleet.last_collector
-    → (let f : FleetState = record { jobs = jobs; listed = listed; known = known; collectors = collectors; last_collector = last } in f) ≡ renewed_fleet fleet pairs jobs
+    → (let f : FleetState = record { jobs = jobs; listed = listed; known = known; collectors = collectors; last_collector = last } in f) ≡ renewed_fleet fleet pairs slots jobs
 unfolding renewed_fleet
-renewed_is fleet pairs jobs places numbers marks listed known collectors last are_places each are table lists targets who id =
-    let new_lists = lists ∙ ap (λ (number : ℕ → Option ℕ). renewed_lists fleet number jobs) (λ i n. numbers_are fleet pairs jobs marks numbers each are table n i) in
-    let new_known = targets ∙ ap (λ (ps : List (Option ℕ)). renewed_known fleet.known ps (mark_at marks)) are_places ∙ known_are fleet pairs jobs marks each are in
+renewed_is fleet pairs slots jobs places numbers marks listed known collectors last are_places each are table lists targets who id =
+    let new_lists = lists ∙ ap (λ (number : ℕ → Option ℕ). renewed_lists fleet number jobs) (λ i n. numbers_are fleet pairs slots jobs marks numbers each are table n i) in
+    let new_known = targets ∙ ap (λ (ps : List (Option ℕ)). renewed_known fleet.known ps (mark_at marks)) are_places ∙ known_are fleet pairs slots jobs marks each are in
     λ i. record { jobs = jobs; listed = new_lists i; known = new_known i; collectors = who i; last_collector = id i }
 
 pub carried_is :
-    (fleet : FleetState) (pairs others : List (ℕ × ℕ)) (jobs : List JobSpec) (numbers : List (Option ℕ)) (marks : List Bool) → length marks ≡ length fleet.known → AreMarks (survives fleet pairs jobs) marks → AreNumbers marks numbers
-    → others ≡ filter_map (carried_pair fleet (number_in numbers)) pairs → others ≡ carried fleet pairs jobs
+    (fleet : FleetState) (pairs others : List (ℕ × ℕ)) (slots : List ℕ) (jobs : List JobSpec) (numbers : List (Option ℕ)) (marks : List Bool) → length marks ≡ length fleet.known → AreMarks (survives fleet pairs slots jobs) marks → AreNumbers marks numbers
+    → others ≡ filter_map (carried_pair fleet (number_in numbers)) pairs → others ≡ carried fleet pairs slots jobs
 unfolding carried
-carried_is fleet pairs others jobs numbers marks each are table is =
-    is ∙ ap (λ (number : ℕ → Option ℕ). filter_map (carried_pair fleet number) pairs) (λ i n. numbers_are fleet pairs jobs marks numbers each are table n i)
+carried_is fleet pairs others slots jobs numbers marks each are table is =
+    is ∙ ap (λ (number : ℕ → Option ℕ). filter_map (carried_pair fleet number) pairs) (λ i n. numbers_are fleet pairs slots jobs marks numbers each are table n i)

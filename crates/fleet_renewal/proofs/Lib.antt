@@ -8,3 +8,4 @@ pub mod ListedLemmas
 pub mod ListingLemmas
 pub mod Moving
 pub mod RenewedKept
+pub mod SlotLemmas

@@ -49,25 +49,25 @@ placed_by known places n (Some k) was e = (let found = there_by places k (place_
 pub moved_there : (known : List KnownTarget) (places : List (Option ℕ)) (n : ℕ) → has_place known places n ≡ true → (y : KnownTarget) × (moved_at known places n ≡ Some y)
 moved_there known places n e = placed_by known places n (slice_get known n) refl e
 
-pub survivor_moved : (fleet : FleetState) (pairs : List (ℕ × ℕ)) (jobs : List JobSpec) (n : ℕ) → survives fleet pairs jobs n ≡ true → (y : KnownTarget) × (moved_at fleet.known (new_places fleet.jobs jobs) n ≡ Some y)
-survivor_moved fleet pairs jobs n e = moved_there fleet.known (new_places fleet.jobs jobs) n (and_parts _ _ e).0
+pub survivor_moved : (fleet : FleetState) (pairs : List (ℕ × ℕ)) (slots : List ℕ) (jobs : List JobSpec) (n : ℕ) → survives fleet pairs slots jobs n ≡ true → (y : KnownTarget) × (moved_at fleet.known (new_places fleet.jobs jobs) n ≡ Some y)
+survivor_moved fleet pairs slots jobs n e = moved_there fleet.known (new_places fleet.jobs jobs) n (and_parts _ _ e).0
 
-pub survivor_within : (fleet : FleetState) (pairs : List (ℕ × ℕ)) (jobs : List JobSpec) (n : ℕ) → survives fleet pairs jobs n ≡ true → n < length fleet.known
-survivor_within fleet pairs jobs n e =
-    let found = survivor_moved fleet pairs jobs n e in
+pub survivor_within : (fleet : FleetState) (pairs : List (ℕ × ℕ)) (slots : List ℕ) (jobs : List JobSpec) (n : ℕ) → survives fleet pairs slots jobs n ≡ true → n < length fleet.known
+survivor_within fleet pairs slots jobs n e =
+    let found = survivor_moved fleet pairs slots jobs n e in
     let m = moved_from fleet.known (new_places fleet.jobs jobs) n found.0 found.1 in
     slice_get_within fleet.known n m.before m.was
 
-abbrev pub known_after : FleetState → List (ℕ × ℕ) → List JobSpec → List KnownTarget
-known_after fleet pairs jobs = renewed_known fleet.known (new_places fleet.jobs jobs) (survives fleet pairs jobs)
+abbrev pub known_after : FleetState → List (ℕ × ℕ) → List ℕ → List JobSpec → List KnownTarget
+known_after fleet pairs slots jobs = renewed_known fleet.known (new_places fleet.jobs jobs) (survives fleet pairs slots jobs)
 
-pub known_count : (fleet : FleetState) (pairs : List (ℕ × ℕ)) (jobs : List JobSpec) → length (known_after fleet pairs jobs) ≡ count_below (survives fleet pairs jobs) (length fleet.known)
-known_count fleet pairs jobs = made_count (survives fleet pairs jobs) (moved_at fleet.known (new_places fleet.jobs jobs)) (length fleet.known) (λ k l e. survivor_moved fleet pairs jobs k e)
+pub known_count : (fleet : FleetState) (pairs : List (ℕ × ℕ)) (slots : List ℕ) (jobs : List JobSpec) → length (known_after fleet pairs slots jobs) ≡ count_below (survives fleet pairs slots jobs) (length fleet.known)
+known_count fleet pairs slots jobs = made_count (survives fleet pairs slots jobs) (moved_at fleet.known (new_places fleet.jobs jobs)) (length fleet.known) (λ k l e. survivor_moved fleet pairs slots jobs k e)
 
 pub known_at :
-    (fleet : FleetState) (pairs : List (ℕ × ℕ)) (jobs : List JobSpec) (n : ℕ) → survives fleet pairs jobs n ≡ true → slice_get (known_after fleet pairs jobs) (count_below (survives fleet pairs jobs) n) ≡ moved_at fleet.known (new_places fleet.jobs jobs) n
-known_at fleet pairs jobs n e =
-    made_at (survives fleet pairs jobs) (moved_at fleet.known (new_places fleet.jobs jobs)) (length fleet.known) (λ k l h. survivor_moved fleet pairs jobs k h) n (survivor_within fleet pairs jobs n e) e
+    (fleet : FleetState) (pairs : List (ℕ × ℕ)) (slots : List ℕ) (jobs : List JobSpec) (n : ℕ) → survives fleet pairs slots jobs n ≡ true → slice_get (known_after fleet pairs slots jobs) (count_below (survives fleet pairs slots jobs) n) ≡ moved_at fleet.known (new_places fleet.jobs jobs) n
+known_at fleet pairs slots jobs n e =
+    made_at (survives fleet pairs slots jobs) (moved_at fleet.known (new_places fleet.jobs jobs)) (length fleet.known) (λ k l h. survivor_moved fleet pairs slots jobs k h) n (survivor_within fleet pairs slots jobs n e) e
 
 -- ---- no two are the same
 

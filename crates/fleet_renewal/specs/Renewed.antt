@@ -1,5 +1,5 @@
 -- The fleet that goes on under a new list of jobs: what nobody needs is forgotten, the rest is numbered anew in its old order.
-use Rattle.std.specs.Prelude.{◌≡◌, ℕ, nat_lt, ◌*◌, ◌-◌, ◌==◌, ◌&&◌, ◌||◌, Bool, false, if◌then◌else◌, List, [], ◌++◌, length, map, filter, take, replicate, Option, Some, None, is_some, option_and_then, slice_get, slice_index_or}
+use Rattle.std.specs.Prelude.{◌≡◌, ℕ, nat_lt, ◌*◌, ◌-◌, ◌==◌, ◌&&◌, ◌||◌, not, Bool, false, if◌then◌else◌, List, [], ◌++◌, length, map, filter, take, replicate, Option, Some, None, is_some, option_and_then, slice_get, slice_index_or}
 use Rattle.std.specs.List.{filter_map, list_any}
 use Rattle.std.specs.Option.{option_map, option_map_or}
 use Rattle.reach_rules.specs.OwnLimits.{LimitList}
@@ -10,6 +10,7 @@ use Rattle.fleet.specs.declared.job.JobSpec.{JobSpec}
 use Rattle.fleet.specs.declared.known_target.KnownTarget.{KnownTarget}
 use Rattle.fleet.specs.declared.collector.Collector.{Collector}
 use Rattle.fleet.specs.declared.limits.TheConstants.{MOST_BINS}
+use Rattle.served_lists.specs.Served.{slot_of}
 use Rattle.fleet_renewal.specs.declared.error.RenewError.{RenewError}
 use Rattle.fleet_renewal.specs.declared.error.RenewError.TheVariants.{BadJobs, Memory, TooManyBins}
 
@@ -37,9 +38,13 @@ has_place known places target = option_map_or (λ (k : KnownTarget). is_some (pl
 abbrev pub is_held : FleetState → List (ℕ × ℕ) → ℕ → Bool
 is_held fleet pairs target = list_any (λ (q : ℕ × ℕ). (q.0 == target) && is_joined fleet q.1) pairs
 
--- A known target goes on where its job stands in the new list, and it is live or held by a live collector.
-abbrev pub survives : FleetState → List (ℕ × ℕ) → List JobSpec → ℕ → Bool
-survives fleet pairs jobs target = has_place fleet.known (new_places fleet.jobs jobs) target && (is_live fleet target || is_held fleet pairs target)
+-- a list that was served has the target
+abbrev pub is_served : List ℕ → ℕ → Bool
+is_served slots target = not (slot_of slots target == 0)
+
+-- A known target goes on where its job stands in the new list, and it is live, held by a live collector or in a list that was served.
+abbrev pub survives : FleetState → List (ℕ × ℕ) → List ℕ → List JobSpec → ℕ → Bool
+survives fleet pairs slots jobs target = has_place fleet.known (new_places fleet.jobs jobs) target && (is_live fleet target || is_held fleet pairs target || is_served slots target)
 
 -- the new number of a target that goes on: how many before it do
 abbrev pub new_number : (ℕ → Bool) → ℕ → Option ℕ
@@ -83,17 +88,21 @@ renewed_collector jobs c = record c { limits = limits_for jobs c.limits }
 abbrev pub carried_pair : FleetState → (ℕ → Option ℕ) → ℕ × ℕ → Option (ℕ × ℕ)
 carried_pair fleet number q = if is_joined fleet q.1 then option_map (λ (n : ℕ). (n, q.1)) (number q.0) else None
 
--- the fleet after a renewal, where these pairs are the current allocation
-unfoldable pub renewed_fleet : FleetState → List (ℕ × ℕ) → List JobSpec → FleetState
-renewed_fleet fleet pairs jobs =
+-- the fleet after a renewal, where these pairs are the current allocation and these slots those of the lists that were served
+unfoldable pub renewed_fleet : FleetState → List (ℕ × ℕ) → List ℕ → List JobSpec → FleetState
+renewed_fleet fleet pairs slots jobs =
     record {
       jobs = jobs;
-      listed = renewed_lists fleet (new_number (survives fleet pairs jobs)) jobs;
-      known = renewed_known fleet.known (new_places fleet.jobs jobs) (survives fleet pairs jobs);
+      listed = renewed_lists fleet (new_number (survives fleet pairs slots jobs)) jobs;
+      known = renewed_known fleet.known (new_places fleet.jobs jobs) (survives fleet pairs slots jobs);
       collectors = map (renewed_collector jobs) fleet.collectors;
       last_collector = fleet.last_collector;
     }
 
 -- the pairs that are carried over
-unfoldable pub carried : FleetState → List (ℕ × ℕ) → List JobSpec → List (ℕ × ℕ)
-carried fleet pairs jobs = filter_map (carried_pair fleet (new_number (survives fleet pairs jobs))) pairs
+unfoldable pub carried : FleetState → List (ℕ × ℕ) → List ℕ → List JobSpec → List (ℕ × ℕ)
+carried fleet pairs slots jobs = filter_map (carried_pair fleet (new_number (survives fleet pairs slots jobs))) pairs
+
+-- the slots that are carried over: those of the targets that go on, in their old order, one for each
+unfoldable pub renewed_slots : FleetState → List (ℕ × ℕ) → List ℕ → List JobSpec → List ℕ
+renewed_slots fleet pairs slots jobs = map (slot_of slots) (chosen_below (survives fleet pairs slots jobs) (length fleet.known))

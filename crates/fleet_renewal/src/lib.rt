@@ -1,7 +1,8 @@
 //! The fleet that goes on under a new list of jobs.
 //!
-//! What nobody needs is forgotten: targets of jobs that went, and those that are neither live nor held. The rest is numbered anew
-//! in its old order, and the current allocation is carried over in the new numbers.
+//! What nobody needs is forgotten: targets of jobs that went, and those that are neither live nor held nor in a list that was
+//! served. The rest is numbered anew in its old order, and the current allocation and the slots are carried over in the new
+//! numbers.
 #![tactic(auto)]
 
 mod collectors;
@@ -10,6 +11,7 @@ mod known;
 mod listing;
 mod pairs;
 mod renewing;
+mod slots;
 mod survivors;
 
 pub use error::RenewError;

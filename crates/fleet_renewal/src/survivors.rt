@@ -2,9 +2,10 @@
 ghost use Rattle.std.specs.Prelude.{◌≡◌, ◌≤◌, ◌==◌, ◌&&◌, ℕ, length, IfOk};
 ghost use Rattle.fleet.specs.Fleet.{is_joined};
 ghost use Rattle.fleet.specs.Live.{AddsMarks, AreMarks};
-ghost use Rattle.fleet_renewal.specs.Renewed.{has_place, is_held, new_places, place_at, survives};
+ghost use Rattle.fleet_renewal.specs.Renewed.{has_place, is_held, is_served, new_places, place_at, survives};
 ghost use Rattle.fleet_renewal.specs.Tables.{AreNumbers, KeepsMarks};
 
+use crate::slots::slot_of;
 use fleet::{Fleet, JobSpec, KnownTarget, MOST_KNOWN_TARGETS, job_named};
 use std::alloc::{AllocError, Global};
 
@@ -39,13 +40,15 @@ pub(crate) fn survivors(
     jobs: &[JobSpec],
     places: &[Option<usize>],
     pairs: &[(u32, u32)],
+    slots: &[u32],
 ) -> Result<Vec<bool>, AllocError>
     requires { places.now ≡ new_places fleet.now.jobs jobs.now }
     ensures each { IfOk result (λ v. length v.items ≡ length fleet.now.known) }
-    ensures marks { IfOk result (λ v. AreMarks (survives fleet.now pairs.now jobs.now) v.items) }
+    ensures marks { IfOk result (λ v. AreMarks (survives fleet.now pairs.now slots.now jobs.now) v.items) }
 {
     let mut marks = fleet.live_marks()?;
     mark_held(marks.as_mut_slice(), fleet, pairs);
+    mark_served(marks.as_mut_slice(), slots);
     keep_placed(marks.as_mut_slice(), fleet.known(), places);
     Ok(marks)
 }
@@ -66,6 +69,17 @@ fn mark_pair(marks: &mut [bool], fleet: &Fleet, pair: (u32, u32))
     let number = pair.0 as usize;
     if fleet.is_joined(pair.1) && number < marks.len() {
         marks[number] = true;
+    }
+}
+
+/// Marks the targets that a list has.
+fn mark_served(marks: &mut [bool], slots: &[u32])
+    ensures { AddsMarks (is_served slots.now) marks.old marks.new }
+{
+    for number in 0..marks.len() {
+        if slot_of(slots, number) != 0 {
+            marks[number] = true;
+        }
     }
 }
 
