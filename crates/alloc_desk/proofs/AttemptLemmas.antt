@@ -9,8 +9,8 @@ use Rattle.allocation_core.specs.Answers.{is_install_answer}
 use Rattle.fleet_events.specs.declared.event.Event.{Event}
 use Rattle.fleet_events.specs.declared.event.Event.TheVariants.{Install}
 use Rattle.fleet_events.specs.declared.answer.Answer.{Answer}
-use Rattle.fleet_events.specs.declared.answer.Answer.TheVariants.{Discovered, Joined, Left, Draining, LimitsSet, Published, RoundOpen, Taken, Booked, Not}
-use Rattle.fleet_events.specs.declared.refusal.Refusal.TheVariants.{UnknownJob, UnknownSource, TooManyLive, TooManyKnown, AlreadyJoined, TooManyCollectors, IdsSpent, UnknownCollector, AlreadyDraining, Refused, Unchanged, NumbersSpent, RoundsSpent, NotTaken, UnknownTarget, NotHolder, RoundClosed, RoundNotOpen, AlreadyBooked}
+use Rattle.fleet_events.specs.declared.answer.Answer.TheVariants.{Discovered, Joined, Left, Draining, LimitsSet, Published, RoundOpen, Taken, Served, Released, Booked, Not}
+use Rattle.fleet_events.specs.declared.refusal.Refusal.TheVariants.{UnknownJob, UnknownSource, TooManyLive, TooManyKnown, AlreadyJoined, TooManyCollectors, IdsSpent, UnknownCollector, AlreadyDraining, Refused, Unchanged, NumbersSpent, RoundsSpent, NotTaken, UnknownTarget, NotHolder, StillServed, RoundClosed, RoundNotOpen, AlreadyBooked}
 use Rattle.alloc_desk.specs.declared.entry.Entry.{Entry}
 use Rattle.alloc_desk.specs.declared.receipt.Receipt.{Receipt}
 use Rattle.alloc_desk.specs.Attempts.{attempted_by}
@@ -52,6 +52,7 @@ came_to opening counts instance plan (Not RoundsSpent) searched certified h e = 
 came_to opening counts instance plan (Not (NotTaken number)) searched certified h e = absurd (true≢false (sym h))
 came_to opening counts instance plan (Not UnknownTarget) searched certified h e = absurd (true≢false (sym h))
 came_to opening counts instance plan (Not (NotHolder holder)) searched certified h e = absurd (true≢false (sym h))
+came_to opening counts instance plan (Not (StillServed other)) searched certified h e = absurd (true≢false (sym h))
 came_to opening counts instance plan (Not (RoundClosed round)) searched certified h e = absurd (true≢false (sym h))
 came_to opening counts instance plan (Not (RoundNotOpen round)) searched certified h e = absurd (true≢false (sym h))
 came_to opening counts instance plan (Not AlreadyBooked) searched certified h e = absurd (true≢false (sym h))
@@ -62,4 +63,6 @@ came_to opening counts instance plan Draining searched certified h e = absurd (t
 came_to opening counts instance plan LimitsSet searched certified h e = absurd (true≢false (sym h))
 came_to opening counts instance plan (RoundOpen round) searched certified h e = absurd (true≢false (sym h))
 came_to opening counts instance plan (Taken number round held) searched certified h e = absurd (true≢false (sym h))
+came_to opening counts instance plan (Served number round listed left_out) searched certified h e = absurd (true≢false (sym h))
+came_to opening counts instance plan (Released count) searched certified h e = absurd (true≢false (sym h))
 came_to opening counts instance plan Booked searched certified h e = absurd (true≢false (sym h))

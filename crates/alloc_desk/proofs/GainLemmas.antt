@@ -4,9 +4,9 @@ use Rattle.std.specs.Prelude.{Bool, true, false, if◌then◌else◌}
 use Rattle.std.proofs.lemmas.List.Sums.{sum_by-append}
 use Rattle.allocation_core.specs.Steps.{gained}
 use Rattle.fleet_events.specs.declared.event.Event.{Event}
-use Rattle.fleet_events.specs.declared.event.Event.TheVariants.{Discover, Join, Leave, Drain, SetLimits, Install, NextRound, Take, Report}
+use Rattle.fleet_events.specs.declared.event.Event.TheVariants.{Discover, Join, Leave, Drain, SetLimits, Install, NextRound, Take, Serve, Release, Report}
 use Rattle.fleet_events.specs.declared.answer.Answer.{Answer}
-use Rattle.fleet_events.specs.declared.answer.Answer.TheVariants.{Discovered, Joined, Left, Draining, LimitsSet, Published, RoundOpen, Taken, Booked, Not}
+use Rattle.fleet_events.specs.declared.answer.Answer.TheVariants.{Discovered, Joined, Left, Draining, LimitsSet, Published, RoundOpen, Taken, Served, Released, Booked, Not}
 use Rattle.alloc_desk.specs.declared.entry.Entry.{Entry}
 use Rattle.alloc_desk.specs.Gains.{offered, is_booked}
 use Rattle.alloc_desk.specs.History.{gained_in}
@@ -25,6 +25,8 @@ gained_by (Report report) LimitsSet = refl
 gained_by (Report report) (Published number) = refl
 gained_by (Report report) (RoundOpen round) = refl
 gained_by (Report report) (Taken number round held) = refl
+gained_by (Report report) (Served number round listed left_out) = refl
+gained_by (Report report) (Released count) = refl
 gained_by (Report report) (Not refusal) = refl
 gained_by (Discover job source targets) answer = either_way 0 (is_booked answer)
 gained_by (Join name reach limits) answer = either_way 0 (is_booked answer)
@@ -34,6 +36,8 @@ gained_by (SetLimits id limits) answer = either_way 0 (is_booked answer)
 gained_by (Install plan) answer = either_way 0 (is_booked answer)
 gained_by NextRound answer = either_way 0 (is_booked answer)
 gained_by (Take id) answer = either_way 0 (is_booked answer)
+gained_by (Serve id name) answer = either_way 0 (is_booked answer)
+gained_by (Release id name) answer = either_way 0 (is_booked answer)
 
 pub gained_in_push : (es : List Entry) (e : Entry) → gained_in (es ++ e ∷ []) ≡ gained_in es + gained e.event e.answer
 gained_in_push es e =

@@ -111,7 +111,7 @@ impl Record {
         let Ok(copy) = event.copy() else {
             return Err(EnterError::Memory);
         };
-        let Ok(spare) = spare_of(&self.core, &event) else {
+        let Ok(spare) = spare_of(*self.journal.allocator(), &self.core, &event) else {
             return Err(EnterError::Memory);
         };
         let Ok(answer) = self.core.apply(event) else {

@@ -2,22 +2,30 @@
 ghost use Rattle.std.specs.Prelude.{◌≡◌, IfOk};
 ghost use Rattle.alloc_desk.specs.Spare.{IsSpareOf, IsSpareFor};
 
-use allocation_core::{Answer, Core, Event, TargetId};
+use allocation_core::{Answer, Core, Event, ServedList};
 use lists::List;
-use std::alloc::AllocError;
+use std::alloc::{AllocError, Global};
 
-/// The list that a copy of the event's answer will have, where it may have one.
-pub(crate) fn spare_of(core: &Core, event: &Event) -> Result<Option<List<TargetId>>, AllocError>
+/// The lists that a copy of the event's answer will have, where it may have some.
+pub(crate) fn spare_of(
+    alloc: Global,
+    core: &Core,
+    event: &Event,
+) -> Result<Option<ServedList>, AllocError>
     ensures { IfOk result (IsSpareOf core.now event.now) }
 {
     match event {
-        Event::Take(collector) => Ok(Some(core.held(*collector)?)),
+        Event::Take(collector) => Ok(Some(ServedList {
+            listed: core.held(*collector)?,
+            left_out: List::new(alloc),
+        })),
+        Event::Serve { collector, job } => Ok(Some(core.list(*collector, job.as_str())?)),
         _ => Ok(None),
     }
 }
 
-/// A copy of an answer, with the spare list for its own.
-pub(crate) fn copy_with(answer: &Answer, spare: Option<List<TargetId>>) -> Answer
+/// A copy of an answer, with the spare lists for its own.
+pub(crate) fn copy_with(answer: &Answer, spare: Option<ServedList>) -> Answer
     requires { IsSpareFor answer.now spare }
     ensures { result ≡ answer.now }
 {
@@ -37,13 +45,28 @@ pub(crate) fn copy_with(answer: &Answer, spare: Option<List<TargetId>>) -> Answe
             round,
             held: _,
         } => match spare {
-            Some(held) => Answer::Taken {
+            Some(lists) => Answer::Taken {
                 allocation: *allocation,
                 round: *round,
-                held,
+                held: lists.listed,
             },
             None => unreachable!(),
         },
+        Answer::Served {
+            allocation,
+            round,
+            listed: _,
+            left_out: _,
+        } => match spare {
+            Some(lists) => Answer::Served {
+                allocation: *allocation,
+                round: *round,
+                listed: lists.listed,
+                left_out: lists.left_out,
+            },
+            None => unreachable!(),
+        },
+        Answer::Released(count) => Answer::Released(*count),
         Answer::Booked => Answer::Booked,
         Answer::Not(refusal) => Answer::Not(*refusal),
     }

@@ -22,3 +22,4 @@ pub use limits::LAST_ROUND;
 pub use machine::Core;
 pub use renewal::{NotRenewed, RenewalError};
 pub use runs::{Stopped, run};
+pub use served_lists::ServedList;

@@ -15,9 +15,9 @@ use Rattle.reach_rules.specs.OwnLimits.{LimitList}
 use Rattle.reach_rules.specs.declared.rule.ReachRule.{ReachRule}
 use Rattle.scrape_books.specs.declared.report.Outcome.{Outcome}
 use Rattle.scrape_books.specs.declared.report.Outcome.TheVariants.{Up, Down}
-use Rattle.fleet_events.specs.Writing.{event_data, event_text, join_data, report_data}
+use Rattle.fleet_events.specs.Writing.{event_data, event_text, join_data, release_data, report_data}
 use Rattle.fleet_events.specs.declared.event.Event.{Event}
-use Rattle.fleet_events.specs.declared.event.Event.TheVariants.{Discover, Join, Leave, Drain, SetLimits, Install, NextRound, Take, Report}
+use Rattle.fleet_events.specs.declared.event.Event.TheVariants.{Discover, Join, Leave, Drain, SetLimits, Install, NextRound, Take, Serve, Release, Report}
 use Rattle.durable_journal.specs.Events.{events_text}
 use Rattle.sealed_lines.specs.Lines.{HasNoFeed, with_line}
 use Rattle.durable_journal.specs.Lines.{whole_part}
@@ -130,6 +130,10 @@ report_agrees : (collector allocation target round : ℕ) (outcome : Outcome) (f
 report_agrees collector allocation target round (Up samples) front lost rest e = collector_first (report_data collector allocation target round (Up samples)) front lost rest e
 report_agrees collector allocation target round Down front lost rest e = collector_first (report_data collector allocation target round Down) front lost rest e
 
+release_agrees : (collector : ℕ) (job : Option (List ℕ)) (front lost rest : List ℕ) → front ++ lost ≡ compact_text (release_data collector job) ++ rest → agrees_with_event front ≡ true
+release_agrees collector None front lost rest e = collector_first (release_data collector None) front lost rest e
+release_agrees collector (Some job) front lost rest e = collector_first (release_data collector (Some job)) front lost rest e
+
 pub event_agrees : (event : Event) (front lost rest : List ℕ) → front ++ lost ≡ event_text event ++ rest → agrees_with_event front ≡ true
 event_agrees (Discover job source targets) front lost rest e = event_first (event_data (Discover job source targets)) front lost rest e
 event_agrees (Join name reach limits) front lost rest e = join_agrees name reach limits front lost rest e
@@ -139,6 +143,8 @@ event_agrees (SetLimits collector limits) front lost rest e = collector_first (e
 event_agrees (Install plan) front lost rest e = bin_prices_first (event_data (Install plan)) front lost rest e
 event_agrees NextRound front lost rest e = event_first (event_data NextRound) front lost rest e
 event_agrees (Take collector) front lost rest e = collector_first (event_data (Take collector)) front lost rest e
+event_agrees (Serve collector job) front lost rest e = collector_first (event_data (Serve collector job)) front lost rest e
+event_agrees (Release collector job) front lost rest e = release_agrees collector job front lost rest e
 event_agrees (Report report) front lost rest e = report_agrees report.collector report.allocation report.target report.round report.outcome front lost rest e
 
 drop_both : (xs ys zs : List ℕ) → drop (length (xs ++ ys)) (xs ++ zs) ≡ drop (length ys) zs

@@ -7,9 +7,9 @@ use Rattle.allocation_core.specs.State.{State}
 use Rattle.allocation_core.specs.Runs.{answers_of, state_of}
 use Rattle.allocation_core.specs.Steps.{answer_by, answer_of, changed, granted, refusal_of, state_after}
 use Rattle.fleet_events.specs.declared.answer.Answer.{Answer}
-use Rattle.fleet_events.specs.declared.answer.Answer.TheVariants.{Discovered, Joined, Left, Draining, LimitsSet, Published, RoundOpen, Taken, Booked, Not}
+use Rattle.fleet_events.specs.declared.answer.Answer.TheVariants.{Discovered, Joined, Left, Draining, LimitsSet, Published, RoundOpen, Taken, Served, Released, Booked, Not}
 use Rattle.fleet_events.specs.declared.event.Event.{Event}
-use Rattle.fleet_events.specs.declared.event.Event.TheVariants.{Discover, Join, Leave, Drain, SetLimits, Install, NextRound, Take, Report}
+use Rattle.fleet_events.specs.declared.event.Event.TheVariants.{Discover, Join, Leave, Drain, SetLimits, Install, NextRound, Take, Serve, Release, Report}
 use Rattle.fleet_events.specs.declared.refusal.Refusal.{Refusal}
 use Rattle.durable_journal.specs.Kept.{LeaveOutRefused, is_kept, kept_in}
 
@@ -23,6 +23,8 @@ refused_by None m (SetLimits id limits) refusal e = cc
 refused_by None m (Install plan) refusal e = cc
 refused_by None m NextRound refusal e = cc
 refused_by None m (Take id) refusal e = cc
+refused_by None m (Serve id name) refusal e = cc
+refused_by None m (Release id name) refusal e = cc
 refused_by None m (Report report) refusal e = cc
 
 pub unchanged : (m : State) (event : Event) (refusal : Refusal) → answer_of m event ≡ Not refusal → state_after m event ≡ m
@@ -38,6 +40,8 @@ kept_or_not LimitsSet m event events e = refl
 kept_or_not (Published number) m event events e = refl
 kept_or_not (RoundOpen round) m event events e = refl
 kept_or_not (Taken allocation round held) m event events e = refl
+kept_or_not (Served allocation round listed left_out) m event events e = refl
+kept_or_not (Released count) m event events e = refl
 kept_or_not Booked m event events e = refl
 kept_or_not (Not refusal) m event events e = ap (λ (s : State). state_of s events) (sym (unchanged m event refusal (sym e)))
 

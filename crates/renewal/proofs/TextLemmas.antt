@@ -20,7 +20,7 @@ use Rattle.fleet.specs.declared.known_target.KnownTarget.{KnownTarget}
 use Rattle.fleet_events.specs.declared.answer.Answer.{Answer}
 use Rattle.fleet_events.specs.declared.answer.Answer.TheVariants.{Booked, Not}
 use Rattle.fleet_events.specs.declared.event.Event.{Event}
-use Rattle.fleet_events.specs.declared.event.Event.TheVariants.{Discover, Join, Leave, Drain, SetLimits, Install, NextRound, Take, Report}
+use Rattle.fleet_events.specs.declared.event.Event.TheVariants.{Discover, Join, Leave, Drain, SetLimits, Install, NextRound, Take, Serve, Release, Report}
 use Rattle.fleet_events.specs.declared.refusal.Refusal.{Refusal}
 use Rattle.fleet_events.specs.declared.refusal.Refusal.TheVariants.{NotTaken, UnknownCollector, UnknownTarget}
 use Rattle.handover.specs.Handover.{holder_in, taken_by}
@@ -81,6 +81,8 @@ changed_known m (SetLimits id limits) = omega arith
 changed_known m (Install plan) = omega arith
 changed_known m NextRound = omega arith
 changed_known m (Take id) = omega arith
+changed_known m (Serve id name) = omega arith
+changed_known m (Release id name) = omega arith
 changed_known m (Report report) = omega arith
 
 step_by : (m n : State) (o : Option Refusal) → length m.fleet.known ≤ length n.fleet.known → length m.fleet.known ≤ length (if is_some o then m else n).fleet.known

@@ -31,12 +31,13 @@ pub(crate) const STATUSES: [u16; 15] = [
 ];
 
 /// The kinds of events by the names of their JSON.
-pub(crate) const KINDS: [&str; 9] = [
-    "discover", "join", "leave", "drain", "limits", "install", "round", "take", "report",
+pub(crate) const KINDS: [&str; 11] = [
+    "discover", "join", "leave", "drain", "limits", "install", "round", "take", "serve", "release",
+    "report",
 ];
 
 /// The names of answers: first those of events that were done, and then those of refusals.
-pub(crate) const ANSWERS: [&str; 28] = [
+pub(crate) const ANSWERS: [&str; 31] = [
     "Discovered",
     "Joined",
     "Left",
@@ -45,6 +46,8 @@ pub(crate) const ANSWERS: [&str; 28] = [
     "Published",
     "RoundOpen",
     "Taken",
+    "Served",
+    "Released",
     "Booked",
     "UnknownJob",
     "UnknownSource",
@@ -62,13 +65,14 @@ pub(crate) const ANSWERS: [&str; 28] = [
     "NotTaken",
     "UnknownTarget",
     "NotHolder",
+    "StillServed",
     "RoundClosed",
     "RoundNotOpen",
     "AlreadyBooked",
 ];
 
 /// How many of the answers are of events that were done.
-const DONE: usize = 9;
+const DONE: usize = 11;
 
 /// A route as requests are counted, or that there is none.
 #[derive(Clone, Copy, Debug, PartialEq, Eq)]
@@ -99,6 +103,8 @@ pub enum EventKind {
     Install,
     NextRound,
     Take,
+    Serve,
+    Release,
     Report,
 }
 
@@ -113,6 +119,8 @@ impl EventKind {
             Event::Install(_) => EventKind::Install,
             Event::NextRound => EventKind::NextRound,
             Event::Take(_) => EventKind::Take,
+            Event::Serve { .. } => EventKind::Serve,
+            Event::Release { .. } => EventKind::Release,
             Event::Report(_) => EventKind::Report,
         }
     }
@@ -136,7 +144,9 @@ impl EventKind {
             EventKind::Install => 5,
             EventKind::NextRound => 6,
             EventKind::Take => 7,
-            EventKind::Report => 8,
+            EventKind::Serve => 8,
+            EventKind::Release => 9,
+            EventKind::Report => 10,
         }
     }
 }
@@ -147,14 +157,14 @@ pub(crate) struct Counts {
     /// Of requests that were answered, at the places of their routes and statuses.
     pub(crate) requests: [[u64; 15]; 19],
     /// Of events, at the places of their kinds and answers.
-    pub(crate) events: [[u64; 28]; 9],
+    pub(crate) events: [[u64; 31]; 11],
 }
 
 impl Counts {
     pub(crate) fn new() -> Counts {
         Counts {
             requests: [[0; 15]; 19],
-            events: [[0; 28]; 9],
+            events: [[0; 31]; 11],
         }
     }
 
@@ -230,7 +240,9 @@ fn answer_place(answer: &Answer) -> usize {
         Answer::Published(_) => 5,
         Answer::RoundOpen(_) => 6,
         Answer::Taken { .. } => 7,
-        Answer::Booked => 8,
+        Answer::Served { .. } => 8,
+        Answer::Released(_) => 9,
+        Answer::Booked => 10,
         Answer::Not(refusal) => refusal_place(refusal).saturating_add(DONE),
     }
 }
@@ -254,8 +266,9 @@ fn refusal_place(refusal: &Refusal) -> usize {
         Refusal::NotTaken(_) => 13,
         Refusal::UnknownTarget => 14,
         Refusal::NotHolder(_) => 15,
-        Refusal::RoundClosed(_) => 16,
-        Refusal::RoundNotOpen(_) => 17,
-        Refusal::AlreadyBooked => 18,
+        Refusal::StillServed(_) => 16,
+        Refusal::RoundClosed(_) => 17,
+        Refusal::RoundNotOpen(_) => 18,
+        Refusal::AlreadyBooked => 19,
     }
 }

@@ -133,11 +133,19 @@ fn roll_of(alloc: Global, record: &Record, known: usize) -> Result<Roll, AllocEr
 fn takers_in(alloc: Global, entries: &[Entry]) -> Result<Vec<CollectorId>, AllocError> {
     let mut takers = Vec::new(alloc);
     for entry in entries {
-        if let Event::Take(collector) = &entry.event {
-            takers.push(*collector)?;
+        if let Some(collector) = taker_in(&entry.event) {
+            takers.push(collector)?;
         }
     }
     Ok(takers)
+}
+
+/// Who took, or was served, a list by an event.
+fn taker_in(event: &Event) -> Option<CollectorId> {
+    match event {
+        Event::Take(collector) | Event::Serve { collector, job: _ } => Some(*collector),
+        _ => None,
+    }
 }
 
 /// What is entered of a collector that took nothing for so long.

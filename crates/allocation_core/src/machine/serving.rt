@@ -50,6 +50,29 @@ impl Core {
             .serve(self.fleet.known(), id, job, number, held.as_slice())
     }
 
+    /// What a collector's list of a job would have if it were served now, and what it would leave out; nothing where there is no such job.
+    pub fn list(&self, id: CollectorId, name: &str) -> Result<ServedList, AllocError>
+        ensures listed { IfOk result (λ l. l.listed ≡ list_at self.now id (place_of self.now name.now)) }
+        ensures left_out { IfOk result (λ l. l.left_out ≡ left_out_at self.now id (place_of self.now name.now)) }
+    {
+        match self.place_of(name) {
+            Some(job) => self.list_of(id, job),
+            None => Ok(ServedList {
+                listed: List::new(self.alloc),
+                left_out: List::new(self.alloc),
+            }),
+        }
+    }
+
+    fn list_of(&self, id: CollectorId, job: usize) -> Result<ServedList, AllocError>
+        ensures listed { IfOk result (λ l. l.listed ≡ list_at self.now id (Some job)) }
+        ensures left_out { IfOk result (λ l. l.left_out ≡ left_out_at self.now id (Some job)) }
+    {
+        let held = self.held_live(id)?;
+        self.served
+            .list(self.fleet.known(), id, job, held.as_slice())
+    }
+
     /// What a live collector holds; nothing where it has left.
     fn held_live(&self, id: CollectorId) -> Result<List<TargetId>, AllocError>
         ensures { IfOk result (λ l. l ≡ held_live self.now id) }
