@@ -63,10 +63,10 @@ once_from_apart (q ∷ pairs) apart target =
       | inr d ↦ omega (arith, more, nought (eqb q.0 target) (ne_eqb q.0 target d), once_from_apart pairs (apart_tail q pairs apart) target)
     ]
 
-pub carried_apart : (fleet : FleetState) (pairs : List (ℕ × ℕ)) (jobs : List JobSpec) → AreApart pairs → AreApart (carried fleet pairs jobs)
+pub carried_apart : (fleet : FleetState) (pairs : List (ℕ × ℕ)) (slots : List ℕ) (jobs : List JobSpec) → AreApart pairs → AreApart (carried fleet pairs slots jobs)
 unfolding carried
-carried_apart fleet pairs jobs apart =
-    let stays = survives fleet pairs jobs in
+carried_apart fleet pairs slots jobs apart =
+    let stays = survives fleet pairs slots jobs in
     kept_pairs (λ (a b : ℕ × ℕ). a.0 ≡ b.0 → ⊥) (carried_pair fleet (new_number stays)) pairs
     (λ i j q r y z less here there is that same.
     (let a = carries fleet (new_number stays) q y is in
@@ -75,5 +75,5 @@ carried_apart fleet pairs jobs apart =
     let n = numbered stays r.0 z.0 b.target in
     pairs_at (λ (a b : ℕ × ℕ). a.0 ≡ b.0 → ⊥) pairs i j q r apart less here there (count_apart stays q.0 r.0 m.passes n.passes (m.counts ∙ same ∙ sym n.counts))))
 
-pub carried_once : (fleet : FleetState) (pairs : List (ℕ × ℕ)) (jobs : List JobSpec) → IsOnce pairs → IsOnce (carried fleet pairs jobs)
-carried_once fleet pairs jobs once = once_from_apart (carried fleet pairs jobs) (carried_apart fleet pairs jobs (apart_from_once pairs once))
+pub carried_once : (fleet : FleetState) (pairs : List (ℕ × ℕ)) (slots : List ℕ) (jobs : List JobSpec) → IsOnce pairs → IsOnce (carried fleet pairs slots jobs)
+carried_once fleet pairs slots jobs once = once_from_apart (carried fleet pairs slots jobs) (carried_apart fleet pairs slots jobs (apart_from_once pairs once))

@@ -18,7 +18,7 @@ use Rattle.fleet.specs.declared.collector.Collector.{Collector}
 use Rattle.fleet.specs.declared.job.JobSpec.{JobSpec}
 use Rattle.fleet.specs.declared.known_target.KnownTarget.{KnownTarget}
 use Rattle.fleet_assignment.specs.Beside.{beside}
-use Rattle.fleet_renewal.specs.Renewed.{carried, carried_pair, has_place, is_held, new_number, new_places, place_at, renewed_collector, renewed_fleet, renewed_lists, survives}
+use Rattle.fleet_renewal.specs.Renewed.{carried, carried_pair, has_place, is_held, is_served, new_number, new_places, place_at, renewed_collector, renewed_fleet, renewed_lists, survives}
 use Rattle.fleet_renewal.proofs.CarriedLemmas.{carries}
 use Rattle.fleet_renewal.proofs.Counting.{count_apart, numbered, numbers_here}
 use Rattle.fleet_renewal.proofs.Gets.{all_at, kept_here, none_some, some_same}
@@ -30,37 +30,37 @@ use Rattle.renewal.specs.Continuity.{KeepsSources, job_name, live_holder, source
 use Rattle.renewal.proofs.Apart.{AreApart, apart_head, apart_tail}
 
 -- the target before and after
-pub record Going (fleet : FleetState) (pairs : List (ℕ × ℕ)) (jobs : List JobSpec) (target : ℕ) : Type 0 where
+pub record Going (fleet : FleetState) (pairs : List (ℕ × ℕ)) (slots : List ℕ) (jobs : List JobSpec) (target : ℕ) : Type 0 where
   pub before : KnownTarget
   pub after : KnownTarget
   pub was : slice_get fleet.known target ≡ Some before
-  pub is : slice_get (known_after fleet pairs jobs) (count_below (survives fleet pairs jobs) target) ≡ Some after
+  pub is : slice_get (known_after fleet pairs slots jobs) (count_below (survives fleet pairs slots jobs) target) ≡ Some after
   pub job : place_at (new_places fleet.jobs jobs) before.job ≡ Some after.job
   pub same : after.target ≡ before.target
 
-pub going : (fleet : FleetState) (pairs : List (ℕ × ℕ)) (jobs : List JobSpec) (target : ℕ) → survives fleet pairs jobs target ≡ true → Going fleet pairs jobs target
-going fleet pairs jobs target stays =
-    let found = survivor_moved fleet pairs jobs target stays in
+pub going : (fleet : FleetState) (pairs : List (ℕ × ℕ)) (slots : List ℕ) (jobs : List JobSpec) (target : ℕ) → survives fleet pairs slots jobs target ≡ true → Going fleet pairs slots jobs target
+going fleet pairs slots jobs target stays =
+    let found = survivor_moved fleet pairs slots jobs target stays in
     let m = moved_from fleet.known (new_places fleet.jobs jobs) target found.0 found.1 in
-    record { before = m.before; after = found.0; was = m.was; is = known_at fleet pairs jobs target stays ∙ found.1; job = m.job; same = m.target }
+    record { before = m.before; after = found.0; was = m.was; is = known_at fleet pairs slots jobs target stays ∙ found.1; job = m.job; same = m.target }
 
 pub name_at : (fleet : FleetState) (target : ℕ) (k : KnownTarget) (job : JobSpec) → slice_get fleet.known target ≡ Some k → slice_get fleet.jobs k.job ≡ Some job → job_name fleet target ≡ Some job.name
 name_at fleet target k job here there =
     ap (option_and_then (λ (k : KnownTarget). option_map (λ (job : JobSpec). job.name) (slice_get fleet.jobs k.job))) here ∙ ap (option_map (λ (job : JobSpec). job.name)) there
 
-pub same_job : (fleet : FleetState) (pairs : List (ℕ × ℕ)) (jobs : List JobSpec) (target : ℕ) → survives fleet pairs jobs target ≡ true → job_name (renewed_fleet fleet pairs jobs) (count_below (survives fleet pairs jobs) target) ≡ job_name fleet target
+pub same_job : (fleet : FleetState) (pairs : List (ℕ × ℕ)) (slots : List ℕ) (jobs : List JobSpec) (target : ℕ) → survives fleet pairs slots jobs target ≡ true → job_name (renewed_fleet fleet pairs slots jobs) (count_below (survives fleet pairs slots jobs) target) ≡ job_name fleet target
 unfolding renewed_fleet
-same_job fleet pairs jobs target stays =
-    let g = going fleet pairs jobs target stays in
+same_job fleet pairs slots jobs target stays =
+    let g = going fleet pairs slots jobs target stays in
     let p = placed fleet.jobs jobs g.before.job g.after.job g.job in
-    name_at (renewed_fleet fleet pairs jobs) (count_below (survives fleet pairs jobs) target) g.after p.after g.is p.is
+    name_at (renewed_fleet fleet pairs slots jobs) (count_below (survives fleet pairs slots jobs) target) g.after p.after g.is p.is
     ∙ ap (λ (name : List ℕ). (let o : Option (List ℕ) = Some name in o)) p.name
     ∙ sym (name_at fleet target g.before p.before g.was p.was)
 
-pub same_text : (fleet : FleetState) (pairs : List (ℕ × ℕ)) (jobs : List JobSpec) (target : ℕ) → survives fleet pairs jobs target ≡ true → text_of (renewed_fleet fleet pairs jobs) (count_below (survives fleet pairs jobs) target) ≡ text_of fleet target
+pub same_text : (fleet : FleetState) (pairs : List (ℕ × ℕ)) (slots : List ℕ) (jobs : List JobSpec) (target : ℕ) → survives fleet pairs slots jobs target ≡ true → text_of (renewed_fleet fleet pairs slots jobs) (count_below (survives fleet pairs slots jobs) target) ≡ text_of fleet target
 unfolding renewed_fleet
-same_text fleet pairs jobs target stays =
-    let g = going fleet pairs jobs target stays in
+same_text fleet pairs slots jobs target stays =
+    let g = going fleet pairs slots jobs target stays in
     ap (option_map (λ (k : KnownTarget). target_text k.target)) g.is ∙ ap (λ t. (let o : Option (List ℕ) = Some (target_text t) in o)) g.same ∙ ap (option_map (λ (k : KnownTarget). target_text k.target)) (sym g.was)
 
 -- ---- who reaches it
@@ -74,12 +74,12 @@ reach_same jobs (c ∷ collectors) known others zero n k same = same c.reach
 reach_same jobs (c ∷ collectors) known others (suc place) n k same = reach_same jobs collectors known others place n k same
 
 pub same_reach :
-    (fleet : FleetState) (pairs : List (ℕ × ℕ)) (jobs : List JobSpec) (target : ℕ) → survives fleet pairs jobs target ≡ true → (place : ℕ)
-    → reaches_at (renewed_fleet fleet pairs jobs) place (count_below (survives fleet pairs jobs) target) ≡ reaches_at fleet place target
+    (fleet : FleetState) (pairs : List (ℕ × ℕ)) (slots : List ℕ) (jobs : List JobSpec) (target : ℕ) → survives fleet pairs slots jobs target ≡ true → (place : ℕ)
+    → reaches_at (renewed_fleet fleet pairs slots jobs) place (count_below (survives fleet pairs slots jobs) target) ≡ reaches_at fleet place target
 unfolding renewed_fleet
-same_reach fleet pairs jobs target stays place =
-    let g = going fleet pairs jobs target stays in
-    reach_same jobs fleet.collectors fleet.known (known_after fleet pairs jobs) place target (count_below (survives fleet pairs jobs) target)
+same_reach fleet pairs slots jobs target stays place =
+    let g = going fleet pairs slots jobs target stays in
+    reach_same jobs fleet.collectors fleet.known (known_after fleet pairs slots jobs) place target (count_below (survives fleet pairs slots jobs) target)
     (λ rules.
     ap (λ (o : Option KnownTarget). option_map_or (λ (x : KnownTarget). reaches rules x.target) o false) g.is ∙ ap (reaches rules) g.same ∙ ap (λ (o : Option KnownTarget). option_map_or (λ (x : KnownTarget). reaches rules x.target) o false) (sym g.was))
 
@@ -134,9 +134,9 @@ beside_carried fleet stays (q ∷ pairs) target stay apart =
     ]
 
 pub same_holder :
-    (fleet : FleetState) (pairs : List (ℕ × ℕ)) (jobs : List JobSpec) (target : ℕ) → survives fleet pairs jobs target ≡ true → AreApart pairs → beside (carried fleet pairs jobs) (count_below (survives fleet pairs jobs) target) ≡ live_holder fleet pairs target
+    (fleet : FleetState) (pairs : List (ℕ × ℕ)) (slots : List ℕ) (jobs : List JobSpec) (target : ℕ) → survives fleet pairs slots jobs target ≡ true → AreApart pairs → beside (carried fleet pairs slots jobs) (count_below (survives fleet pairs slots jobs) target) ≡ live_holder fleet pairs target
 unfolding carried
-same_holder fleet pairs jobs target stays apart = beside_carried fleet (survives fleet pairs jobs) pairs target stays apart
+same_holder fleet pairs slots jobs target stays apart = beside_carried fleet (survives fleet pairs slots jobs) pairs target stays apart
 
 -- ---- whether it is live
 
@@ -151,16 +151,16 @@ in_some (x ∷ xs) zero t e = omega arith
 in_some (x ∷ xs) (suc s) t e = omega (arith, in_some xs s t e)
 
 live_goes :
-    (fleet : FleetState) (pairs : List (ℕ × ℕ)) (jobs : List JobSpec) (target : ℕ) → IsFleet fleet → are_jobs fleet.jobs ≡ true → are_jobs jobs ≡ true → survives fleet pairs jobs target ≡ true → KeepsSources fleet jobs target → is_live fleet target ≡ true
-    → is_listed (renewed_lists fleet (new_number (survives fleet pairs jobs)) jobs) (count_below (survives fleet pairs jobs) target) ≡ true
-live_goes fleet pairs jobs target kept named good stays sources live =
-    let number = new_number (survives fleet pairs jobs) in
+    (fleet : FleetState) (pairs : List (ℕ × ℕ)) (slots : List ℕ) (jobs : List JobSpec) (target : ℕ) → IsFleet fleet → are_jobs fleet.jobs ≡ true → are_jobs jobs ≡ true → survives fleet pairs slots jobs target ≡ true → KeepsSources fleet jobs target → is_live fleet target ≡ true
+    → is_listed (renewed_lists fleet (new_number (survives fleet pairs slots jobs)) jobs) (count_below (survives fleet pairs slots jobs) target) ≡ true
+live_goes fleet pairs slots jobs target kept named good stays sources live =
+    let number = new_number (survives fleet pairs slots jobs) in
     let found = listed_found fleet.listed target live in
     let j = found.0 in
     let s = found.1 in
     let at = in_found (listed_at fleet.listed j s) target found.2 in
     let home = job_of fleet.known target j (all_at (λ (t : ℕ). is_of fleet.known j t ≡ true) (listed_at fleet.listed j s) at.0 target (kept.orderly.own j s) at.1) in
-    let g = going fleet pairs jobs target stays in
+    let g = going fleet pairs slots jobs target stays in
     let same : g.before ≡ home.0 = some_same g.before home.0 (sym g.was ∙ home.1) in
     let job : g.before.job ≡ j = ap (λ (k : KnownTarget). k.job) same ∙ home.2 in
     let p = placed fleet.jobs jobs g.before.job g.after.job g.job in
@@ -174,16 +174,16 @@ live_goes fleet pairs jobs target kept named good stays sources live =
     let named_old : job_named fleet.jobs p.after.name ≡ Some j = ap (job_named fleet.jobs) p.name ∙ old ∙ ap (λ (n : ℕ). (let o : Option ℕ = Some n in o)) job in
     let lists : listed_at (renewed_lists fleet number jobs) g.after.job s ≡ filter_map number (listed_at fleet.listed j s) =
     list_is fleet number jobs g.after.job s p.after p.is within ∙ ap (λ (o : Option ℕ). filter_map number (slice_index_or (option_map_or (λ (job : ℕ). slice_index_or fleet.listed job []) o []) s [])) named_old in
-    let there = kept_here number (listed_at fleet.listed j s) at.0 target (count_below (survives fleet pairs jobs) target) at.1 (numbers_here (survives fleet pairs jobs) target stays) in
-    listed_here (renewed_lists fleet number jobs) g.after.job s (count_below (survives fleet pairs jobs) target)
-    (ap (λ (xs : List ℕ). is_in xs (count_below (survives fleet pairs jobs) target)) lists ∙ in_here (filter_map number (listed_at fleet.listed j s)) there.0 (count_below (survives fleet pairs jobs) target) there.1)
+    let there = kept_here number (listed_at fleet.listed j s) at.0 target (count_below (survives fleet pairs slots jobs) target) at.1 (numbers_here (survives fleet pairs slots jobs) target stays) in
+    listed_here (renewed_lists fleet number jobs) g.after.job s (count_below (survives fleet pairs slots jobs) target)
+    (ap (λ (xs : List ℕ). is_in xs (count_below (survives fleet pairs slots jobs) target)) lists ∙ in_here (filter_map number (listed_at fleet.listed j s)) there.0 (count_below (survives fleet pairs slots jobs) target) there.1)
 
 pub same_live :
-    (fleet : FleetState) (pairs : List (ℕ × ℕ)) (jobs : List JobSpec) (target : ℕ) → IsFleet fleet → are_jobs fleet.jobs ≡ true → are_jobs jobs ≡ true → survives fleet pairs jobs target ≡ true → KeepsSources fleet jobs target
-    → is_live (renewed_fleet fleet pairs jobs) (count_below (survives fleet pairs jobs) target) ≡ is_live fleet target
+    (fleet : FleetState) (pairs : List (ℕ × ℕ)) (slots : List ℕ) (jobs : List JobSpec) (target : ℕ) → IsFleet fleet → are_jobs fleet.jobs ≡ true → are_jobs jobs ≡ true → survives fleet pairs slots jobs target ≡ true → KeepsSources fleet jobs target
+    → is_live (renewed_fleet fleet pairs slots jobs) (count_below (survives fleet pairs slots jobs) target) ≡ is_live fleet target
 unfolding renewed_fleet
-same_live fleet pairs jobs target kept named good stays sources =
-    bool_same _ (is_live fleet target) (λ e. live_was fleet pairs jobs target stays e) (λ e. live_goes fleet pairs jobs target kept named good stays sources e)
+same_live fleet pairs slots jobs target kept named good stays sources =
+    bool_same _ (is_live fleet target) (λ e. live_was fleet pairs slots jobs target stays e) (λ e. live_goes fleet pairs slots jobs target kept named good stays sources e)
 
 -- ---- a live target of a job that stays goes on
 
@@ -212,6 +212,17 @@ either : (a b : Bool) → a ≡ true → (a || b) ≡ true
 either true b e = refl
 either false b e = cc
 
-pub live_survives : (fleet : FleetState) (pairs : List (ℕ × ℕ)) (jobs : List JobSpec) (target : ℕ) (name : List ℕ) → is_live fleet target ≡ true → job_name fleet target ≡ Some name → is_job jobs name ≡ true → survives fleet pairs jobs target ≡ true
-live_survives fleet pairs jobs target name live named is =
-    and_from (has_place fleet.known (new_places fleet.jobs jobs) target) (is_live fleet target || is_held fleet pairs target) (target_place fleet jobs target name (slice_get fleet.known target) refl named is) (either (is_live fleet target) (is_held fleet pairs target) live)
+pub live_survives : (fleet : FleetState) (pairs : List (ℕ × ℕ)) (slots : List ℕ) (jobs : List JobSpec) (target : ℕ) (name : List ℕ) → is_live fleet target ≡ true → job_name fleet target ≡ Some name → is_job jobs name ≡ true → survives fleet pairs slots jobs target ≡ true
+live_survives fleet pairs slots jobs target name live named is =
+    let needed = is_live fleet target || is_held fleet pairs target in
+    and_from (has_place fleet.known (new_places fleet.jobs jobs) target) (needed || is_served slots target) (target_place fleet jobs target name (slice_get fleet.known target) refl named is)
+    (either needed (is_served slots target) (either (is_live fleet target) (is_held fleet pairs target) live))
+
+other : (a b : Bool) → b ≡ true → (a || b) ≡ true
+other true b e = refl
+other false b e = e
+
+pub served_survives : (fleet : FleetState) (pairs : List (ℕ × ℕ)) (slots : List ℕ) (jobs : List JobSpec) (target : ℕ) (name : List ℕ) → is_served slots target ≡ true → job_name fleet target ≡ Some name → is_job jobs name ≡ true → survives fleet pairs slots jobs target ≡ true
+served_survives fleet pairs slots jobs target name served named is =
+    let needed = is_live fleet target || is_held fleet pairs target in
+    and_from (has_place fleet.known (new_places fleet.jobs jobs) target) (needed || is_served slots target) (target_place fleet jobs target name (slice_get fleet.known target) refl named is) (other needed (is_served slots target) served)

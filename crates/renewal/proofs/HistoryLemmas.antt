@@ -128,7 +128,7 @@ only_alone (q ∷ pairs) once = All-cons IsOnce (q ∷ pairs) [] once (All-nil I
 pub renewed_starts : (m : State) (jobs : List JobSpec) → IsKept m → IsOnce (current_pairs m) → are_jobs m.fleet.jobs ≡ true → renewal_refusal m jobs ≡ None → Starts (renewed m jobs)
 unfolding renewed renewed_fleet
 renewed_starts m jobs kept once named free =
-    record { kept = renewed_state_kept m jobs kept named free; alone = only_alone (carried m.fleet (current_pairs m) jobs) (carried_once m.fleet (current_pairs m) jobs once); unbooked = refl; named = (free_fleet m jobs free).good }
+    record { kept = renewed_state_kept m jobs kept named free; alone = only_alone (carried m.fleet (current_pairs m) m.served.slots jobs) (carried_once m.fleet (current_pairs m) m.served.slots jobs once); unbooked = refl; named = (free_fleet m jobs free).good }
 
 -- ---- over stretches
 

@@ -87,13 +87,13 @@ live_named fleet target kept live =
     let there : slice_get fleet.jobs home.0.job ≡ Some job = slice_get-get_or fleet.jobs home.0.job none within in
     (job.name, name_at fleet target home.0 job home.1 there, is_named fleet.jobs home.0.job job there)
 
-pub live_stays : (fleet : FleetState) (pairs : List (ℕ × ℕ)) (target : ℕ) → IsFleet fleet → is_live fleet target ≡ true → survives fleet pairs fleet.jobs target ≡ true
-live_stays fleet pairs target kept live = (let named = live_named fleet target kept live in live_survives fleet pairs fleet.jobs target named.0 live named.1 named.2)
+pub live_stays : (fleet : FleetState) (pairs : List (ℕ × ℕ)) (slots : List ℕ) (target : ℕ) → IsFleet fleet → is_live fleet target ≡ true → survives fleet pairs slots fleet.jobs target ≡ true
+live_stays fleet pairs slots target kept live = (let named = live_named fleet target kept live in live_survives fleet pairs slots fleet.jobs target named.0 live named.1 named.2)
 
 -- a target that goes on is known as before
-known_same : (fleet : FleetState) (pairs : List (ℕ × ℕ)) (target : ℕ) → are_jobs fleet.jobs ≡ true → survives fleet pairs fleet.jobs target ≡ true → slice_get (known_after fleet pairs fleet.jobs) (count_below (survives fleet pairs fleet.jobs) target) ≡ slice_get fleet.known target
-known_same fleet pairs target named stays =
-    let g = going fleet pairs fleet.jobs target stays in
+known_same : (fleet : FleetState) (pairs : List (ℕ × ℕ)) (slots : List ℕ) (target : ℕ) → are_jobs fleet.jobs ≡ true → survives fleet pairs slots fleet.jobs target ≡ true → slice_get (known_after fleet pairs slots fleet.jobs) (count_below (survives fleet pairs slots fleet.jobs) target) ≡ slice_get fleet.known target
+known_same fleet pairs slots target named stays =
+    let g = going fleet pairs slots fleet.jobs target stays in
     let p = placed fleet.jobs fleet.jobs g.before.job g.after.job g.job in
     let job : g.after.job ≡ g.before.job =
     some_same g.after.job g.before.job (sym (job_here fleet.jobs g.after.job p.after named p.is) ∙ ap (job_named fleet.jobs) p.name ∙ job_here fleet.jobs g.before.job p.before named p.was) in
@@ -153,55 +153,55 @@ holder_same fleet count target None = refl
 holder_same fleet count target (Some c) = held_by fleet count target c (is_joined fleet c) refl
 
 bin_same :
-    (fleet : FleetState) (pairs : List (ℕ × ℕ)) (count target c : ℕ) → are_jobs fleet.jobs ≡ true → survives fleet pairs fleet.jobs target ≡ true
-    → bin_in count (map (renewed_collector fleet.jobs) fleet.collectors) (known_after fleet pairs fleet.jobs) (count_below (survives fleet pairs fleet.jobs) target) c ≡ bin_in count fleet.collectors fleet.known target c
-bin_same fleet pairs count target c named stays =
-    λ i. option_and_then (λ (k : KnownTarget). option_map (λ (place : ℕ). place * count + k.job) (place_same fleet.jobs fleet.collectors c 0 i)) (known_same fleet pairs target named stays i)
+    (fleet : FleetState) (pairs : List (ℕ × ℕ)) (slots : List ℕ) (count target c : ℕ) → are_jobs fleet.jobs ≡ true → survives fleet pairs slots fleet.jobs target ≡ true
+    → bin_in count (map (renewed_collector fleet.jobs) fleet.collectors) (known_after fleet pairs slots fleet.jobs) (count_below (survives fleet pairs slots fleet.jobs) target) c ≡ bin_in count fleet.collectors fleet.known target c
+bin_same fleet pairs slots count target c named stays =
+    λ i. option_and_then (λ (k : KnownTarget). option_map (λ (place : ℕ). place * count + k.job) (place_same fleet.jobs fleet.collectors c 0 i)) (known_same fleet pairs slots target named stays i)
 
 before_same :
-    (fleet : FleetState) (pairs : List (ℕ × ℕ)) (count target : ℕ) → are_jobs fleet.jobs ≡ true → survives fleet pairs fleet.jobs target ≡ true → AreApart pairs
-    → bin_before_in count (map (renewed_collector fleet.jobs) fleet.collectors) (known_after fleet pairs fleet.jobs) (carried fleet pairs fleet.jobs) (count_below (survives fleet pairs fleet.jobs) target) ≡ bin_before_in count fleet.collectors fleet.known pairs target
-before_same fleet pairs count target named stays apart =
-    (λ i. option_and_then (λ (c : ℕ). bin_same fleet pairs count target c named stays i) (same_holder fleet pairs fleet.jobs target stays apart i))
+    (fleet : FleetState) (pairs : List (ℕ × ℕ)) (slots : List ℕ) (count target : ℕ) → are_jobs fleet.jobs ≡ true → survives fleet pairs slots fleet.jobs target ≡ true → AreApart pairs
+    → bin_before_in count (map (renewed_collector fleet.jobs) fleet.collectors) (known_after fleet pairs slots fleet.jobs) (carried fleet pairs slots fleet.jobs) (count_below (survives fleet pairs slots fleet.jobs) target) ≡ bin_before_in count fleet.collectors fleet.known pairs target
+before_same fleet pairs slots count target named stays apart =
+    (λ i. option_and_then (λ (c : ℕ). bin_same fleet pairs slots count target c named stays i) (same_holder fleet pairs slots fleet.jobs target stays apart i))
     ∙ holder_same fleet count target (beside pairs target)
 
-row_at : (fleet : FleetState) (pairs : List (ℕ × ℕ)) (count target : ℕ) → are_jobs fleet.jobs ≡ true → survives fleet pairs fleet.jobs target ≡ true → row_in count (map (renewed_collector fleet.jobs) fleet.collectors) (known_after fleet pairs fleet.jobs) (count_below (survives fleet pairs fleet.jobs) target) ≡ row_in count fleet.collectors fleet.known target
-row_at fleet pairs count target named stays =
-    λ i. option_map_or (λ (k : KnownTarget). row_same count 0 fleet.jobs fleet.collectors k i) (known_same fleet pairs target named stays i) []
+row_at : (fleet : FleetState) (pairs : List (ℕ × ℕ)) (slots : List ℕ) (count target : ℕ) → are_jobs fleet.jobs ≡ true → survives fleet pairs slots fleet.jobs target ≡ true → row_in count (map (renewed_collector fleet.jobs) fleet.collectors) (known_after fleet pairs slots fleet.jobs) (count_below (survives fleet pairs slots fleet.jobs) target) ≡ row_in count fleet.collectors fleet.known target
+row_at fleet pairs slots count target named stays =
+    λ i. option_map_or (λ (k : KnownTarget). row_same count 0 fleet.jobs fleet.collectors k i) (known_same fleet pairs slots target named stays i) []
 
 -- ---- the live targets
 
 sources_kept : (fleet : FleetState) (target : ℕ) → KeepsSources fleet fleet.jobs target
 sources_kept fleet target name e = omega arith
 
-not_live : (fleet : FleetState) (pairs : List (ℕ × ℕ)) (target : ℕ) (b : Bool) → IsFleet fleet → is_live fleet target ≡ b → survives fleet pairs fleet.jobs target ≡ false → b ≡ false
-not_live fleet pairs target true kept live stays = (let other = live_stays fleet pairs target kept live in cc)
-not_live fleet pairs target false kept live stays = refl
+not_live : (fleet : FleetState) (pairs : List (ℕ × ℕ)) (slots : List ℕ) (target : ℕ) (b : Bool) → IsFleet fleet → is_live fleet target ≡ b → survives fleet pairs slots fleet.jobs target ≡ false → b ≡ false
+not_live fleet pairs slots target true kept live stays = (let other = live_stays fleet pairs slots target kept live in cc)
+not_live fleet pairs slots target false kept live stays = refl
 
 pub live_same :
-    (fleet : FleetState) (pairs : List (ℕ × ℕ)) → IsFleet fleet → are_jobs fleet.jobs ≡ true → live_of (renewed_fleet fleet pairs fleet.jobs) ≡ map (count_below (survives fleet pairs fleet.jobs)) (live_of fleet)
+    (fleet : FleetState) (pairs : List (ℕ × ℕ)) (slots : List ℕ) → IsFleet fleet → are_jobs fleet.jobs ≡ true → live_of (renewed_fleet fleet pairs slots fleet.jobs) ≡ map (count_below (survives fleet pairs slots fleet.jobs)) (live_of fleet)
 unfolding renewed_fleet
-live_same fleet pairs kept named =
-    let stays = survives fleet pairs fleet.jobs in
-    let live = is_live (renewed_fleet fleet pairs fleet.jobs) in
-    ap (chosen_below live) (known_count fleet pairs fleet.jobs)
-    ∙ chosen_map live (is_live fleet) stays (length fleet.known) (λ k l e. same_live fleet pairs fleet.jobs k kept named named e (sources_kept fleet k)) (λ k l e. not_live fleet pairs k (is_live fleet k) kept refl e)
+live_same fleet pairs slots kept named =
+    let stays = survives fleet pairs slots fleet.jobs in
+    let live = is_live (renewed_fleet fleet pairs slots fleet.jobs) in
+    ap (chosen_below live) (known_count fleet pairs slots fleet.jobs)
+    ∙ chosen_map live (is_live fleet) stays (length fleet.known) (λ k l e. same_live fleet pairs slots fleet.jobs k kept named named e (sources_kept fleet k)) (λ k l e. not_live fleet pairs slots k (is_live fleet k) kept refl e)
 
 -- ---- the instance
 
-pub instance_same : (fleet : FleetState) (pairs : List (ℕ × ℕ)) → IsFleet fleet → are_jobs fleet.jobs ≡ true → AreApart pairs → instance_of (renewed_fleet fleet pairs fleet.jobs) (carried fleet pairs fleet.jobs) ≡ instance_of fleet pairs
+pub instance_same : (fleet : FleetState) (pairs : List (ℕ × ℕ)) (slots : List ℕ) → IsFleet fleet → are_jobs fleet.jobs ≡ true → AreApart pairs → instance_of (renewed_fleet fleet pairs slots fleet.jobs) (carried fleet pairs slots fleet.jobs) ≡ instance_of fleet pairs
 unfolding renewed_fleet instance_of
-instance_same fleet pairs kept named apart =
+instance_same fleet pairs slots kept named apart =
     let count = length fleet.jobs in
-    let stays = survives fleet pairs fleet.jobs in
-    let known = known_after fleet pairs fleet.jobs in
+    let stays = survives fleet pairs slots fleet.jobs in
+    let known = known_after fleet pairs slots fleet.jobs in
     let collectors = map (renewed_collector fleet.jobs) fleet.collectors in
-    let items = live_same fleet pairs kept named in
-    let each : (i t : ℕ) → slice_get (live_of fleet) i ≡ Some t → stays t ≡ true = λ i t here. live_stays fleet pairs t kept (all_at (λ (n : ℕ). is_live fleet n ≡ true) (live_of fleet) i t (chosen_pass (is_live fleet) (length fleet.known)) here) in
-    let rows = ap (map (row_in count collectors known)) items ∙ map_same (row_in count collectors known) (row_in count fleet.collectors fleet.known) (count_below stays) (live_of fleet) (λ i t here. row_at fleet pairs count t named (each i t here)) in
+    let items = live_same fleet pairs slots kept named in
+    let each : (i t : ℕ) → slice_get (live_of fleet) i ≡ Some t → stays t ≡ true = λ i t here. live_stays fleet pairs slots t kept (all_at (λ (n : ℕ). is_live fleet n ≡ true) (live_of fleet) i t (chosen_pass (is_live fleet) (length fleet.known)) here) in
+    let rows = ap (map (row_in count collectors known)) items ∙ map_same (row_in count collectors known) (row_in count fleet.collectors fleet.known) (count_below stays) (live_of fleet) (λ i t here. row_at fleet pairs slots count t named (each i t here)) in
     let before =
-    ap (map (bin_before_in count collectors known (carried fleet pairs fleet.jobs))) items
-    ∙ map_same (bin_before_in count collectors known (carried fleet pairs fleet.jobs)) (bin_before_in count fleet.collectors fleet.known pairs) (count_below stays) (live_of fleet) (λ i t here. before_same fleet pairs count t named (each i t here) apart) in
+    ap (map (bin_before_in count collectors known (carried fleet pairs slots fleet.jobs))) items
+    ∙ map_same (bin_before_in count collectors known (carried fleet pairs slots fleet.jobs)) (bin_before_in count fleet.collectors fleet.known pairs) (count_below stays) (live_of fleet) (λ i t here. before_same fleet pairs slots count t named (each i t here) apart) in
     let limits = limits_same fleet.jobs fleet.collectors (λ i job here. is_named fleet.jobs i job here) in
     let draining = draining_same count fleet.jobs fleet.collectors in
     λ i. record { version = Two; limits = limits i; draining = draining i; rows = rows i; before = before i }

@@ -12,7 +12,8 @@ use Rattle.fleet.specs.declared.job.JobSpec.{JobSpec}
 use Rattle.fleet.specs.declared.known_target.KnownTarget.{KnownTarget}
 use Rattle.fleet_assignment.specs.Beside.{beside}
 use Rattle.fleet_assignment.specs.Best.{IsOnce}
-use Rattle.fleet_renewal.specs.Renewed.{carried, renewed_collector, renewed_fleet, survives}
+use Rattle.fleet_renewal.specs.Renewed.{carried, is_served, renewed_collector, renewed_fleet, renewed_slots, survives}
+use Rattle.served_lists.specs.Served.{slot_of}
 use Rattle.allocation_core.specs.Kept.{IsKept}
 use Rattle.allocation_core.specs.Renewed.{renewal_refusal, renewed}
 use Rattle.allocation_core.specs.State.{State, current_pairs, instance_at}
@@ -38,18 +39,22 @@ abbrev pub KeepsSources : FleetState → List JobSpec → ℕ → Type 0
 KeepsSources fleet jobs target = (name : List ℕ) → job_name fleet target ≡ Some name → sources_of fleet.jobs name ≤ sources_of jobs name
 
 -- A target that goes on, under its new number.
-pub record GoesOn (fleet : FleetState) (pairs : List (ℕ × ℕ)) (jobs : List JobSpec) (target : ℕ) : Type 0 where
-  pub job : job_name (renewed_fleet fleet pairs jobs) (count_below (survives fleet pairs jobs) target) ≡ job_name fleet target
-  pub text : text_of (renewed_fleet fleet pairs jobs) (count_below (survives fleet pairs jobs) target) ≡ text_of fleet target
-  pub live : KeepsSources fleet jobs target → is_live (renewed_fleet fleet pairs jobs) (count_below (survives fleet pairs jobs) target) ≡ is_live fleet target
-  pub reach : (place : ℕ) → reaches_at (renewed_fleet fleet pairs jobs) place (count_below (survives fleet pairs jobs) target) ≡ reaches_at fleet place target
-  pub holder : beside (carried fleet pairs jobs) (count_below (survives fleet pairs jobs) target) ≡ live_holder fleet pairs target
+pub record GoesOn (fleet : FleetState) (pairs : List (ℕ × ℕ)) (slots : List ℕ) (jobs : List JobSpec) (target : ℕ) : Type 0 where
+  pub job : job_name (renewed_fleet fleet pairs slots jobs) (count_below (survives fleet pairs slots jobs) target) ≡ job_name fleet target
+  pub text : text_of (renewed_fleet fleet pairs slots jobs) (count_below (survives fleet pairs slots jobs) target) ≡ text_of fleet target
+  pub live : KeepsSources fleet jobs target → is_live (renewed_fleet fleet pairs slots jobs) (count_below (survives fleet pairs slots jobs) target) ≡ is_live fleet target
+  pub reach : (place : ℕ) → reaches_at (renewed_fleet fleet pairs slots jobs) place (count_below (survives fleet pairs slots jobs) target) ≡ reaches_at fleet place target
+  pub holder : beside (carried fleet pairs slots jobs) (count_below (survives fleet pairs slots jobs) target) ≡ live_holder fleet pairs target
+  -- whose list has it
+  pub slot : slot_of (renewed_slots fleet pairs slots jobs) (count_below (survives fleet pairs slots jobs) target) ≡ slot_of slots target
 
 -- what goes on across a renewal that is not refused
 pub record Continues (m : State) (jobs : List JobSpec) : Type 0 where
-  pub targets : (target : ℕ) → survives m.fleet (current_pairs m) jobs target ≡ true → GoesOn m.fleet (current_pairs m) jobs target
+  pub targets : (target : ℕ) → survives m.fleet (current_pairs m) m.served.slots jobs target ≡ true → GoesOn m.fleet (current_pairs m) m.served.slots jobs target
   -- a live target of a job that stays goes on
-  pub live : (target : ℕ) (name : List ℕ) → is_live m.fleet target ≡ true → job_name m.fleet target ≡ Some name → is_job jobs name ≡ true → survives m.fleet (current_pairs m) jobs target ≡ true
+  pub live : (target : ℕ) (name : List ℕ) → is_live m.fleet target ≡ true → job_name m.fleet target ≡ Some name → is_job jobs name ≡ true → survives m.fleet (current_pairs m) m.served.slots jobs target ≡ true
+  -- and one that a list has
+  pub served : (target : ℕ) (name : List ℕ) → is_served m.served.slots target ≡ true → job_name m.fleet target ≡ Some name → is_job jobs name ≡ true → survives m.fleet (current_pairs m) m.served.slots jobs target ≡ true
   -- each collector has the same own limit for each job of the list
   pub limits : (c : Collector) (name : List ℕ) → is_job jobs name ≡ true → own_limit (renewed_collector jobs c).limits name ≡ own_limit c.limits name
 
