@@ -10,11 +10,10 @@ use borrow.Author.Tests.{ltb-true}
 use Rattle.label_sets.specs.Target.{FinalTarget, target_text}
 use Rattle.scrape_books.specs.Kept.{RoundsRise}
 use Rattle.scrape_books.specs.declared.report.Entry.{Entry}
-use Rattle.fleet.specs.Changes.{relisted}
 use Rattle.fleet.specs.Fleet.{FleetState, is_joined}
 use Rattle.fleet.specs.IsFleet.{IsFleet}
-use Rattle.fleet.specs.Jobs.{are_jobs, job_named}
-use Rattle.fleet.specs.KnownTarget.{known_with, same_known, with_known}
+use Rattle.fleet.specs.Jobs.{are_jobs}
+use Rattle.fleet.specs.KnownTarget.{same_known}
 use Rattle.fleet.specs.declared.job.JobSpec.{JobSpec}
 use Rattle.fleet.specs.declared.known_target.KnownTarget.{KnownTarget}
 use Rattle.fleet_events.specs.declared.answer.Answer.{Answer}
@@ -23,15 +22,16 @@ use Rattle.fleet_events.specs.declared.event.Event.{Event}
 use Rattle.fleet_events.specs.declared.event.Event.TheVariants.{Discover, Join, Leave, Drain, SetLimits, Install, NextRound, Take, Serve, Release, Report}
 use Rattle.fleet_events.specs.declared.refusal.Refusal.{Refusal}
 use Rattle.fleet_events.specs.declared.refusal.Refusal.TheVariants.{NotTaken, UnknownCollector, UnknownTarget}
-use Rattle.handover.specs.Handover.{holder_in, taken_by}
+use Rattle.handover.specs.Handover.{holder_in}
 use Rattle.fleet_renewal.proofs.Gets.{pairs_at, some_same}
 use Rattle.fleet_renewal.proofs.JobLemmas.{job_here, name_same}
 use Rattle.allocation_core.specs.Booked.{WasBooked, report_of}
 use Rattle.allocation_core.specs.Kept.{IsKept}
 use Rattle.allocation_core.specs.Runs.{state_of}
 use Rattle.allocation_core.specs.State.{State}
-use Rattle.allocation_core.specs.Steps.{answer_by, answer_of, changed, holder_refusal, refusal_of, report_refusal, state_after}
+use Rattle.allocation_core.specs.Steps.{answer_by, answer_of, changed, holder_refusal, number_for, refusal_of, report_refusal, state_after}
 use Rattle.allocation_core.proofs.RunLemmas.{state_of_append}
+use Rattle.allocation_core.proofs.StepLemmas.{listing_grown}
 use Rattle.renewal.specs.Continuity.{job_name, text_of}
 use Rattle.renewal.specs.Histories.{IsOnceByText}
 use Rattle.renewal.proofs.Going.{name_at}
@@ -56,24 +56,12 @@ unfolding answer_of
 was_known m b answered =
     let free = granted_by (refusal_of m (report_of b)) answered in
     let there = joined_by (is_joined m.fleet b.1.collector) (report_refusal m b.1.collector b.1.number b.0 b.1.round) free in
-    ltb-true b.0 (length m.fleet.known) (known_by (eqb (taken_by m.taken b.1.collector) b.1.number) (nat_lt b.0 (length m.fleet.known)) (taken_by m.taken b.1.collector) (holder_refusal m (holder_in m.published b.1.number b.0) b.1.collector b.0 b.1.round) there)
-
-one_with : (b : Bool) (known : List KnownTarget) (k : KnownTarget) → length known ≤ length (cond b known (known ++ k ∷ []))
-one_with true known k = omega arith
-one_with false known k = omega (arith, length-append known (k ∷ []))
-
-more_known : (known : List KnownTarget) (job : ℕ) (targets : List FinalTarget) → length known ≤ length (known_with known job targets)
-more_known known job [] = omega arith
-more_known known job (t ∷ targets) =
-    let k : KnownTarget = record { job = job; target = t } in
-    omega (arith, one_with (list_any (same_known k) known) known k, more_known (with_known known k) job targets)
-
-listed_by : (fleet : FleetState) (f : ℕ → FleetState) (o : Option ℕ) → ((job : ℕ) → length fleet.known ≤ length (f job).known) → length fleet.known ≤ length (option_map_or f o fleet).known
-listed_by fleet f None more = omega arith
-listed_by fleet f (Some job) more = more job
+    ltb-true b.0 (length m.fleet.known) (known_by (eqb (number_for m b.1.collector b.0) b.1.number) (nat_lt b.0 (length m.fleet.known)) (number_for m b.1.collector b.0) (holder_refusal m (holder_in m.published b.1.number b.0) b.1.collector b.0 b.1.round) there)
 
 changed_known : (m : State) (e : Event) → length m.fleet.known ≤ length (changed m e).fleet.known
-changed_known m (Discover name source targets) = listed_by m.fleet (λ (job : ℕ). relisted m.fleet job source targets) (job_named m.fleet.jobs name) (λ job. more_known m.fleet.known job targets)
+changed_known m (Discover name source targets) =
+    let grown = listing_grown m.fleet name source targets in
+    omega (arith, ap (λ (ks : List KnownTarget). length ks) grown.is, length-append m.fleet.known grown.more)
 changed_known m (Join name reach limits) = omega arith
 changed_known m (Leave id) = omega arith
 changed_known m (Drain id) = omega arith
