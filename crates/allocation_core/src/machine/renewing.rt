@@ -73,7 +73,7 @@ impl Core {
         match renew_fleet(self.alloc, &self.fleet, jobs, pairs, self.served.slots()) {
             Ok(renewed) => {
                 let holders = Holders::carried_over(self.alloc, renewed.pairs)?;
-                let served = ServedLists::carried_over(self.alloc, renewed.slots);
+                let served = ServedLists::carried_over(self.alloc, renewed.slots.into_vec());
                 Ok((renewed.fleet, holders, served))
             }
             Err(_) => Err(AllocError),
