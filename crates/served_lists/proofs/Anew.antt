@@ -10,7 +10,7 @@ use Rattle.fleet.specs.Orderly.{is_of}
 use Rattle.fleet.specs.declared.known_target.KnownTarget.{KnownTarget}
 use Rattle.served_lists.specs.Served.{slot_of}
 use Rattle.served_lists.specs.Told.{Tells}
-use Rattle.served_lists.specs.Anew.{IsRenewed, RenewedTells, renewed_lists}
+use Rattle.served_lists.specs.Anew.{IsRenewed, RenewedTells}
 
 or_right : (a b : Bool) → b ≡ true → (a || b) ≡ true
 or_right true b e = refl
@@ -81,6 +81,7 @@ renewed_by number was known renewed_known slots renewed_slots lists re tells k m
         same_test (slot_of slots old) (slot_of renewed_slots n) k (is_of known j old) (is_of renewed_known m n) (re.slots_stay old n e)
         (re.jobs_stay old n m e ∙ ap (λ (o : Option ℕ). option_map_or (λ (i : ℕ). is_of known i old) o false) is)
         ∙ sym (tells k j old some)
+
     by : (b : Bool) → is_in (filter_map number (lists k j)) n ≡ b → is_in (filter_map number (lists k j)) n ≡ ((slot_of renewed_slots n == k) && is_of renewed_known m n)
     by true e = let r = back number (lists k j) n e in e ∙ sym (kept_test r.0 r.1 ∙ r.2)
     by false e = e ∙ sym (elim (re.no_others n) [

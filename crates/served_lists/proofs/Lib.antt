@@ -1,3 +1,4 @@
 pub mod SlotLemmas
 pub mod Telling
 pub mod Anew
+pub mod NumberLemmas

@@ -1,14 +1,15 @@
 -- Slots by target, and the job that a target is of.
-use Rattle.std.proofs.Common.{◌≡◌, ℕ, zero, suc, ◌+◌, ◌<◌, ◌≤◌, ◌⊎◌, ◌&&◌, inl, inr, Bool, true, false, List, [], ◌∷◌, ◌++◌, Option, Some, None, All, length, get_or, cond, refl, sym, ap, subst, ◌∙◌, arith, length-append, add-one}
-use Rattle.std.specs.Prelude.{◌==◌}
+use Rattle.std.proofs.Common.{◌≡◌, ℕ, zero, suc, ◌+◌, ◌<◌, ◌≤◌, ◌⊎◌, ◌&&◌, inl, inr, Bool, true, false, List, [], ◌∷◌, ◌++◌, Option, Some, All, length, get_or, cond, refl, sym, ap, subst, ◌∙◌, arith, length-append}
+use Rattle.std.specs.Prelude.{◌==◌, filter}
 use Rattle.std.proofs.Math.ListN.{get_or-append}
 use Rattle.std.proofs.lemmas.Bool.{cases_eq}
 use Rattle.std.proofs.lemmas.List.{ext_get_or, get_or-append-add, get_or_past}
+use Rattle.std.proofs.lemmas.List.Elements.{All-filter, filter_passes}
 use Rattle.std.proofs.lemmas.Grind.{get_or_default_zero}
 use Rattle.fleet.specs.Live.{is_in}
 use Rattle.fleet.specs.Orderly.{is_of}
 use Rattle.fleet.specs.declared.known_target.KnownTarget.{KnownTarget}
-use Rattle.served_lists.specs.Served.{Served, has, listed_of, slot_let_go, slot_of, slot_served, tabulated, with_list, without_list}
+use Rattle.served_lists.specs.Served.{Served, has, is_free, listed_of, slot_let_go, slot_of, slot_served, tabulated, with_list, with_number, without_list}
 
 pub length-tabulated : (f : ℕ → ℕ) (n : ℕ) → length (tabulated f n) ≡ n
 length-tabulated f zero = refl
@@ -27,6 +28,28 @@ slot_of-tabulated f (suc n) k l = elim (cases_eq k n) [
 pub is_tabulated : (f : ℕ → ℕ) (slots : List ℕ) (n : ℕ) → length slots ≡ n → ((k : ℕ) → k < n → slot_of slots k ≡ f k) → slots ≡ tabulated f n
 is_tabulated f slots n len each =
     ext_get_or 0 slots (tabulated f n) (len ∙ sym (length-tabulated f n)) (λ k l. each k (omega (arith, l, len)) ∙ sym (slot_of-tabulated f n k (omega (arith, l, len))))
+
+pub tabulated-alike : (f g : ℕ → ℕ) (n : ℕ) → ((k : ℕ) → k < n → f k ≡ g k) → tabulated f n ≡ tabulated g n
+tabulated-alike f g n each = is_tabulated g (tabulated f n) n (length-tabulated f n) (λ k l. slot_of-tabulated f n k l ∙ each k l)
+
+-- the slots once a list claims targets, after it was let go
+pub handed_over :
+    (known : List KnownTarget) (slots gone new : List ℕ) (collector job : ℕ) (targets : List ℕ) → gone ≡ tabulated (slot_let_go known slots collector (Some job)) (length slots) → length new ≡ length gone
+    → ((t : ℕ) → slot_of new t ≡ cond (is_in targets t) collector (slot_of gone t)) → new ≡ tabulated (slot_served known slots collector job targets) (length slots)
+handed_over known slots gone new collector job targets go len claimed =
+    let f = slot_let_go known slots collector (Some job) in
+    is_tabulated (slot_served known slots collector job targets) new (length slots) (len ∙ ap (λ (xs : List ℕ). length xs) go ∙ length-tabulated f (length slots))
+    (λ k l. claimed k ∙ ap (λ (x : ℕ). cond (is_in targets k) collector x) (ap (λ (xs : List ℕ). slot_of xs k) go ∙ slot_of-tabulated f (length slots) k l))
+
+-- only the slots of known targets count
+pub fitted :
+    (known : List KnownTarget) (slots fit new : List ℕ) (collector job : ℕ) (targets : List ℕ) → length fit ≡ length known → ((t : ℕ) → t < length known → slot_of fit t ≡ slot_of slots t)
+    → new ≡ tabulated (slot_served known fit collector job targets) (length fit) → new ≡ tabulated (slot_served known slots collector job targets) (length known)
+fitted known slots fit new collector job targets len same e =
+    e
+    ∙ ap (λ (n : ℕ). tabulated (slot_served known fit collector job targets) n) len
+    ∙ tabulated-alike (slot_served known fit collector job targets) (slot_served known slots collector job targets) (length known)
+    (λ k l. ap (λ (x : ℕ). cond (is_in targets k) collector (cond ((x == collector) && is_of known job k) 0 x)) (same k l))
 
 let_go_nothing : (b : Bool) (x : ℕ) → x ≡ 0 → cond b 0 x ≡ 0
 let_go_nothing true x e = refl
@@ -104,3 +127,22 @@ pub is_of-more : (known more : List KnownTarget) (job target : ℕ) → target <
 is_of-more [] more job target l = absurd (omega (arith, l))
 is_of-more (k ∷ known) more job zero l = refl
 is_of-more (k ∷ known) more job (suc target) l = is_of-more known more job target (omega (arith, l))
+
+-- what is listed is known
+known_at : (known : List KnownTarget) (job target : ℕ) → is_of known job target ≡ true → target < length known
+known_at known job target e = elim (homes known target) [
+  | inl past ↦ absurd (cc (e, past.1 job))
+  | inr home ↦ home.1
+]
+
+pub listed_known : (known : List KnownTarget) (slots : List ℕ) (collector job : ℕ) (held : List ℕ) → All (λ (t : ℕ). t < length known) (listed_of known slots collector job held)
+listed_known known slots collector job held =
+    All-filter (is_free slots collector) (λ (t : ℕ). t < length known) (filter (is_of known job) held) (λ k d l. known_at known job _ (filter_passes (is_of known job) held k d l))
+
+-- what a served list leaves, where its parts are seen
+pub with_list_is :
+    (known : List KnownTarget) (seen old new : Served) (collector job number : ℕ) (held listed : List ℕ) → seen ≡ old → listed ≡ listed_of known seen.slots collector job held
+    → new.slots ≡ tabulated (slot_served known seen.slots collector job listed) (length known) → new.numbers ≡ with_number seen.numbers collector job number → new ≡ with_list known old collector job number held
+with_list_is known seen old new collector job number held listed is list slots numbers =
+    let all = slots ∙ ap (λ (xs : List ℕ). tabulated (slot_served known seen.slots collector job xs) (length known)) list in
+    (λ i. record { slots = all i; numbers = numbers i }) ∙ ap (λ (s : Served). with_list known s collector job number held) is

@@ -1,13 +1,13 @@
 -- What the slots tell of the lists that were served last.
-use Rattle.std.proofs.Common.{◌≡◌, ℕ, ◌<◌, ◌&&◌, ◌||◌, inl, inr, Bool, true, false, List, [], ◌∷◌, ◌++◌, Option, Some, None, length, refl, sym, ap, ◌∙◌, arith}
+use Rattle.std.proofs.Common.{◌≡◌, ℕ, ◌<◌, ◌&&◌, ◌||◌, inl, inr, Bool, true, false, List, [], ◌++◌, Some, None, length, refl, sym, ap, ◌∙◌, arith}
 use Rattle.std.specs.Prelude.{◌==◌, ◌≢◌, if◌then◌else◌, filter, not}
 use Rattle.std.proofs.lemmas.Bool.Decides.{nat_tests}
 use Rattle.std.proofs.lemmas.Map.Views.{any-filter_same}
 use Rattle.fleet.specs.Live.{is_in}
 use Rattle.fleet.specs.Orderly.{is_of}
 use Rattle.fleet.specs.declared.known_target.KnownTarget.{KnownTarget}
-use Rattle.served_lists.specs.Served.{Served, is_free, left_out_of, listed_of, slot_let_go, slot_of, slot_served, with_list, without_list}
-use Rattle.served_lists.specs.Told.{FreeIsListed, GrowingTells, LeftOutForAnother, LetGoIsFree, LettingGoTells, ListsAreDisjoint, NoneTell, ServedAnewIsFree, ServingTells, Tells, lists_with, lists_without}
+use Rattle.served_lists.specs.Served.{is_free, listed_of, slot_let_go, slot_of, with_list, without_list}
+use Rattle.served_lists.specs.Told.{FreeIsListed, GrowingTells, LeftOutForAnother, LetGoIsFree, LettingGoTells, ListsAreDisjoint, NoneTell, ServedAnewIsFree, ServingTells}
 use Rattle.served_lists.proofs.SlotLemmas.{homes, is_of-more, length-with_list, slot_of-with_list, slot_of-without_list, slot_past, at_or_past}
 
 pub is_in-filter : (p : ℕ → Bool) (targets : List ℕ) (target : ℕ) → is_in (filter p targets) target ≡ (p target && is_in targets target)

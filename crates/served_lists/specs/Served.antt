@@ -1,5 +1,5 @@
 -- The lists that collectors were served last, one for a collector and a job, by targets.
-use Rattle.std.specs.Prelude.{ℕ, zero, suc, ◌==◌, ◌&&◌, ◌||◌, not, Bool, true, List, [], ◌∷◌, ◌++◌, if◌then◌else◌, length, slice_index_or, filter, count_by, Option, Some, None}
+use Rattle.std.specs.Prelude.{ℕ, zero, suc, ◌==◌, ◌&&◌, ◌||◌, not, Bool, true, List, [], ◌∷◌, ◌++◌, if◌then◌else◌, length, slice_index_or, filter, Option, Some, None}
 use Rattle.fleet.specs.Live.{count_below, is_in}
 use Rattle.fleet.specs.Orderly.{is_of}
 use Rattle.fleet.specs.declared.known_target.KnownTarget.{KnownTarget}

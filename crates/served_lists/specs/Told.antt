@@ -1,5 +1,5 @@
 -- What the slots tell of the lists that were served last.
-use Rattle.std.specs.Prelude.{◌≡◌, ◌<◌, ◌≤◌, ◌≢◌, ◌==◌, ◌&&◌, ◌⊎◌, Bool, true, false, ℕ, List, [], ◌++◌, if◌then◌else◌, filter, length, Option, Some, None}
+use Rattle.std.specs.Prelude.{◌≡◌, ◌<◌, ◌≤◌, ◌≢◌, ◌==◌, ◌&&◌, Bool, true, false, ℕ, List, [], ◌++◌, if◌then◌else◌, filter, length, Option, Some, None}
 use Rattle.fleet.specs.Live.{is_in}
 use Rattle.fleet.specs.Orderly.{is_of}
 use Rattle.fleet.specs.declared.known_target.KnownTarget.{KnownTarget}

@@ -1,7 +1,7 @@
 //! The lists that were served last.
 ghost use Rattle.std.specs.Prelude.{◌≡◌, ◌≤◌, [], length, IfOk, OnOk, OnErr};
 ghost use Rattle.fleet.specs.declared.limits.TheConstants.{MOST_KNOWN_TARGETS};
-ghost use Rattle.served_lists.specs.Served.{count_had, left_out_of, listed_of, nothing_served, number_of, slot_of, with_list, without_list};
+ghost use Rattle.served_lists.specs.Served.{count_had, left_out_of, listed_of, nothing_served, number_of, slot_of, with_list, with_number, without_list};
 
 use crate::list::{ServedList, list_for};
 use crate::slots::{follow, let_go, make_room, slot_of};
@@ -95,9 +95,7 @@ impl ServedLists {
         let slots = self.slots.as_slice();
         let list = list_for(self.alloc, known, slots, collector, job, held)?;
         make_room(&mut self.slots, known.len())?;
-        self.numbers
-            .insert((collector, job), number)
-            .map_err(AllocError::from)?;
+        set_number(&mut self.numbers, collector, job, number)?;
         let targets = list.listed.as_slice();
         follow(&mut self.slots, known, collector, job, targets);
         Ok(list)
@@ -116,4 +114,20 @@ impl ServedLists {
     {
         let_go(self.slots.as_mut_slice(), known, collector, job)
     }
+}
+
+/// The last list of a collector and a job is of the allocation of this number.
+fn set_number(
+    numbers: &mut IndexMap<(CollectorId, usize), u32>,
+    collector: CollectorId,
+    job: usize,
+    number: u32,
+) -> Result<(), AllocError>
+    ensures ok { OnOk result (numbers.new.entries ≡ with_number numbers.old.entries collector job number) }
+    ensures err { OnErr result (numbers.new.entries ≡ numbers.old.entries) }
+{
+    numbers
+        .insert((collector, job), number)
+        .map_err(AllocError::from)?;
+    Ok(())
 }

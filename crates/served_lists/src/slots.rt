@@ -98,6 +98,22 @@ fn fit(slots: &mut Vec<CollectorId>, len: usize)
     }
 }
 
+/// A list of the collector, of a job, has these targets and no others.
+fn hand_over(
+    slots: &mut [CollectorId],
+    known: &[KnownTarget],
+    collector: CollectorId,
+    job: usize,
+    targets: &[TargetId],
+)
+    requires most { length slots.old ≤ MOST_KNOWN_TARGETS }
+    requires within { All (λ (t : ℕ). t < length slots.old) targets.now }
+    ensures { slots.new ≡ tabulated (slot_served known.now slots.old collector job targets.now) (length slots.old) }
+{
+    let_go(slots, known, collector, Some(job));
+    claim(slots, collector, targets);
+}
+
 /// The slots once a collector was served these targets of a job, in room that is there.
 pub(crate) fn follow(
     slots: &mut Vec<CollectorId>,
@@ -112,6 +128,5 @@ pub(crate) fn follow(
     ensures { slots.new.items ≡ tabulated (slot_served known.now slots.old.items collector job targets.now) (length known.now) }
 {
     fit(slots, known.len());
-    let_go(slots.as_mut_slice(), known, collector, Some(job));
-    claim(slots.as_mut_slice(), collector, targets);
+    hand_over(slots.as_mut_slice(), known, collector, job, targets);
 }
