@@ -17,7 +17,7 @@ use Rattle.fleet.specs.KnownTarget.{known_with, same_known, with_known}
 use Rattle.fleet.specs.declared.known_target.KnownTarget.{KnownTarget}
 use Rattle.label_sets.specs.Target.{FinalTarget}
 use Rattle.served_lists.specs.Served.{Served as Lists, without_list}
-use Rattle.served_lists.proofs.SlotLemmas.{length-with_list, length-without_list, with_list_all, without_list_all}
+use Rattle.served_lists.proofs.SlotLemmas.{length-with_list, length-without_list, with_list-all, without_list-all}
 use Rattle.fleet.specs.Changes.{join_refusal, list_refusal, relisted, with_collector, with_draining, with_draining_at, with_limits, with_limits_at, with_listing, without_collector}
 use Rattle.fleet.specs.Fleet.{FleetState, first_fleet}
 use Rattle.fleet.specs.IsFleet.{IsFleet}
@@ -141,13 +141,13 @@ serve_kept m id (Some job) kept free =
     let given = given_when m id (served_given m id job free) in
     lists_kept m (served_at m id (Some job)) kept
     (omega (arith, length-with_list m.fleet.known m.served id job (current_of m) (held_live m id)))
-    (with_list_all (λ (c : ℕ). c ≤ m.fleet.last_collector) m.fleet.known m.served id job (current_of m) (held_live m id) kept.given_slots given.1 (omega arith))
+    (with_list-all (λ (c : ℕ). c ≤ m.fleet.last_collector) m.fleet.known m.served id job (current_of m) (held_live m id) (omega arith) given.1 kept.given_slots)
 
 release_kept : (m : State) (id : ℕ) (job : Option ℕ) → IsKept m → IsKept (record m { served = without_list m.fleet.known m.served id job })
 release_kept m id job kept =
     lists_kept m (without_list m.fleet.known m.served id job) kept
     (omega (arith, length-without_list m.fleet.known m.served id job, kept.few_slots))
-    (without_list_all (λ (c : ℕ). c ≤ m.fleet.last_collector) m.fleet.known m.served id job kept.given_slots (omega arith))
+    (without_list-all (λ (c : ℕ). c ≤ m.fleet.last_collector) m.fleet.known m.served id job (omega arith) kept.given_slots)
 
 not_mapped : (o : Option ListRefusal) → option_map unlisted o ≡ None → o ≡ None
 not_mapped None e = refl

@@ -76,6 +76,21 @@ impl ServedLists {
         self.numbers.get(&(collector, job)).copied()
     }
 
+    /// What a collector that holds these targets would be served of a job.
+    pub fn list(
+        &self,
+        known: &[KnownTarget],
+        collector: CollectorId,
+        job: usize,
+        held: &[TargetId],
+    ) -> Result<ServedList, AllocError>
+        ensures listed { IfOk result (λ l. l.listed ≡ listed_of known.now self.now.slots collector job held.now) }
+        ensures left_out { IfOk result (λ l. l.left_out ≡ left_out_of known.now self.now.slots collector job held.now) }
+    {
+        let slots = self.slots.as_slice();
+        list_for(self.alloc, known, slots, collector, job, held)
+    }
+
     /// A collector that holds these targets is served its list of a job, of the allocation of a number. It has what no list of
     /// another collector has. Without memory nothing changes.
     pub fn serve(
@@ -92,8 +107,7 @@ impl ServedLists {
         ensures state { OnOk result (self.new ≡ with_list known.now self.old collector job number held.now) }
         ensures err { OnErr result (self.new ≡ self.old) }
     {
-        let slots = self.slots.as_slice();
-        let list = list_for(self.alloc, known, slots, collector, job, held)?;
+        let list = self.list(known, collector, job, held)?;
         make_room(&mut self.slots, known.len())?;
         set_number(&mut self.numbers, collector, job, number)?;
         let targets = list.listed.as_slice();
