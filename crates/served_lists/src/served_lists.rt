@@ -107,7 +107,8 @@ impl ServedLists {
         ensures state { OnOk result (self.new ≡ with_list known.now self.old collector job number held.now) }
         ensures err { OnErr result (self.new ≡ self.old) }
     {
-        let list = self.list(known, collector, job, held)?;
+        let slots = self.slots.as_slice();
+        let list = list_for(self.alloc, known, slots, collector, job, held)?;
         make_room(&mut self.slots, known.len())?;
         set_number(&mut self.numbers, collector, job, number)?;
         let targets = list.listed.as_slice();
