@@ -73,9 +73,9 @@ take_answer : (b : Bool) (number round : ℕ) (held : List ℕ) → IsTrue (is_t
 take_answer true number round held = refl
 take_answer false number round held = refl
 
-given_by : (is : Answer → Bool) (b : Bool) (answer : Answer) → IsTrue (is answer) → IsTrue (is (Not UnknownCollector)) → IsTrue (is (answer_by (cond b None (Some UnknownCollector)) answer))
-given_by is true answer yes no = yes
-given_by is false answer yes no = no
+given_by : (fits : Answer → Bool) (b : Bool) (answer : Answer) → IsTrue (fits answer) → IsTrue (fits (Not UnknownCollector)) → IsTrue (fits (answer_by (cond b None (Some UnknownCollector)) answer))
+given_by fits true answer granted refused = granted
+given_by fits false answer granted refused = refused
 
 serve_answer : (m : State) (id : ℕ) (job : Option ℕ) (number round : ℕ) (listed left_out : List ℕ) → IsTrue (is_serve_answer (answer_by (unless_served m id job) (Served number round listed left_out)))
 serve_answer m id None number round listed left_out = refl

@@ -1,8 +1,7 @@
 //! Lists that are served, and let go.
-ghost use Rattle.std.specs.Prelude.{◌≡◌, List, Option, None, Some, IfErr, IfOk, OnOk, OnErr};
-ghost use Rattle.served_lists.specs.Served.{Served as Lists};
+ghost use Rattle.std.specs.Prelude.{◌≡◌, None, Some, true, IfOk, OnOk, OnErr};
 ghost use Rattle.allocation_core.specs.State.{held_live, left_out_at, list_at, served_at, was_given};
-ghost use Rattle.allocation_core.specs.Steps.{answer_of, job_meant, place_of, refusal_of, state_after, unless_given, unless_released, unless_served};
+ghost use Rattle.allocation_core.specs.Steps.{answer_of, job_meant, place_of, refusal_of, state_after};
 ghost use Rattle.fleet_events.specs.declared.event.Event.TheVariants.{Release, Serve};
 
 use super::Core;
