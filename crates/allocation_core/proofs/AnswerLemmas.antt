@@ -21,7 +21,7 @@ use Rattle.fleet_events.specs.declared.event.Event.{Event}
 use Rattle.fleet_events.specs.declared.event.Event.TheVariants.{Discover, Join, Leave, Drain, SetLimits, Install, NextRound, Take, Serve, Release, Report}
 use Rattle.fleet_events.specs.declared.answer.Answer.{Answer}
 use Rattle.fleet_events.specs.declared.answer.Answer.TheVariants.{Discovered, Joined, Left, Draining, LimitsSet, Published, RoundOpen, Taken, Served, Released, Booked, Not}
-use Rattle.fleet_events.specs.declared.refusal.Refusal.TheVariants.{UnknownJob, UnknownCollector, Unchanged, NumbersSpent, RoundsSpent, NotTaken, UnknownTarget, NotHolder, StillServed, RoundClosed, RoundNotOpen, AlreadyBooked}
+use Rattle.fleet_events.specs.declared.refusal.Refusal.TheVariants.{UnknownCollector, Unchanged, NumbersSpent, RoundsSpent, NotTaken, UnknownTarget, NotHolder, StillServed, RoundClosed, RoundNotOpen, AlreadyBooked}
 use Rattle.handover.specs.declared.holders.TheConstants.{LAST_NUMBER}
 use Rattle.allocation_core.specs.declared.limits.TheConstants.{LAST_ROUND}
 use Rattle.allocation_core.specs.State.{State, allocation_at, current_of, current_pairs, held_by, instance_at, left_out_at, list_at, was_given}

@@ -1,6 +1,6 @@
 -- What every state keeps holds of a renewed one; and the jobs stay as they are over events.
-use Rattle.std.proofs.Common.{◌≡◌, ℕ, ◌+◌, ◌*◌, ◌≤◌, List, [], ◌∷◌, Bool, true, false, Option, Some, None, All, cond, length, refl, sym, ap, ◌∙◌, arith}
-use Rattle.std.specs.Prelude.{is_some, if◌then◌else◌, nat_lt}
+use Rattle.std.proofs.Common.{◌≡◌, ℕ, ◌*◌, ◌≤◌, List, [], ◌∷◌, Bool, true, false, Option, Some, None, All, cond, length, refl, arith}
+use Rattle.std.specs.Prelude.{nat_lt}
 use Rattle.std.proofs.lemmas.Bool.{ltb-false}
 use Rattle.handover.specs.Handover.{only}
 use Rattle.fleet.specs.Fleet.{FleetState}
@@ -12,11 +12,9 @@ use Rattle.fleet_renewal.specs.declared.error.RenewError.{RenewError as FleetErr
 use Rattle.fleet_renewal.specs.declared.error.RenewError.TheVariants.{BadJobs as BadList, TooManyBins as ManyBins, Memory as NoMemory}
 use Rattle.fleet_renewal.proofs.RenewedKept.{renewed_kept}
 use Rattle.fleet_renewal.proofs.SlotLemmas.{renewed_slots_all, renewed_slots_fit}
-use Rattle.fleet_events.specs.declared.event.Event.{Event}
 use Rattle.allocation_core.specs.State.{State, current_pairs}
 use Rattle.allocation_core.specs.Kept.{IsKept}
 use Rattle.allocation_core.specs.Renewed.{renewal_refusal, renewed, rounds_left}
-use Rattle.allocation_core.specs.declared.renewal.RenewalError.{RenewalError}
 
 -- nothing is against the fleet's renewal
 pub record FreeFleet (count : ℕ) (jobs : List JobSpec) : Type 0 where

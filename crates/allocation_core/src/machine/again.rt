@@ -23,7 +23,6 @@ impl Core {
     }
 
     /// The same of a take.
-    #[tactic(auto, unfolding(crate::specs::Steps::answer_of, crate::specs::Steps::state_after))]
     fn taken_again(&self, id: CollectorId) -> Result<Option<Answer>, AllocError>
         ensures { IfOk result (IsIdle self.now (Take id)) }
     {

@@ -73,7 +73,7 @@ impl Core {
     }
 
     /// What a live collector holds; nothing where it has left.
-    fn held_live(&self, id: CollectorId) -> Result<List<TargetId>, AllocError>
+    pub(super) fn held_live(&self, id: CollectorId) -> Result<List<TargetId>, AllocError>
         ensures { IfOk result (λ l. l ≡ held_live self.now id) }
     {
         if !self.fleet.is_joined(id) {
@@ -112,14 +112,14 @@ impl Core {
     }
 
     /// The place of the job of a name.
-    fn place_of(&self, name: &str) -> Option<usize>
+    pub(super) fn place_of(&self, name: &str) -> Option<usize>
         ensures { result ≡ place_of self.now name.now }
     {
         job_named(self.fleet.jobs(), name)
     }
 
     /// Whether a collector joined under the number once.
-    fn was_given(&self, id: CollectorId) -> bool
+    pub(super) fn was_given(&self, id: CollectorId) -> bool
         ensures { result ≡ was_given self.now id }
     {
         0 < id && id <= self.fleet.last_collector()
