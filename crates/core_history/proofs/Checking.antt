@@ -1,9 +1,9 @@
 -- What the checks of a history come to.
-use Rattle.std.proofs.Common.{◌≡◌, ◌==◌, ◌<◌, ◌≤◌, ◌+◌, ◌-◌, ℕ, zero, suc, Bool, true, false, not, cond, ◌&&◌, List, [], ◌∷◌, map, length, get_or, All, AllPairs, Option, Some, None, option_map, option_and_then, Result, Ok, Err, refl, sym, ap, ap₂, ◌∙◌, ne_eqb, arith}
-use Rattle.std.specs.Prelude.{nat_le, replicate}
+use Rattle.std.proofs.Common.{◌≡◌, ◌==◌, ◌<◌, ◌≤◌, ◌+◌, ◌-◌, ℕ, zero, suc, Bool, true, false, not, cond, ◌&&◌, List, [], ◌∷◌, map, length, get_or, All, AllPairs, Option, Some, None, option_map, option_and_then, Result, Ok, Err, refl, sym, ap, inl, inr, ◌∙◌, ne_eqb, arith}
+use Rattle.std.specs.Prelude.{nat_le}
 use Rattle.std.specs.List.{list_all}
-use Rattle.std.proofs.lemmas.Bool.{and_from, and_parts, eqb-true, le-leb, leb-true}
-use Rattle.std.proofs.lemmas.List.Elements.{All-cons, All-nil}
+use Rattle.std.proofs.lemmas.Bool.{and_from, and_parts, cases_lt, eqb-true, le-leb, leb-true}
+use Rattle.std.proofs.lemmas.List.Elements.{All-cons, All-nil, All-push}
 use Rattle.std.proofs.lemmas.List.{get_or-map, length-map}
 use Rattle.std.proofs.lemmas.List.Kept.{AllPairs-from_increasing}
 use Rattle.lists.specs.Rising.{rises}
@@ -11,13 +11,15 @@ use Rattle.lists.proofs.RisingLemmas.{all_from, rises_from, rises_to}
 use Rattle.fleet.specs.Fleet.{FleetState}
 use Rattle.fleet.specs.Parts.{fleet_of, parts_fault}
 use Rattle.fleet.specs.declared.error.PartsError.{PartsError}
+use Rattle.served_lists.specs.Served.{slot_of, tabulated}
+use Rattle.served_lists.proofs.SlotLemmas.{is_tabulated, length-tabulated, slot_past}
 use Rattle.allocation_core.specs.State.{State, current_pairs, restored}
 use Rattle.serde_json.specs.Data.{Data}
 use Rattle.json_values.specs.Spelling.{number_in, pair_in, list_in}
 use Rattle.fleet.specs.declared.fleet_parts.FleetParts.{FleetParts}
 use Rattle.core_history.specs.Parts.{fleet_parts_in}
 use Rattle.core_history.specs.declared.history.Certificate.{Certificate}
-use Rattle.core_history.specs.History.{ReadsBack, are_slots, by_fault, certificate_in, checked, checked_in, history_in, history_object, history_of, is_allocation, kept_of, parts_in, served_object, slots_of, slots_said, state_of}
+use Rattle.core_history.specs.History.{ReadsBack, are_slots, by_fault, certificate_in, checked, checked_in, history_in, history_object, history_of, is_allocation, kept_of, parts_in, said_slots, served_object, slots_of, slots_said, state_of}
 use Rattle.core_history.specs.declared.error.HistoryError.{HistoryError}
 use Rattle.core_history.specs.declared.error.HistoryError.TheVariants.{BadAllocation, BadRound, BadServed}
 use Rattle.core_history.specs.declared.history.History.{History}
@@ -51,20 +53,9 @@ fits_by false fleet slots fit =
 pub said_fits : (fleet : FleetState) (slots : List ℕ) → Fit fleet slots → are_slots fleet (slots_said slots) ≡ true
 said_fits fleet slots fit = fits_by (list_all (λ (collector : ℕ). collector == 0) slots) fleet slots fit
 
--- and what is said fits where it is checked
-length-zeros : (n : ℕ) → length {A = ℕ} (replicate n 0) ≡ n
-length-zeros zero = refl
-length-zeros (suc n) = ap suc (length-zeros n)
-
-pub slots_few : (fleet : FleetState) (served : Option (List ℕ)) → are_slots fleet served ≡ true → length (slots_of fleet served) ≤ length fleet.known
-slots_few fleet None fits = omega (arith, length-zeros (length fleet.known))
-slots_few fleet (Some slots) fits =
-    let both = and_parts (nat_le (length slots) (length fleet.known)) (list_all (λ (collector : ℕ). nat_le collector fleet.last_collector) slots) fits in
-    leb-true (length slots) (length fleet.known) both.0
-
-zeros_given : (last n : ℕ) → All (λ (collector : ℕ). collector ≤ last) (replicate n 0)
-zeros_given last zero = All-nil (λ (collector : ℕ). collector ≤ last)
-zeros_given last (suc n) = All-cons (λ (collector : ℕ). collector ≤ last) 0 (replicate n 0) (omega arith) (zeros_given last n)
+-- a slot for each known target, of collectors that joined once
+pub length-slots_of : (fleet : FleetState) (served : Option (List ℕ)) → length (slots_of fleet served) ≡ length fleet.known
+length-slots_of fleet served = length-tabulated (slot_of (said_slots served)) (length fleet.known)
 
 each_given : (last : ℕ) (slots : List ℕ) → list_all (λ (collector : ℕ). nat_le collector last) slots ≡ true → All (λ (collector : ℕ). collector ≤ last) slots
 each_given last [] all = All-nil (λ (collector : ℕ). collector ≤ last)
@@ -72,23 +63,33 @@ each_given last (slot ∷ slots) all =
     let both = and_parts (nat_le slot last) (list_all (λ (collector : ℕ). nat_le collector last) slots) all in
     All-cons (λ (collector : ℕ). collector ≤ last) slot slots (leb-true slot last both.0) (each_given last slots both.1)
 
-pub slots_given : (fleet : FleetState) (served : Option (List ℕ)) → are_slots fleet served ≡ true → All (λ (collector : ℕ). collector ≤ fleet.last_collector) (slots_of fleet served)
-slots_given fleet None fits = zeros_given fleet.last_collector (length fleet.known)
-slots_given fleet (Some slots) fits =
+said_given : (fleet : FleetState) (served : Option (List ℕ)) → are_slots fleet served ≡ true → All (λ (collector : ℕ). collector ≤ fleet.last_collector) (said_slots served)
+said_given fleet None fits = All-nil (λ (collector : ℕ). collector ≤ fleet.last_collector)
+said_given fleet (Some slots) fits =
     let both = and_parts (nat_le (length slots) (length fleet.known)) (list_all (λ (collector : ℕ). nat_le collector fleet.last_collector) slots) fits in
     each_given fleet.last_collector slots both.1
 
-zero_by : (is rest : Bool) (slot : ℕ) (slots zeros : List ℕ) → slot == 0 ≡ is → (is && rest) ≡ true → (rest ≡ true → slots ≡ zeros) → slot ∷ slots ≡ 0 ∷ zeros
-zero_by true rest slot slots zeros at both later = ap₂ (λ (s : ℕ) (ss : List ℕ). s ∷ ss) (eqb-true slot 0 at) (later both)
-zero_by false rest slot slots zeros at both later = cc
+slot_given : (last : ℕ) (slots : List ℕ) (target : ℕ) → All (λ (collector : ℕ). collector ≤ last) slots → slot_of slots target ≤ last
+slot_given last slots target all = elim (cases_lt target (length slots)) [
+  | inl l ↦ all target 0 l
+  | inr past ↦ omega (arith, slot_past slots target past)
+]
 
-zeros : (slots : List ℕ) → list_all (λ (collector : ℕ). collector == 0) slots ≡ true → slots ≡ replicate (length slots) 0
-zeros [] all = refl
-zeros (slot ∷ slots) all = zero_by (slot == 0) (list_all (λ (collector : ℕ). collector == 0) slots) slot slots (replicate (length slots) 0) refl all (zeros slots)
+all_given : (last : ℕ) (slots : List ℕ) (n : ℕ) → All (λ (collector : ℕ). collector ≤ last) slots → All (λ (collector : ℕ). collector ≤ last) (tabulated (slot_of slots) n)
+all_given last slots zero all = All-nil (λ (collector : ℕ). collector ≤ last)
+all_given last slots (suc n) all = All-push (λ (collector : ℕ). collector ≤ last) (tabulated (slot_of slots) n) (slot_of slots n) (all_given last slots n all) (slot_given last slots n all)
+
+pub slots_given : (fleet : FleetState) (served : Option (List ℕ)) → are_slots fleet served ≡ true → All (λ (collector : ℕ). collector ≤ fleet.last_collector) (slots_of fleet served)
+slots_given fleet served fits = all_given fleet.last_collector (said_slots served) (length fleet.known) (said_given fleet served fits)
+
+zero_at : (slots : List ℕ) (target : ℕ) → list_all (λ (collector : ℕ). collector == 0) slots ≡ true → slot_of slots target ≡ 0
+zero_at [] target all = refl
+zero_at (slot ∷ slots) zero all = eqb-true slot 0 (and_parts (slot == 0) (list_all (λ (collector : ℕ). collector == 0) slots) all).0
+zero_at (slot ∷ slots) (suc target) all = zero_at slots target (and_parts (slot == 0) (list_all (λ (collector : ℕ). collector == 0) slots) all).1
 
 said_by_all : (nothing : Bool) (fleet : FleetState) (slots : List ℕ) → list_all (λ (collector : ℕ). collector == 0) slots ≡ nothing → length slots ≡ length fleet.known → slots_of fleet (cond nothing None (Some slots)) ≡ slots
-said_by_all true fleet slots is same = sym (zeros slots is ∙ ap (λ (n : ℕ). replicate n 0) same)
-said_by_all false fleet slots is same = refl
+said_by_all true fleet slots is same = sym (is_tabulated (slot_of []) slots (length fleet.known) same (λ k l. zero_at slots k is))
+said_by_all false fleet slots is same = sym (is_tabulated (slot_of slots) slots (length fleet.known) same (λ k l. refl))
 
 -- slots of all known targets are said as they are
 pub whole_said : (fleet : FleetState) (slots : List ℕ) → length slots ≡ length fleet.known → slots_of fleet (slots_said slots) ≡ slots

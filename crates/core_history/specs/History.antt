@@ -1,7 +1,7 @@
 -- A renewed core as JSON: `allocation`, pairs of a target and its collector, `certificate`, a certificate document, `fleet`, `round`, and
 -- `served`, for each known target the collector of which a list that was served last has it, 0 for none; left out where none has any. What
 -- a line says is a state, or the first fault in this order: the shape, the fleet's parts, the allocation, the round, the lists served.
-use Rattle.std.specs.Prelude.{◌≡◌, true, ℕ, ◌==◌, List, Bool, not, ◌&&◌, nat_le, nat_lt, if◌then◌else◌, length, map, replicate, Option, Some, None, option_map, option_and_then, Result, Ok, Err, codes}
+use Rattle.std.specs.Prelude.{◌≡◌, true, ℕ, ◌==◌, List, Bool, not, ◌&&◌, nat_le, nat_lt, if◌then◌else◌, [], length, map, Option, Some, None, option_map, option_and_then, Result, Ok, Err, codes}
 use Rattle.std.specs.List.{list_all}
 use Rattle.lists.specs.Rising.{rises}
 use Rattle.serde_json.specs.Data.{Data, object, no_members, member}
@@ -19,6 +19,7 @@ use Rattle.fleet.specs.Parts.{fleet_of, parts_fault}
 use Rattle.fleet.specs.declared.error.PartsError.{PartsError}
 use Rattle.fleet.specs.declared.error.PartsError.TheVariants as fleet
 use Rattle.fleet.specs.declared.fleet_parts.FleetParts.{FleetParts}
+use Rattle.served_lists.specs.Served.{slot_of, tabulated}
 use Rattle.allocation_core.specs.State.{State, current_pairs, restored}
 use Rattle.core_history.specs.Parts.{fleet_data, fleet_parts_in, parts_of}
 use Rattle.core_history.specs.declared.error.HistoryError.{HistoryError}
@@ -72,10 +73,14 @@ abbrev pub are_slots : FleetState → Option (List ℕ) → Bool
 are_slots fleet None = true
 are_slots fleet (Some slots) = nat_le (length slots) (length fleet.known) && list_all (λ (collector : ℕ). nat_le collector fleet.last_collector) slots
 
--- no list has a known target, where nothing is said
+-- what is said of slots: nothing where the member is left out
+abbrev pub said_slots : Option (List ℕ) → List ℕ
+said_slots None = []
+said_slots (Some slots) = slots
+
+-- a slot for each known target: where none is said no list has it
 abbrev pub slots_of : FleetState → Option (List ℕ) → List ℕ
-slots_of fleet None = replicate (length fleet.known) 0
-slots_of fleet (Some slots) = slots
+slots_of fleet served = tabulated (slot_of (said_slots served)) (length fleet.known)
 
 abbrev pub state_of : History → State
 state_of history = restored (fleet_of history.fleet) history.allocation (slots_of (fleet_of history.fleet) history.served) history.certificate.instance history.certificate.plan history.round

@@ -4,6 +4,7 @@ ghost use Rattle.std.specs.List.{list_all};
 ghost use Rattle.lists.specs.Rising.{rises};
 ghost use Rattle.fleet.specs.Fleet.{is_joined};
 ghost use Rattle.fleet.specs.Parts.{fleet_of, parts_fault};
+ghost use Rattle.served_lists.specs.Served.{slot_of, tabulated};
 ghost use Rattle.core_history.specs.History.{checked, IsFaultOf, are_slots, is_allocation, slots_of};
 ghost use Rattle.core_history.specs.declared.error.HistoryError.TheVariants.{Memory};
 
@@ -37,7 +38,7 @@ pub(crate) fn restored(alloc: Global, history: History) -> Result<Core, HistoryE
     if !are_slots(&fleet, &served) {
         return Err(HistoryError::BadServed);
     }
-    let slots = slots_of(alloc, &fleet, served)?;
+    let slots = slots_of(alloc, &fleet, &served)?;
     let Certificate { instance, plan } = certificate;
     let core = Core::restored(alloc, fleet, allocation, slots, round, instance, plan)?;
     Ok(core)
@@ -62,17 +63,37 @@ fn were_given(collectors: &[u32], last: u32) -> bool
     collectors.iter().all(|collector| *collector <= last)
 }
 
-/// The slots; no list has a known target where nothing is said.
-fn slots_of(alloc: Global, fleet: &Fleet, served: Option<List<u32>>) -> Result<Vec<u32>, AllocError>
-    ensures { IfOk result (λ v. v.items ≡ slots_of fleet.now served) }
+/// A slot for each known target: where none is said no list has it.
+fn slots_of(
+    alloc: Global,
+    fleet: &Fleet,
+    served: &Option<List<u32>>,
+) -> Result<Vec<u32>, AllocError>
+    ensures { IfOk result (λ v. v.items ≡ slots_of fleet.now served.now) }
 {
     match served {
-        Some(slots) => Ok(slots.into_vec()),
-        None => {
-            let mut slots = Vec::new(alloc);
-            slots.resize(fleet.known().len(), 0)?;
-            Ok(slots)
-        }
+        Some(slots) => padded(alloc, slots.as_slice(), fleet.known().len()),
+        None => padded(alloc, &[], fleet.known().len()),
+    }
+}
+
+/// So many slots, of which these are the first.
+fn padded(alloc: Global, slots: &[u32], count: usize) -> Result<Vec<u32>, AllocError>
+    ensures { IfOk result (λ v. v.items ≡ tabulated (slot_of slots.now) count) }
+{
+    let mut all = Vec::with_capacity(alloc, count)?;
+    for target in 0..count {
+        all.push(slot_of(slots, target))?;
+    }
+    Ok(all)
+}
+
+fn slot_of(slots: &[u32], target: usize) -> u32
+    ensures { result ≡ slot_of slots.now target }
+{
+    match slots.get(target) {
+        Some(collector) => *collector,
+        None => 0,
     }
 }
 

@@ -1,15 +1,27 @@
-use Rattle.std.proofs.Common.{◌<◌, ◌≤◌, ℕ, List, All, AllPairs, length, sym, ap, subst, ◌∙◌}
-use Rattle.fleet.specs.Fleet.{FleetState}
-use Rattle.core_history.proofs.Checking.{slots_few, slots_given}
+use Rattle.std.proofs.Common.{◌≡◌, ◌+◌, ◌<◌, ◌≤◌, ℕ, true, List, Result, Ok, All, AllPairs, length, sym, ap, arith, subst, ◌∙◌}
+use Rattle.fleet.specs.Parts.{fleet_of}
+use Rattle.allocation_core.specs.State.{State, restored}
+use Rattle.core_history.specs.History.{are_slots, is_allocation, slots_of, state_of}
+use Rattle.core_history.specs.declared.error.HistoryError.{HistoryError}
+use Rattle.core_history.proofs.Checking.{good_history, length-slots_of, slots_given}
 use Rattle.core_history.proofs.restoring.restored.Goals as goal
 
 pub restored-requires-clause-ascending : goal.restored-requires-clause-ascending
 restored-requires-clause-ascending c = subst (λ (pairs : List (ℕ × ℕ)). AllPairs (λ (a b : ℕ × ℕ). a.0 < b.0) pairs) c.as_slice.ensures (c.is_allocation.ensures.ascending c.if-not-is_allocation.false)
 
 pub restored-requires-clause-few : goal.restored-requires-clause-few
-restored-requires-clause-few c =
-    subst (λ (slots : List ℕ). length slots ≤ length c.in_ok-fleet.fleet.known) (sym c.in_ok-slots.ensures) (slots_few c.in_ok-fleet.fleet c.args.history.served (sym c.if-not-are_slots.ensures))
+restored-requires-clause-few c = omega (arith, ap (λ (slots : List ℕ). length slots) c.in_ok-slots.ensures, length-slots_of c.in_ok-fleet.fleet c.args.history.served)
 
 pub restored-requires-clause-given : goal.restored-requires-clause-given
 restored-requires-clause-given c =
     subst (λ (slots : List ℕ). All (λ (collector : ℕ). collector ≤ c.in_ok-fleet.fleet.last_collector) slots) (sym c.in_ok-slots.ensures) (slots_given c.in_ok-fleet.fleet c.args.history.served (sym c.if-not-are_slots.ensures))
+
+pub returns-clause-state : goal.returns-clause-state
+returns-clause-state c =
+    let h = c.args.history in
+    let same : c.in_ok-fleet.fleet ≡ fleet_of h.fleet = c.in_ok-fleet.ensures.fleet.0 in
+    let pairs : is_allocation (fleet_of h.fleet) h.allocation ≡ true = sym (c.if-not-is_allocation.ensures.is ∙ (λ i. is_allocation (same i) (c.as_slice.ensures i))) in
+    let fits : are_slots (fleet_of h.fleet) h.served ≡ true = sym (c.if-not-are_slots.ensures ∙ (λ i. are_slots (same i) h.served)) in
+    let slots : c.in_ok-slots.slots.items ≡ slots_of (fleet_of h.fleet) h.served = c.in_ok-slots.ensures ∙ (λ i. slots_of (same i) h.served) in
+    let core : c.in_ok-core.core ≡ state_of h = c.in_ok-core.ensures ∙ (λ i. restored (same i) h.allocation (slots i) h.certificate.instance h.certificate.plan h.round) in
+    good_history h c.in_ok-fleet.ensures.fleet.1 pairs (omega (arith, c.if-round-eq0.false)) fits ∙ ap (λ (m : State). (let r : Result State HistoryError = Ok m in r)) (sym core)
