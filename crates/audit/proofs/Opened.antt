@@ -12,9 +12,10 @@ use Rattle.fleet.specs.Parts.{fleet_of, parts_fault}
 use Rattle.fleet.specs.declared.error.PartsError.{PartsError}
 use Rattle.fleet.specs.declared.job.JobSpec.{JobSpec}
 use Rattle.allocation_core.specs.State.{State, first_state, restored}
-use Rattle.core_history.specs.History.{by_fault, checked, checked_in, history_in, is_allocation, parts_in, state_of}
+use Rattle.core_history.specs.History.{are_slots, by_fault, checked, checked_in, history_in, is_allocation, parts_in, slots_of, slots_said, state_of}
+use Rattle.core_history.proofs.Checking.{length-slots_of, whole_said}
 use Rattle.core_history.specs.declared.error.HistoryError.{HistoryError}
-use Rattle.core_history.specs.declared.error.HistoryError.TheVariants.{BadAllocation, BadRound}
+use Rattle.core_history.specs.declared.error.HistoryError.TheVariants.{BadAllocation, BadRound, BadServed}
 use Rattle.replay_lines.specs.AsRuns.{events_of}
 use Rattle.replay_lines.specs.Configurations.{history_of, jobs_in, opened, opened_from, resumed_with, same_jobs}
 use Rattle.replay_lines.specs.Replays.{lines_in}
@@ -30,28 +31,32 @@ last_only : (pairs : List (ℕ × ℕ)) → last_of (only pairs) ≡ pairs
 last_only [] = refl
 last_only (q ∷ pairs) = refl
 
-restored_whole : (fleet : FleetState) (pairs : List (ℕ × ℕ)) (problem : Problem) (plan : Plan) (round : ℕ) → is_allocation fleet pairs ≡ true → IsWhole (restored fleet pairs problem plan round)
-restored_whole fleet pairs problem plan round e =
+restored_whole :
+    (fleet : FleetState) (pairs : List (ℕ × ℕ)) (slots : List ℕ) (problem : Problem) (plan : Plan) (round : ℕ) → is_allocation fleet pairs ≡ true → slots_of fleet (slots_said slots) ≡ slots → IsWhole (restored fleet pairs slots problem plan round)
+restored_whole fleet pairs slots problem plan round e said =
     record {
       allocation = ap (λ (ps : List (ℕ × ℕ)). is_allocation fleet ps) (last_only pairs) ∙ e;
-      is = ap (λ (ps : List (ℕ × ℕ)). restored fleet ps problem plan round) (last_only pairs);
+      is = (λ i. restored fleet (last_only pairs i) (said i) problem plan round);
     }
 
--- what passes both checks
+-- what passes all checks
 record Passes (b : Bool) (m n : State) : Type 0 where
   good : b ≡ true
   same : m ≡ n
 
-passes : (b c : Bool) (m n : State) → ◌≡◌ {A = Result State HistoryError} (cond (not b) (Err BadAllocation) (cond c (Err BadRound) (Ok m))) (Ok n) → Passes b m n
-passes true true m n e = absurd (no_err BadRound n e)
-passes true false m n e = record { good = refl; same = ok_same m n e }
-passes false c m n e = absurd (no_err BadAllocation n e)
+passes : (b c d : Bool) (m n : State) → ◌≡◌ {A = Result State HistoryError} (cond (not b) (Err BadAllocation) (cond c (Err BadRound) (cond (not d) (Err BadServed) (Ok m)))) (Ok n) → Passes b m n
+passes true true d m n e = absurd (no_err BadRound n e)
+passes true false true m n e = record { good = refl; same = ok_same m n e }
+passes true false false m n e = absurd (no_err BadServed n e)
+passes false c d m n e = absurd (no_err BadAllocation n e)
 
 whole_by : (fault : Option PartsError) (h : _) (n : State) → by_fault fault h ≡ Ok n → IsWhole n
 whole_by (Some fault) h n e = absurd (no_err _ n e)
 whole_by None h n e =
-    let p = passes (is_allocation (fleet_of h.fleet) h.allocation) (h.round == 0) (state_of h) n e in
-    subst IsWhole p.same (restored_whole (fleet_of h.fleet) h.allocation h.certificate.instance h.certificate.plan h.round p.good)
+    let fleet = fleet_of h.fleet in
+    let p = passes (is_allocation fleet h.allocation) (h.round == 0) (are_slots fleet h.served) (state_of h) n e in
+    let slots = slots_of fleet h.served in
+    subst IsWhole p.same (restored_whole fleet h.allocation slots h.certificate.instance h.certificate.plan h.round p.good (whole_said fleet slots (length-slots_of fleet h.served)))
 
 history_whole : (h : _) (n : State) → checked_in h ≡ Ok n → IsWhole n
 unfolding checked

@@ -3,14 +3,14 @@ use Rattle.std.specs.Prelude.{◌≡◌, ◌<◌, ℕ, true, List, AllPairs, Som
 use Rattle.fleet.specs.declared.job.JobSpec.{JobSpec}
 use Rattle.allocation_core.specs.Renewed.{renewed}
 use Rattle.allocation_core.specs.State.{State, current_pairs, restored}
-use Rattle.core_history.specs.History.{ReadsBack, history_said, is_allocation}
+use Rattle.core_history.specs.History.{ReadsBack, history_said, is_allocation, slots_of, slots_said}
 use Rattle.replay_lines.specs.Configurations.{opened}
 
 -- A history leaves nothing of the state out: there is no earlier allocation, nobody took anything and nothing is booked, and the
 -- allocation names known targets, in ascending order, and live collectors.
 pub record IsWhole (n : State) : Type 0 where
   pub allocation : is_allocation n.fleet (current_pairs n) ≡ true
-  pub is : restored n.fleet (current_pairs n) n.problem n.plan n.round ≡ n
+  pub is : restored n.fleet (current_pairs n) (slots_of n.fleet (slots_said n.served.slots)) n.problem n.plan n.round ≡ n
 
 -- what a first line opens is such a state
 abbrev pub OpenedAreWhole : Type 0

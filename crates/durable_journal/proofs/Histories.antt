@@ -19,7 +19,8 @@ use Rattle.fleet.specs.declared.known_target.KnownTarget.{KnownTarget}
 use Rattle.fleet_events.proofs.Forms.{target_levels, reach_levels, limits_levels}
 use Rattle.allocation_core.specs.State.{State, current_pairs, restored}
 use Rattle.core_history.specs.Parts.{job_data, known_data, collector_data, fleet_data}
-use Rattle.core_history.specs.History.{ReadsBack, history_data, history_in}
+use Rattle.price_certificate.specs.Document.{document_data}
+use Rattle.core_history.specs.History.{ReadsBack, history_by, history_data, history_in, slots_of, slots_said}
 use Rattle.core_history.specs.declared.error.HistoryError.{HistoryError}
 use Rattle.sd_documents.specs.Config.{config_said}
 use Rattle.sd_documents.specs.Reading.{◌>>=◌}
@@ -48,9 +49,13 @@ fleet_levels : (fleet : FleetState) → depth (fleet_data fleet) ≤ 5
 fleet_levels fleet =
     omega (arith, levels collector_data 3 collector_levels fleet.collectors, levels job_data 1 (λ job. omega arith) fleet.jobs, levels (list_data (list_data number_data)) 2 sources_levels fleet.listed, levels known_data 3 known_levels fleet.known)
 
+rest_levels : (m : State) (slots : Option (List ℕ)) → depth (history_by (list_data pair_data (current_pairs m)) (document_data m.problem m.plan.pairs m.plan.item_prices m.plan.bin_prices) (fleet_data m.fleet) (number_data m.round) slots) ≤ 6
+rest_levels m None = omega (arith, levels pair_data 1 (λ q. omega arith) (current_pairs m), levels-document_data m.problem m.plan.pairs m.plan.item_prices m.plan.bin_prices, fleet_levels m.fleet)
+rest_levels m (Some slots) =
+    omega (arith, levels pair_data 1 (λ q. omega arith) (current_pairs m), levels-document_data m.problem m.plan.pairs m.plan.item_prices m.plan.bin_prices, fleet_levels m.fleet, numbers_levels slots)
+
 history_levels : (m : State) → depth (history_data m) ≤ 6
-history_levels m =
-    omega (arith, levels pair_data 1 (λ q. omega arith) (current_pairs m), levels-document_data m.problem m.plan.pairs m.plan.item_prices m.plan.bin_prices, fleet_levels m.fleet)
+history_levels m = rest_levels m (slots_said m.served.slots)
 
 renewed_levels : (m : State) (d r : Data) → depth d ≤ max_depth → with_history m d ≡ Some r → depth r ≤ max_depth
 renewed_levels m null r h e = cc
@@ -95,8 +100,8 @@ opened_renewed document m (object ms) r before e = ap opened_data (sym e) ∙ op
 pub renewed_opens : (line document : List ℕ) (m : State) (d r : Data) → json_of document ≡ Some d → with_history m d ≡ Some r → SaysMarked r line → opened line ≡ goes_on m document
 renewed_opens line document m d r before e says = says_opens line r (renewed_levels m d r (shallow document d before) e) says ∙ opened_renewed document m d r before e
 
-pub again_by : (m : State) (document : List ℕ) (said : Result State HistoryError) (jobs : List JobSpec) → said ≡ Ok (restored m.fleet (current_pairs m) m.problem m.plan m.round) → jobs_in document ≡ Some jobs → same_jobs m.fleet.jobs jobs ≡ true
-    → option_and_then (λ jobs. resumed_with jobs said) (jobs_in document) ≡ Some (restored m.fleet (current_pairs m) m.problem m.plan m.round)
+pub again_by : (m : State) (document : List ℕ) (said : Result State HistoryError) (jobs : List JobSpec) → said ≡ Ok (restored m.fleet (current_pairs m) (slots_of m.fleet (slots_said m.served.slots)) m.problem m.plan m.round) → jobs_in document ≡ Some jobs → same_jobs m.fleet.jobs jobs ≡ true
+    → option_and_then (λ jobs. resumed_with jobs said) (jobs_in document) ≡ Some (restored m.fleet (current_pairs m) (slots_of m.fleet (slots_said m.served.slots)) m.problem m.plan m.round)
 again_by m document said jobs reads jobs_are same =
     ap (λ (o : Option (List JobSpec)). option_and_then (λ js. resumed_with js said) o) jobs_are ∙ ap (resumed_with jobs) reads
-    ∙ ap (λ b. if b then Some (restored m.fleet (current_pairs m) m.problem m.plan m.round) else None) same
+    ∙ ap (λ b. if b then Some (restored m.fleet (current_pairs m) (slots_of m.fleet (slots_said m.served.slots)) m.problem m.plan m.round) else None) same

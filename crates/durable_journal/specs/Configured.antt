@@ -4,7 +4,7 @@ use Rattle.serde_json.specs.Data.{Data, object, put}
 use Rattle.serde_json.specs.Find.{as_object}
 use Rattle.serde_json.specs.Written.{compact_text, has_float}
 use Rattle.allocation_core.specs.State.{State, current_pairs, restored}
-use Rattle.core_history.specs.History.{history_data, history_in, is_allocation}
+use Rattle.core_history.specs.History.{history_data, history_in, is_allocation, slots_of, slots_said}
 use Rattle.fleet.specs.declared.job.JobSpec.{JobSpec}
 use Rattle.replay_lines.specs.Configurations.{jobs_in, opened, resumed_with, same_jobs}
 
@@ -28,4 +28,4 @@ goes_on m document = option_and_then (λ jobs. resumed_with jobs (history_in (hi
 abbrev pub OpensAgain : State → List ℕ → List ℕ → Type 0
 OpensAgain m document line =
     (jobs : List JobSpec) → is_allocation m.fleet (current_pairs m) ≡ true → jobs_in document ≡ Some jobs → same_jobs m.fleet.jobs jobs ≡ true
-    → opened line ≡ Some (restored m.fleet (current_pairs m) m.problem m.plan m.round)
+    → opened line ≡ Some (restored m.fleet (current_pairs m) (slots_of m.fleet (slots_said m.served.slots)) m.problem m.plan m.round)
