@@ -1,3 +1,3 @@
 mod Forms
-mod Checking
+pub mod Checking
 mod RenewedWhole
