@@ -5,7 +5,7 @@ use Rattle.scrape_books.specs.Books.{samples_of}
 use Rattle.fleet_events.specs.declared.report.Report.{Report as AnyReport}
 use Rattle.fleet_events.specs.declared.event.Event.TheVariants.{Report}
 use Rattle.fleet_events.specs.declared.answer.Answer.{Answer}
-use Rattle.fleet_events.specs.declared.answer.Answer.TheVariants.{Discovered, Joined, Left, Draining, LimitsSet, Published, RoundOpen, Taken, Booked, Not}
+use Rattle.fleet_events.specs.declared.answer.Answer.TheVariants.{Discovered, Joined, Left, Draining, LimitsSet, Published, RoundOpen, Taken, Served, Released, Booked, Not}
 use Rattle.allocation_core.specs.Steps.{gained}
 use Rattle.alloc_desk.specs.Gains.{is_booked}
 
@@ -20,4 +20,6 @@ report_gains report LimitsSet = refl
 report_gains report (Published number) = refl
 report_gains report (RoundOpen round) = refl
 report_gains report (Taken number round held) = refl
+report_gains report (Served number round listed left_out) = refl
+report_gains report (Released count) = refl
 report_gains report (Not refusal) = refl

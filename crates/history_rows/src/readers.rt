@@ -59,6 +59,7 @@ pub(crate) fn fault(alloc: Global, error: HistoryError) -> Result<String, AllocE
         HistoryError::RepeatedTarget => "RepeatedTarget",
         HistoryError::BadAllocation => "BadAllocation",
         HistoryError::BadRound => "BadRound",
+        HistoryError::BadServed => "BadServed",
         HistoryError::Memory => return Err(AllocError),
     };
     String::from_str(alloc, name)
