@@ -5,7 +5,7 @@ use Rattle.alloc_desk.specs.declared.entry.Entry.{Entry}
 use Rattle.allocation_core.specs.State.{State}
 use Rattle.allocation_core.specs.Runs.{state_of}
 use Rattle.fleet_events.specs.declared.answer.Answer.{Answer}
-use Rattle.fleet_events.specs.declared.answer.Answer.TheVariants.{Discovered, Joined, Left, Draining, LimitsSet, Published, RoundOpen, Taken, Booked, Not}
+use Rattle.fleet_events.specs.declared.answer.Answer.TheVariants.{Discovered, Joined, Left, Draining, LimitsSet, Published, RoundOpen, Taken, Served, Released, Booked, Not}
 use Rattle.fleet_events.specs.declared.event.Event.{Event}
 
 abbrev pub is_kept : Answer → Bool
@@ -17,6 +17,8 @@ is_kept LimitsSet = true
 is_kept (Published number) = true
 is_kept (RoundOpen round) = true
 is_kept (Taken allocation round held) = true
+is_kept (Served allocation round listed left_out) = true
+is_kept (Released count) = true
 is_kept Booked = true
 is_kept (Not refusal) = false
 
