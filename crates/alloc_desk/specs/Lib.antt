@@ -3,6 +3,7 @@ pub mod Changed
 pub mod Counts
 pub mod Gains
 pub mod History
+pub mod Idle
 pub mod Reached
 pub mod Reallocating
 pub mod Reallocation

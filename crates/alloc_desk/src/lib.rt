@@ -11,6 +11,7 @@ mod closed;
 mod desk;
 mod entry;
 mod gains;
+mod idle;
 mod laws;
 mod limits;
 mod name;

@@ -21,7 +21,7 @@ use Rattle.fleet_events.specs.declared.event.Event.{Event}
 use Rattle.fleet_events.specs.declared.event.Event.TheVariants.{Discover, Join, Leave, Drain, SetLimits, Install, NextRound, Take, Serve, Release, Report}
 use Rattle.fleet_events.specs.declared.answer.Answer.{Answer}
 use Rattle.fleet_events.specs.declared.answer.Answer.TheVariants.{Discovered, Joined, Left, Draining, LimitsSet, Published, RoundOpen, Taken, Served, Released, Booked, Not}
-use Rattle.fleet_events.specs.declared.refusal.Refusal.TheVariants.{UnknownJob, UnknownCollector, Unchanged, NumbersSpent, RoundsSpent, NotTaken, UnknownTarget, NotHolder, StillServed, RoundClosed, RoundNotOpen, AlreadyBooked}
+use Rattle.fleet_events.specs.declared.refusal.Refusal.TheVariants.{UnknownCollector, Unchanged, NumbersSpent, RoundsSpent, NotTaken, UnknownTarget, NotHolder, StillServed, RoundClosed, RoundNotOpen, AlreadyBooked}
 use Rattle.handover.specs.declared.holders.TheConstants.{LAST_NUMBER}
 use Rattle.allocation_core.specs.declared.limits.TheConstants.{LAST_ROUND}
 use Rattle.allocation_core.specs.State.{State, allocation_at, current_of, current_pairs, held_by, instance_at, left_out_at, list_at, was_given}
@@ -73,9 +73,9 @@ take_answer : (b : Bool) (number round : ℕ) (held : List ℕ) → IsTrue (is_t
 take_answer true number round held = refl
 take_answer false number round held = refl
 
-given_by : (is : Answer → Bool) (b : Bool) (answer : Answer) → IsTrue (is answer) → IsTrue (is (Not UnknownCollector)) → IsTrue (is (answer_by (cond b None (Some UnknownCollector)) answer))
-given_by is true answer yes no = yes
-given_by is false answer yes no = no
+given_by : (fits : Answer → Bool) (b : Bool) (answer : Answer) → IsTrue (fits answer) → IsTrue (fits (Not UnknownCollector)) → IsTrue (fits (answer_by (cond b None (Some UnknownCollector)) answer))
+given_by fits true answer granted refused = granted
+given_by fits false answer granted refused = refused
 
 serve_answer : (m : State) (id : ℕ) (job : Option ℕ) (number round : ℕ) (listed left_out : List ℕ) → IsTrue (is_serve_answer (answer_by (unless_served m id job) (Served number round listed left_out)))
 serve_answer m id None number round listed left_out = refl

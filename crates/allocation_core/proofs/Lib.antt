@@ -3,6 +3,7 @@ pub mod AnswerLemmas
 pub mod BestLemmas
 pub mod BookedLemmas
 pub mod FleetSteps
+pub mod IdleLemmas
 pub mod InstalledLemmas
 pub mod ListLemmas
 pub mod RenewedLemmas

@@ -1,6 +1,6 @@
 -- The slots tell the lists that were served last, over every list of events.
-use Rattle.std.proofs.Common.{◌≡◌, ℕ, ◌<◌, List, [], ◌∷◌, Bool, true, false, Option, Some, None, cond, eqb, length, refl, sym, ap, subst, ◌∙◌}
-use Rattle.std.specs.Prelude.{is_some, if◌then◌else◌, filter, not, ◌&&◌, ◌==◌}
+use Rattle.std.proofs.Common.{◌≡◌, ℕ, List, [], ◌∷◌, Bool, true, false, Option, Some, None, refl, sym, ap, subst, ◌∙◌}
+use Rattle.std.specs.Prelude.{is_some, if◌then◌else◌, filter, not, ◌&&◌}
 use Rattle.fleet.specs.Live.{is_in}
 use Rattle.fleet.specs.Orderly.{is_of}
 use Rattle.fleet.specs.declared.job.JobSpec.{JobSpec}
@@ -8,7 +8,7 @@ use Rattle.fleet.specs.declared.known_target.KnownTarget.{KnownTarget}
 use Rattle.fleet_events.specs.declared.event.Event.{Event}
 use Rattle.fleet_events.specs.declared.event.Event.TheVariants.{Discover, Join, Leave, Drain, SetLimits, Install, NextRound, Take, Serve, Release, Report}
 use Rattle.fleet_events.specs.declared.answer.Answer.{Answer}
-use Rattle.fleet_events.specs.declared.answer.Answer.TheVariants.{Served, Released, Not}
+use Rattle.fleet_events.specs.declared.answer.Answer.TheVariants.{Served, Not}
 use Rattle.fleet_events.specs.declared.refusal.Refusal.{Refusal}
 use Rattle.served_lists.specs.Served.{is_free}
 use Rattle.served_lists.specs.Told.{Tells, no_lists}
@@ -18,7 +18,7 @@ use Rattle.allocation_core.specs.Steps.{answer_by, answer_of, changed, granted, 
 use Rattle.allocation_core.specs.Runs.{state_of}
 use Rattle.allocation_core.specs.Kept.{IsKept}
 use Rattle.allocation_core.specs.Lists.{AlwaysDisjoint, AlwaysWhole, IsWhole, last_lists, lists_at, lists_by, lists_from}
-use Rattle.allocation_core.proofs.StepLemmas.{given_when, listing_grown, run_kept, served_given, start_kept, step_kept}
+use Rattle.allocation_core.proofs.StepLemmas.{given_when, listing_grown, served_given, start_kept, step_kept}
 
 -- the state's slots tell these lists
 abbrev TellsAt : State → (ℕ → ℕ → List ℕ) → Type 0

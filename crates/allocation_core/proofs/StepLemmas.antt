@@ -16,7 +16,7 @@ use Rattle.fleet.specs.Jobs.{job_named}
 use Rattle.fleet.specs.KnownTarget.{known_with, same_known, with_known}
 use Rattle.fleet.specs.declared.known_target.KnownTarget.{KnownTarget}
 use Rattle.label_sets.specs.Target.{FinalTarget}
-use Rattle.served_lists.specs.Served.{Served as Lists, without_list}
+use Rattle.served_lists.specs.Served.{Served as Lists, with_list, without_list}
 use Rattle.served_lists.proofs.SlotLemmas.{length-with_list, length-without_list, with_list-all, without_list-all}
 use Rattle.fleet.specs.Changes.{join_refusal, list_refusal, relisted, with_collector, with_draining, with_draining_at, with_limits, with_limits_at, with_listing, without_collector}
 use Rattle.fleet.specs.Fleet.{FleetState, first_fleet}
@@ -135,15 +135,17 @@ given_by false e = cc
 pub served_given : (m : State) (id job : ℕ) → unless_served m id (Some job) ≡ None → was_given m id ≡ true
 served_given m id job e = given_by (was_given m id) e
 
+pub with_list_kept : (m : State) (id job number : ℕ) (held : List ℕ) → IsKept m → was_given m id ≡ true → IsKept (record m { served = with_list m.fleet.known m.served id job number held })
+with_list_kept m id job number held kept given =
+    lists_kept m (with_list m.fleet.known m.served id job number held) kept
+    (omega (arith, length-with_list m.fleet.known m.served id job number held))
+    (with_list-all (λ (c : ℕ). c ≤ m.fleet.last_collector) m.fleet.known m.served id job number held (omega arith) (given_when m id given).1 kept.given_slots)
+
 serve_kept : (m : State) (id : ℕ) (job : Option ℕ) → IsKept m → unless_served m id job ≡ None → IsKept (record m { served = served_at m id job })
 serve_kept m id None kept free = kept
-serve_kept m id (Some job) kept free =
-    let given = given_when m id (served_given m id job free) in
-    lists_kept m (served_at m id (Some job)) kept
-    (omega (arith, length-with_list m.fleet.known m.served id job (current_of m) (held_live m id)))
-    (with_list-all (λ (c : ℕ). c ≤ m.fleet.last_collector) m.fleet.known m.served id job (current_of m) (held_live m id) (omega arith) given.1 kept.given_slots)
+serve_kept m id (Some job) kept free = with_list_kept m id job (current_of m) (held_live m id) kept (served_given m id job free)
 
-release_kept : (m : State) (id : ℕ) (job : Option ℕ) → IsKept m → IsKept (record m { served = without_list m.fleet.known m.served id job })
+pub release_kept : (m : State) (id : ℕ) (job : Option ℕ) → IsKept m → IsKept (record m { served = without_list m.fleet.known m.served id job })
 release_kept m id job kept =
     lists_kept m (without_list m.fleet.known m.served id job) kept
     (omega (arith, length-without_list m.fleet.known m.served id job, kept.few_slots))

@@ -1,6 +1,7 @@
 pub mod Answers
 pub mod Best
 pub mod Booked
+pub mod Idle
 pub mod Installed
 pub mod Kept
 pub mod Lists

@@ -1,5 +1,5 @@
 -- The allocator that goes on under a new list of jobs.
-use Rattle.std.specs.Prelude.{◌≡◌, ℕ, ◌+◌, nat_lt, if◌then◌else◌, List, [], Option, Some, None}
+use Rattle.std.specs.Prelude.{◌≡◌, ◌+◌, nat_lt, if◌then◌else◌, List, [], Option, Some, None}
 use Rattle.handover.specs.Handover.{only}
 use Rattle.fleet.specs.declared.job.JobSpec.{JobSpec}
 use Rattle.fleet_renewal.specs.Renewed.{carried, fleet_refusal, renewed_fleet, renewed_slots}

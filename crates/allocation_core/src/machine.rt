@@ -10,6 +10,7 @@ ghost use Rattle.allocation_core.specs.Answers.{checks_first, needs_no_memory};
 ghost use Rattle.allocation_core.specs.Installed.{IsAnswerToCertified};
 ghost use Rattle.allocation_core.specs.Kept.{IsKept};
 
+mod again;
 mod discovering;
 mod installing;
 mod joining;

@@ -1,8 +1,9 @@
 -- What the checks of a history come to.
-use Rattle.std.proofs.Common.{◌≡◌, ◌==◌, ◌<◌, ◌≤◌, ◌+◌, ◌-◌, ℕ, suc, Bool, true, false, not, cond, ◌&&◌, List, [], ◌∷◌, map, length, get_or, All, AllPairs, Option, Some, None, option_map, option_and_then, Result, Ok, Err, refl, sym, ap, ap₂, ◌∙◌, ne_eqb, arith}
+use Rattle.std.proofs.Common.{◌≡◌, ◌==◌, ◌<◌, ◌≤◌, ◌+◌, ◌-◌, ℕ, zero, suc, Bool, true, false, not, cond, ◌&&◌, List, [], ◌∷◌, map, length, get_or, All, AllPairs, Option, Some, None, option_map, option_and_then, Result, Ok, Err, refl, sym, ap, ap₂, ◌∙◌, ne_eqb, arith}
 use Rattle.std.specs.Prelude.{nat_le, replicate}
 use Rattle.std.specs.List.{list_all}
-use Rattle.std.proofs.lemmas.Bool.{and_from, eqb-true, le-leb}
+use Rattle.std.proofs.lemmas.Bool.{and_from, and_parts, eqb-true, le-leb, leb-true}
+use Rattle.std.proofs.lemmas.List.Elements.{All-cons, All-nil}
 use Rattle.std.proofs.lemmas.List.{get_or-map, length-map}
 use Rattle.std.proofs.lemmas.List.Kept.{AllPairs-from_increasing}
 use Rattle.lists.specs.Rising.{rises}
@@ -49,6 +50,33 @@ fits_by false fleet slots fit =
 
 pub said_fits : (fleet : FleetState) (slots : List ℕ) → Fit fleet slots → are_slots fleet (slots_said slots) ≡ true
 said_fits fleet slots fit = fits_by (list_all (λ (collector : ℕ). collector == 0) slots) fleet slots fit
+
+-- and what is said fits where it is checked
+length-zeros : (n : ℕ) → length {A = ℕ} (replicate n 0) ≡ n
+length-zeros zero = refl
+length-zeros (suc n) = ap suc (length-zeros n)
+
+pub slots_few : (fleet : FleetState) (served : Option (List ℕ)) → are_slots fleet served ≡ true → length (slots_of fleet served) ≤ length fleet.known
+slots_few fleet None fits = omega (arith, length-zeros (length fleet.known))
+slots_few fleet (Some slots) fits =
+    let both = and_parts (nat_le (length slots) (length fleet.known)) (list_all (λ (collector : ℕ). nat_le collector fleet.last_collector) slots) fits in
+    leb-true (length slots) (length fleet.known) both.0
+
+zeros_given : (last n : ℕ) → All (λ (collector : ℕ). collector ≤ last) (replicate n 0)
+zeros_given last zero = All-nil (λ (collector : ℕ). collector ≤ last)
+zeros_given last (suc n) = All-cons (λ (collector : ℕ). collector ≤ last) 0 (replicate n 0) (omega arith) (zeros_given last n)
+
+each_given : (last : ℕ) (slots : List ℕ) → list_all (λ (collector : ℕ). nat_le collector last) slots ≡ true → All (λ (collector : ℕ). collector ≤ last) slots
+each_given last [] all = All-nil (λ (collector : ℕ). collector ≤ last)
+each_given last (slot ∷ slots) all =
+    let both = and_parts (nat_le slot last) (list_all (λ (collector : ℕ). nat_le collector last) slots) all in
+    All-cons (λ (collector : ℕ). collector ≤ last) slot slots (leb-true slot last both.0) (each_given last slots both.1)
+
+pub slots_given : (fleet : FleetState) (served : Option (List ℕ)) → are_slots fleet served ≡ true → All (λ (collector : ℕ). collector ≤ fleet.last_collector) (slots_of fleet served)
+slots_given fleet None fits = zeros_given fleet.last_collector (length fleet.known)
+slots_given fleet (Some slots) fits =
+    let both = and_parts (nat_le (length slots) (length fleet.known)) (list_all (λ (collector : ℕ). nat_le collector fleet.last_collector) slots) fits in
+    each_given fleet.last_collector slots both.1
 
 zero_by : (is rest : Bool) (slot : ℕ) (slots zeros : List ℕ) → slot == 0 ≡ is → (is && rest) ≡ true → (rest ≡ true → slots ≡ zeros) → slot ∷ slots ≡ 0 ∷ zeros
 zero_by true rest slot slots zeros at both later = ap₂ (λ (s : ℕ) (ss : List ℕ). s ∷ ss) (eqb-true slot 0 at) (later both)

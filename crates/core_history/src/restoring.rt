@@ -63,11 +63,7 @@ fn were_given(collectors: &[u32], last: u32) -> bool
 }
 
 /// The slots; no list has a known target where nothing is said.
-fn slots_of(
-    alloc: Global,
-    fleet: &Fleet,
-    served: Option<List<u32>>,
-) -> Result<Vec<u32>, AllocError>
+fn slots_of(alloc: Global, fleet: &Fleet, served: Option<List<u32>>) -> Result<Vec<u32>, AllocError>
     ensures { IfOk result (λ v. v.items ≡ slots_of fleet.now served) }
 {
     match served {

@@ -2,3 +2,4 @@ pub mod SlotLemmas
 pub mod Telling
 pub mod Anew
 pub mod NumberLemmas
+pub mod SameLemmas

@@ -6,6 +6,7 @@
 
 mod laws;
 mod list;
+mod same;
 mod served_lists;
 mod slots;
 

@@ -1,9 +1,10 @@
 //! The lists that were served last.
-ghost use Rattle.std.specs.Prelude.{◌≡◌, ◌≤◌, [], length, IfOk, OnOk, OnErr};
+ghost use Rattle.std.specs.Prelude.{◌≡◌, ◌≤◌, [], length, IfOk, IsTrue, OnOk, OnErr};
 ghost use Rattle.fleet.specs.declared.limits.TheConstants.{MOST_KNOWN_TARGETS};
 ghost use Rattle.served_lists.specs.Served.{count_had, left_out_of, listed_of, nothing_served, number_of, slot_of, with_list, with_number, without_list};
 
 use crate::list::{ServedList, list_for};
+use crate::same::slots_stay;
 use crate::slots::{follow, let_go, make_room, slot_of};
 use crate::{CollectorId, TargetId};
 use fleet::KnownTarget;
@@ -91,6 +92,26 @@ impl ServedLists {
         list_for(self.alloc, known, slots, collector, job, held)
     }
 
+    /// Whether a collector that holds these targets, served its list of a job of the allocation of a number, would have the list
+    /// that it has, so that nothing changes.
+    pub fn is_unchanged(
+        &self,
+        known: &[KnownTarget],
+        collector: CollectorId,
+        job: usize,
+        number: u32,
+        held: &[TargetId],
+    ) -> Result<bool, AllocError>
+        ensures same { IfOk result (λ same. IsTrue same → with_list known.now self.now collector job number held.now ≡ self.now) }
+        ensures changed { IfOk result (λ same. with_list known.now self.now collector job number held.now ≡ self.now → IsTrue same) }
+    {
+        let slots = self.slots.as_slice();
+        if slots.len() != known.len() || self.number(collector, job) != Some(number) {
+            return Ok(false);
+        }
+        slots_stay(self.alloc, known, slots, collector, job, held)
+    }
+
     /// A collector that holds these targets is served its list of a job, of the allocation of a number. It has what no list of
     /// another collector has. Without memory nothing changes.
     pub fn serve(
@@ -107,7 +128,8 @@ impl ServedLists {
         ensures state { OnOk result (self.new ≡ with_list known.now self.old collector job number held.now) }
         ensures err { OnErr result (self.new ≡ self.old) }
     {
-        let list = self.list(known, collector, job, held)?;
+        let slots = self.slots.as_slice();
+        let list = list_for(self.alloc, known, slots, collector, job, held)?;
         make_room(&mut self.slots, known.len())?;
         set_number(&mut self.numbers, collector, job, number)?;
         let targets = list.listed.as_slice();

@@ -4,16 +4,18 @@ ghost use Rattle.std.specs.Fn.{FnOnceReturnsAt};
 ghost use Rattle.fleet.specs.Fleet.{id_named};
 ghost use Rattle.allocation_core.specs.State.{instance_at};
 ghost use Rattle.alloc_desk.specs.Changed.{changed_in};
+ghost use Rattle.alloc_desk.specs.Idle.{IsIdleAt};
 ghost use Rattle.alloc_desk.specs.Reached.{Reached};
 ghost use Rattle.alloc_desk.specs.Views.{numbered_of, shares_of, target_of, view_of};
 
 use crate::desk::Desk;
 use crate::entry::{Entry, entries};
+use crate::idle::idle;
 use crate::name::DeskName;
 use crate::pass::Pass;
 use crate::record::Record;
 use crate::view::{NumberedTarget, Share, View, numbered, shares, shown, target};
-use allocation_core::{CollectorId, TargetId};
+use allocation_core::{Answer, CollectorId, Event, TargetId};
 use label_sets::Target;
 use lists::List;
 use price_certificate::{Instance, Plan};
@@ -147,5 +149,19 @@ impl<L: Ledger, B: Ledger, N: DeskName> Desk<L, B, N> {
         ensures same { pass.new ≡ pass.old }
     {
         self.read(rt, pass, |record| record.is_changed())
+    }
+
+    /// What an event is answered that would change nothing now, behind how many entries of the journal. There is none where it may change
+    /// something.
+    pub fn unchanged(
+        &self,
+        rt: &impl Wait,
+        pass: &mut Pass<L, B, N>,
+        event: &Event,
+    ) -> Result<Option<(u64, Answer)>, AllocError>
+        ensures read { IfOk result (λ o. Reached N.opening pass.old (λ h. IsIdleAt event.now h o)) }
+        ensures same { pass.new ≡ pass.old }
+    {
+        self.read(rt, pass, |record| idle(record, event))
     }
 }

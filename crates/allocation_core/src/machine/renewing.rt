@@ -66,6 +66,7 @@ impl Core {
         ensures holders { IfOk result (λ r. r.1 ≡ carried_over (carried self.now.fleet (current_pairs self.now) self.now.served.slots jobs.items)) }
         ensures served { IfOk result (λ r. r.2 ≡ record { slots = renewed_slots self.now.fleet (current_pairs self.now) self.now.served.slots jobs.items; numbers = [] }) }
         ensures fit { IfOk result (λ r. length r.2.slots ≡ length r.0.known) }
+        ensures given { IfOk result (λ r. All (λ (collector : ℕ). collector ≤ r.0.last_collector) r.2.slots) }
         ensures kept { IfOk result (λ r. IsFleet r.0) }
         ensures granted { OnOk result (fleet_refusal self.now.fleet jobs.items ≡ None) }
     {

@@ -3,7 +3,9 @@ ghost use Rattle.std.specs.Prelude.{◌≡◌, None, IfOk, OnOk, OnErr};
 ghost use Rattle.allocation_core.specs.Steps.{answer_of, number_for, refusal_of, state_after, report_refusal, round_refusal, slot_refusal};
 
 use super::Core;
-use fleet_events::{AllocationNumber, Answer, CollectorId, Event, Refusal, Report, Round, TargetId};
+use fleet_events::{
+    AllocationNumber, Answer, CollectorId, Event, Refusal, Report, Round, TargetId,
+};
 use scrape_books::Entry;
 use std::alloc::AllocError;
 

@@ -1,8 +1,7 @@
 //! Lists that are served, and let go.
-ghost use Rattle.std.specs.Prelude.{◌≡◌, List, Option, None, Some, IfErr, IfOk, OnOk, OnErr};
-ghost use Rattle.served_lists.specs.Served.{Served as Lists};
+ghost use Rattle.std.specs.Prelude.{◌≡◌, None, Some, true, IfOk, OnOk, OnErr};
 ghost use Rattle.allocation_core.specs.State.{held_live, left_out_at, list_at, served_at, was_given};
-ghost use Rattle.allocation_core.specs.Steps.{answer_of, job_meant, place_of, refusal_of, state_after, unless_given, unless_released, unless_served};
+ghost use Rattle.allocation_core.specs.Steps.{answer_of, job_meant, place_of, refusal_of, state_after};
 ghost use Rattle.fleet_events.specs.declared.event.Event.TheVariants.{Release, Serve};
 
 use super::Core;
@@ -74,7 +73,7 @@ impl Core {
     }
 
     /// What a live collector holds; nothing where it has left.
-    fn held_live(&self, id: CollectorId) -> Result<List<TargetId>, AllocError>
+    pub(super) fn held_live(&self, id: CollectorId) -> Result<List<TargetId>, AllocError>
         ensures { IfOk result (λ l. l ≡ held_live self.now id) }
     {
         if !self.fleet.is_joined(id) {
@@ -113,14 +112,14 @@ impl Core {
     }
 
     /// The place of the job of a name.
-    fn place_of(&self, name: &str) -> Option<usize>
+    pub(super) fn place_of(&self, name: &str) -> Option<usize>
         ensures { result ≡ place_of self.now name.now }
     {
         job_named(self.fleet.jobs(), name)
     }
 
     /// Whether a collector joined under the number once.
-    fn was_given(&self, id: CollectorId) -> bool
+    pub(super) fn was_given(&self, id: CollectorId) -> bool
         ensures { result ≡ was_given self.now id }
     {
         0 < id && id <= self.fleet.last_collector()
