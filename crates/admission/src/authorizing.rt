@@ -31,8 +31,13 @@ pub(crate) fn is_allowed(
         | Ask::Live
         | Ask::Ready
         | Ask::Metrics => true,
-        Ask::Join | Ask::Leave(_) | Ask::Drain(_) | Ask::SetLimits(_) | Ask::Reload | Ask::Quit =>
-            holds(admin, None, token),
+        Ask::Join
+        | Ask::Leave(_)
+        | Ask::Drain(_)
+        | Ask::Release(_)
+        | Ask::SetLimits(_)
+        | Ask::Reload
+        | Ask::Quit => holds(admin, None, token),
         Ask::CollectorTargets { job: _, name } => {
             holds(collectors, Some(name.as_str()), token) || is_admin(admin, token)
         }

@@ -6,8 +6,8 @@ use lists::Text;
 use sd_routes::{Notice, Place, RequestError, Said};
 use std::alloc::{AllocError, Global};
 
-/// What a text says: `answer ANSWER`, `refused NAME`, `page TEXT`, `taken ALLOCATION ROUND GROUPS`, `metrics TEXT`,
-/// `document TEXT`, `misshapen MEMBER`, `reloaded TEXT` or `notice NAME`.
+/// What a text says: `answer ANSWER`, `refused NAME`, `page TEXT`, `taken ALLOCATION ROUND GROUPS`, `served ALLOCATION ROUND LEFT GROUPS`,
+/// `metrics TEXT`, `document TEXT`, `misshapen MEMBER`, `reloaded TEXT` or `notice NAME`.
 pub(crate) fn said_in(alloc: Global, text: &str) -> Result<Option<Said>, AllocError> {
     let (word, rest) = first_word(text);
     match word {
@@ -17,6 +17,7 @@ pub(crate) fn said_in(alloc: Global, text: &str) -> Result<Option<Said>, AllocEr
         "misshapen" => Ok(Some(Said::Misshapen(Text::from_str(alloc, rest)?))),
         "reloaded" => Ok(Some(Said::Reloaded(Text::from_str(alloc, rest)?))),
         "taken" => Ok(Some(taken(alloc, rest)?)),
+        "served" => Ok(Some(served(alloc, rest)?)),
         "answer" => Ok(answer(rest)),
         "refused" => Ok(refused(rest)),
         "notice" => Ok(notice(rest)),
@@ -34,11 +35,24 @@ fn taken(alloc: Global, text: &str) -> Result<Said, AllocError> {
     })
 }
 
+fn served(alloc: Global, text: &str) -> Result<Said, AllocError> {
+    let (allocation, rest) = first_word(text);
+    let (round, rest) = first_word(rest);
+    let (left_out, groups) = first_word(rest);
+    Ok(Said::Served {
+        allocation: number(allocation),
+        round: number(round),
+        left_out: number(left_out),
+        groups: Bytes::from_string(String::from_str(alloc, groups)?)?,
+    })
+}
+
 fn answer(text: &str) -> Option<Said> {
     let (name, rest) = first_word(text);
     let answer = match name {
         "Joined" => Answer::Joined(number(rest)),
         "Draining" => Answer::Draining,
+        "Released" => Answer::Released(number(rest)),
         "AlreadyDraining" => Answer::Not(Refusal::AlreadyDraining),
         "AlreadyJoined" => Answer::Not(Refusal::AlreadyJoined(number(rest))),
         "UnknownCollector" => Answer::Not(Refusal::UnknownCollector),

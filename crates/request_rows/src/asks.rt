@@ -91,6 +91,7 @@ fn spelled(alloc: Global, ask: &Ask) -> Result<String, AllocError> {
         Ask::Join => String::from_str(alloc, "join"),
         Ask::Leave(collector) => format!(in alloc; "leave {collector}"),
         Ask::Drain(collector) => format!(in alloc; "drain {collector}"),
+        Ask::Release(collector) => format!(in alloc; "release {collector}"),
         Ask::SetLimits(collector) => format!(in alloc; "limits of {collector}"),
         Ask::Report => String::from_str(alloc, "report"),
         Ask::Healthy => String::from_str(alloc, "healthy"),

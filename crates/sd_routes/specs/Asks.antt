@@ -6,7 +6,7 @@ use Rattle.sd_routes.specs.Queries.{collector_in}
 use Rattle.sd_routes.specs.Segments.{second_segment, text_in}
 use Rattle.sd_routes.specs.Table.{place_of, method_of}
 use Rattle.sd_routes.specs.declared.ask.Ask.{Ask}
-use Rattle.sd_routes.specs.declared.ask.Ask.TheVariants.{Status, ScrapeConfigs, Jobs, JobTargets, CollectorTargets, Uncovered, Certificate, Join, Leave, Drain, SetLimits, Report, Healthy, Live, Ready, Metrics, Reload, Quit}
+use Rattle.sd_routes.specs.declared.ask.Ask.TheVariants.{Status, ScrapeConfigs, Jobs, JobTargets, CollectorTargets, Uncovered, Certificate, Join, Leave, Drain, Release, SetLimits, Report, Healthy, Live, Ready, Metrics, Reload, Quit}
 use Rattle.sd_routes.specs.declared.place.Place.{Place}
 use Rattle.sd_routes.specs.declared.place.Place.TheVariants as place
 use Rattle.sd_routes.specs.declared.request_error.RequestError.{RequestError}
@@ -67,6 +67,7 @@ asked_at place.Certificate path query = Ok Certificate
 asked_at place.Collectors path query = Ok Join
 asked_at place.Collector path query = asked_of Leave (id_in path)
 asked_at place.Drain path query = asked_of Drain (id_in path)
+asked_at place.Release path query = asked_of Release (id_in path)
 asked_at place.Limits path query = asked_of SetLimits (id_in path)
 asked_at place.Reports path query = Ok Report
 asked_at place.Healthy path query = Ok Healthy

@@ -6,7 +6,7 @@ use Rattle.json_values.specs.Spelling.{member_in}
 use Rattle.json_values.specs.Texts.{json_of}
 use Rattle.fleet_events.specs.Reading.{report_in}
 use Rattle.fleet_events.specs.declared.event.Event.{Event}
-use Rattle.fleet_events.specs.declared.event.Event.TheVariants.{Join, Leave, Drain, SetLimits}
+use Rattle.fleet_events.specs.declared.event.Event.TheVariants.{Join, Leave, Drain, SetLimits, Release}
 use Rattle.reach_rules.specs.OwnLimits.{LimitList, limits_in}
 use Rattle.reach_rules.specs.Spelling.{rules_spelled}
 use Rattle.reach_rules.specs.declared.reach.TheConstants.{MOST_RULES}
@@ -99,6 +99,7 @@ posted asked (Some d) = an_event (event_in asked d)
 abbrev pub event_said : Ask → List ℕ → Result (Option Event) RequestError
 event_said (ask.Leave collector) body = Ok (Some (Leave collector))
 event_said (ask.Drain collector) body = Ok (Some (Drain collector))
+event_said (ask.Release collector) body = Ok (Some (Release collector None))
 event_said ask.Join body = posted ask.Join (json_of body)
 event_said (ask.SetLimits collector) body = posted (ask.SetLimits collector) (json_of body)
 event_said ask.Report body = posted ask.Report (json_of body)

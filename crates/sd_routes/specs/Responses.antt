@@ -20,7 +20,7 @@ use Rattle.sd_routes.specs.Table.{method_of}
 use Rattle.sd_routes.specs.declared.request_error.RequestError.{RequestError}
 use Rattle.sd_routes.specs.declared.request_error.RequestError.TheVariants.{Method, Token}
 use Rattle.sd_routes.specs.declared.responding.Said.{Said}
-use Rattle.sd_routes.specs.declared.responding.Said.TheVariants.{Answer as Answered, Page, Taken, Refused, Misshapen, Notice as Noticed, Metrics, Document, Reloaded, NotReloaded}
+use Rattle.sd_routes.specs.declared.responding.Said.TheVariants.{Answer as Answered, Page, Taken, Served, Refused, Misshapen, Notice as Noticed, Metrics, Document, Reloaded, NotReloaded}
 
 -- a head with this status code and these headers
 pub record IsHead (code : ℕ) (fields : Entries FieldValue) (head : Parts) : Type 0 where
@@ -56,6 +56,12 @@ abbrev pub taken_headers : ℕ → ℕ → Entries FieldValue
 taken_headers allocation round =
     (codes "content-type", plain_value (codes "application/json") ∷ [])
     ∷ with_no_other ((codes "x-allocation-number", plain_value (decimal allocation) ∷ []) ∷ (codes "x-scrape-round", plain_value (decimal round) ∷ []) ∷ [])
+
+-- the same of a list that is served, and how many targets it leaves out
+abbrev pub served_headers : ℕ → ℕ → ℕ → Entries FieldValue
+served_headers allocation round left_out =
+    (codes "content-type", plain_value (codes "application/json") ∷ [])
+    ∷ with_no_other ((codes "x-allocation-number", plain_value (decimal allocation) ∷ []) ∷ (codes "x-scrape-round", plain_value (decimal round) ∷ []) ∷ (codes "x-left-out", plain_value (decimal left_out) ∷ []) ∷ [])
 
 -- where the path has another method, that method (RFC 9110, section 15.5.6); where a token is needed, how one is shown (section 11.6.1)
 abbrev pub refused_headers : RequestError → Entries FieldValue
@@ -100,6 +106,7 @@ abbrev pub status_said : Said → ℕ
 status_said (Answered answer) = status_answered answer
 status_said (Page text) = 200
 status_said (Taken allocation round groups) = 200
+status_said (Served allocation round left_out groups) = 200
 status_said (Refused error) = status_of error
 status_said (Misshapen name) = 400
 status_said (Noticed notice) = status_noticed notice
@@ -110,6 +117,7 @@ status_said (NotReloaded fault) = 500
 
 abbrev pub headers_said : Said → Entries FieldValue
 headers_said (Taken allocation round groups) = taken_headers allocation round
+headers_said (Served allocation round left_out groups) = served_headers allocation round left_out
 headers_said (Refused error) = refused_headers error
 headers_said (Noticed notice) = media_headers (codes "text/plain; charset=utf-8")
 headers_said (Metrics text) = media_headers (codes "text/plain; version=0.0.4; charset=utf-8")
@@ -122,6 +130,7 @@ abbrev pub body_said : Said → List ℕ
 body_said (Answered answer) = answer_text answer
 body_said (Page text) = text
 body_said (Taken allocation round groups) = groups
+body_said (Served allocation round left_out groups) = groups
 body_said (Refused error) = refused_text (name_of error)
 body_said (Misshapen name) = compact_text (misshapen_data name)
 body_said (Noticed notice) = text_noticed notice

@@ -24,6 +24,8 @@ pub enum Ask {
     Join,
     Leave(CollectorId),
     Drain(CollectorId),
+    /// The lists that a collector was served count as let go.
+    Release(CollectorId),
     /// A collector's own limits are replaced; the body has them.
     SetLimits(CollectorId),
     /// A scrape is reported; the body has it.

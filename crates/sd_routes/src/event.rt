@@ -16,14 +16,19 @@ use reach_rules::{OwnLimits, Reach, ReachError};
 use serde_json::Value;
 use std::alloc::Global;
 
-/// The event that a request asks for, if it asks for one: of a Join, of other limits and of a report, what the body spells; of a Leave and
-/// of a Drain the body is not looked at. Where several refusals hold, the first of `Shape`, `BadName` and `TooManyRules` is given.
+/// The event that a request asks for, if it asks for one: of a Join, of other limits and of a report, what the body spells; of a Leave, of a
+/// Drain and of a Release the body is not looked at. Where several refusals hold, the first of `Shape`, `BadName` and `TooManyRules` is given.
 pub fn event_of(alloc: Global, ask: &Ask, body: &[u8]) -> Result<Option<Event>, RequestError>
     ensures { Gives result (event_said ask.now body.now) }
 {
     match ask {
         Ask::Leave(collector) => Ok(Some(Event::Leave(*collector))),
         Ask::Drain(collector) => Ok(Some(Event::Drain(*collector))),
+        Ask::Release(collector) => {
+            let collector = *collector;
+            let job = None;
+            Ok(Some(Event::Release { collector, job }))
+        }
         Ask::Join | Ask::SetLimits(_) | Ask::Report => match parse(alloc, body)? {
             Some(value) => Ok(Some(event_in(alloc, ask, &value)?)),
             None => Err(RequestError::Shape),

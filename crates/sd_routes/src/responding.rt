@@ -3,7 +3,7 @@ ghost use Rattle.std.specs.Prelude.{◌≡◌, IfOk, IsTrue, true, string_bytes}
 ghost use Rattle.http.specs.Response.{head_of, body_of};
 ghost use Rattle.http_header.specs.FieldValue.{is_visible_text};
 ghost use Rattle.sd_routes.specs.Errors.{status_of};
-ghost use Rattle.sd_routes.specs.Responses.{IsResponse, IsHead, closing, json_headers, media_headers, document_headers, taken_headers, refused_headers, refused_text, answer_text, status_answered, status_said, headers_said, body_said};
+ghost use Rattle.sd_routes.specs.Responses.{IsResponse, IsHead, closing, json_headers, media_headers, document_headers, taken_headers, served_headers, refused_headers, refused_text, answer_text, status_answered, status_said, headers_said, body_said};
 
 use crate::misshapen::misshapen_page;
 use crate::notice::Notice;
@@ -38,6 +38,15 @@ pub enum Said {
         /// The list of groups, as its JSON text.
         groups: Bytes,
     },
+    /// The list of a job that a collector is served.
+    Served {
+        allocation: AllocationNumber,
+        round: Round,
+        /// How many targets the list leaves out.
+        left_out: u32,
+        /// The list of groups, as its JSON text.
+        groups: Bytes,
+    },
     /// The request is refused without an answer of the allocator.
     Refused(RequestError),
     /// The request's body is not of the documented shape, at this member.
@@ -61,7 +70,7 @@ impl Said {
     {
         match self {
             Said::Answer(answer) => status_of(answer),
-            Said::Page(_) | Said::Taken { .. } => StatusCode::OK,
+            Said::Page(_) | Said::Taken { .. } | Said::Served { .. } => StatusCode::OK,
             Said::Refused(error) => error.status(),
             Said::Misshapen(_) => StatusCode::BAD_REQUEST,
             Said::Notice(notice) => notice.status(),
@@ -111,6 +120,15 @@ fn response_of(alloc: Global, said: Said) -> Result<Response<Full<Bytes>>, Alloc
             round,
             groups,
         } => Ok(response_with(taken_head(alloc, allocation, round)?, groups)),
+        Said::Served {
+            allocation,
+            round,
+            left_out,
+            groups,
+        } => {
+            let head = served_head(alloc, allocation, round, left_out)?;
+            Ok(response_with(head, groups))
+        }
         Said::Refused(error) => {
             let head = refused_head(alloc, error)?;
             response(head, refused_text(alloc, error.name())?)
@@ -247,6 +265,23 @@ fn taken_head(
     let round = HeaderValue::from_u64(alloc, u64::from(round))?;
     let name = HeaderName::from_static("x-scrape-round");
     if head.headers.insert(name, round).is_err() {
+        return Err(AllocError);
+    }
+    Ok(head)
+}
+
+fn served_head(
+    alloc: Global,
+    allocation: AllocationNumber,
+    round: Round,
+    left_out: u32,
+) -> Result<Parts, AllocError>
+    ensures { IfOk result (IsHead 200 (served_headers allocation round left_out)) }
+{
+    let mut head = taken_head(alloc, allocation, round)?;
+    let left_out = HeaderValue::from_u64(alloc, u64::from(left_out))?;
+    let name = HeaderName::from_static("x-left-out");
+    if head.headers.insert(name, left_out).is_err() {
         return Err(AllocError);
     }
     Ok(head)

@@ -48,6 +48,7 @@ fn ask_at(alloc: Global, place: Place, path: &str, query: Option<&str>) -> Resul
         Place::Collectors => Ok(Ask::Join),
         Place::Collector => Ok(Ask::Leave(collector_id(path)?)),
         Place::Drain => Ok(Ask::Drain(collector_id(path)?)),
+        Place::Release => Ok(Ask::Release(collector_id(path)?)),
         Place::Limits => Ok(Ask::SetLimits(collector_id(path)?)),
         Place::Reports => Ok(Ask::Report),
         Place::Healthy => Ok(Ask::Healthy),

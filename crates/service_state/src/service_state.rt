@@ -4,7 +4,7 @@ use crate::counts::{EventKind, Route};
 use crate::names::Names;
 use crate::notes::{AllocationNote, Notes, SourceNote};
 use crate::reloading::Reloading;
-use fleet_events::Answer;
+use fleet_events::{Answer, CollectorId};
 use lists::Text;
 use std::alloc::{AllocError, Global};
 use std::sync::atomic::{AtomicBool, AtomicU64, Ordering};
@@ -27,6 +27,8 @@ pub struct ServiceState {
     is_hanging: AtomicBool,
     /// Whether all that was found first was given out.
     has_begun: AtomicBool,
+    /// Whether a list leaves out what another one still has.
+    is_ordered: AtomicBool,
     untried: AtomicU64,
     refreshes: AtomicU64,
     failed_refreshes: AtomicU64,
@@ -61,6 +63,7 @@ impl ServiceState {
             is_broken: AtomicBool::new(false),
             is_hanging: AtomicBool::new(false),
             has_begun: AtomicBool::new(false),
+            is_ordered: AtomicBool::new(false),
             untried: AtomicU64::new(sources),
             refreshes: AtomicU64::new(0),
             failed_refreshes: AtomicU64::new(0),
@@ -144,6 +147,16 @@ impl ServiceState {
         self.is_hanging.store(is_hanging, Ordering::SeqCst);
     }
 
+    /// Lists are served in order from now on, or are not.
+    pub fn set_ordered(&self, is_ordered: bool) {
+        self.is_ordered.store(is_ordered, Ordering::SeqCst);
+    }
+
+    /// Whether lists are served in order: each leaves out what another one still has.
+    pub fn is_ordered(&self) -> bool {
+        self.is_ordered.load(Ordering::SeqCst)
+    }
+
     /// A source was tried for the first time, and what it lists was entered.
     pub fn count_tried(&self) {
         self.untried.fetch_sub(1, Ordering::SeqCst);
@@ -209,16 +222,21 @@ impl ServiceState {
         self.failed_accepts.load(Ordering::SeqCst)
     }
 
-    /// A live collector has this name. What finds no memory is not noted.
-    pub fn note_live(&self, rt: &impl Wait, name: &str) {
-        let _ = self.names.lock(rt).note_live(name);
+    /// The live collector of this number has this name. What finds no memory is not noted.
+    pub fn note_live(&self, rt: &impl Wait, name: &str, id: CollectorId) {
+        let _ = self.names.lock(rt).note_live(name, id);
     }
 
-    /// Somebody asks under a name that no live collector has. Whether one had it.
-    pub fn was_live(&self, rt: &impl Wait, name: &str) -> bool {
+    /// Somebody asks under a name that no live collector has. Gives the number that the last one had it under, where one had it.
+    pub fn number_of(&self, rt: &impl Wait, name: &str) -> Option<CollectorId> {
         let mut names = self.names.lock(rt);
         let _ = names.note_absent(name);
-        names.was_live(name)
+        names.number_of(name)
+    }
+
+    /// The number that a collector had before this one, where it joined anew under its name.
+    pub fn earlier(&self, rt: &impl Wait, name: &str, id: CollectorId) -> Option<CollectorId> {
+        self.names.lock(rt).earlier(name, id)
     }
 
     /// The names under which somebody asked and that no live collector had, since this was asked.
