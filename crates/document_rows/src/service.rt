@@ -108,7 +108,8 @@ fn add_refresh(alloc: Global, text: &mut String, settings: &Settings) -> Result<
 
 fn add_rest(alloc: Global, text: &mut String, settings: &Settings) -> Result<(), AllocError> {
     text.push_str(rest_outline(alloc, settings)?.as_str())?;
-    text.push_str(doors_outline(alloc, settings)?.as_str())
+    text.push_str(doors_outline(alloc, settings)?.as_str())?;
+    text.push_str(handover_outline(alloc, settings)?.as_str())
 }
 
 /// The other settings.
@@ -138,6 +139,13 @@ fn doors_outline(alloc: Global, settings: &Settings) -> Result<String, AllocErro
     format!(in alloc;
         " {give_up} {connections} {hosts} {admin} {collectors} {open} {no_jobs} {reach:?} {rejoin}"
     )
+}
+
+/// How lists are handed over.
+fn handover_outline(alloc: Global, settings: &Settings) -> Result<String, AllocError> {
+    let handover = settings.handover;
+    let release = settings.release_after;
+    format!(in alloc; " {handover:?} {release:?}")
 }
 
 fn text_or_dash(text: &Option<Text>) -> &str {

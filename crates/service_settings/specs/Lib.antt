@@ -9,5 +9,6 @@ pub mod Members
 pub mod Collectors
 pub mod Doors
 pub mod ReachChanges
+pub mod Handover
 pub mod Settings
 pub mod Beside

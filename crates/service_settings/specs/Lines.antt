@@ -4,7 +4,7 @@ use Rattle.std.specs.Fmt.{decimal}
 use Rattle.service_settings.specs.declared.error.SettingsError.{SettingsError}
 use Rattle.service_settings.specs.declared.error.SettingsError.TheVariants.{NotJson, Shape, Unknown, RepeatedCollector, Memory}
 use Rattle.service_settings.specs.declared.error.Member.{Member}
-use Rattle.service_settings.specs.declared.error.Member.TheVariants.{Document, Global, ScrapeInterval, ScrapeConfigs, ScrapeConfig, HttpSdConfigs, HttpSdConfig, RefreshInterval, Allocator, Listen, Lifecycle, Journal, Keep, Settle, GiveUp, Connections, Hosts, Host, Tokens, AdminTokens, CollectorTokens, OpenToAll, AllowNoJobs, Collectors, Collector, CollectorName, CollectorReach, CollectorLimits, ReachChanges, Rejoin, CollectorTimeout, FetchTimeout}
+use Rattle.service_settings.specs.declared.error.Member.TheVariants.{Document, Global, ScrapeInterval, ScrapeConfigs, ScrapeConfig, HttpSdConfigs, HttpSdConfig, RefreshInterval, Allocator, Listen, Lifecycle, Journal, Keep, Settle, GiveUp, Connections, Hosts, Host, Tokens, AdminTokens, CollectorTokens, OpenToAll, AllowNoJobs, Collectors, Collector, CollectorName, CollectorReach, CollectorLimits, ReachChanges, Rejoin, CollectorTimeout, Handover, ReleaseAfter, FetchTimeout}
 
 -- without indices
 abbrev pub member_path : Member → List ℕ
@@ -39,6 +39,8 @@ member_path (CollectorLimits index) = codes "allocator.collectors"
 member_path ReachChanges = codes "allocator.reach_changes"
 member_path Rejoin = codes "allocator.rejoin"
 member_path CollectorTimeout = codes "allocator.collector_timeout"
+member_path Handover = codes "allocator.handover"
+member_path ReleaseAfter = codes "allocator.release_after"
 member_path FetchTimeout = codes "allocator.fetch_timeout"
 
 -- the way to the member from the document
@@ -87,6 +89,8 @@ missing (CollectorLimits index) = codes "no object of limits"
 missing ReachChanges = codes "neither \"drained\" nor \"now\""
 missing Rejoin = codes "neither true nor false"
 missing CollectorTimeout = codes "no duration above 0"
+missing Handover = codes "neither \"ordered\" nor \"free\""
+missing ReleaseAfter = codes "neither a duration above 0 nor \"never\""
 missing FetchTimeout = codes "no duration above 0"
 
 abbrev pub error_line : SettingsError → List ℕ

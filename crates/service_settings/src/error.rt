@@ -54,6 +54,8 @@ pub enum Member {
     ReachChanges,
     Rejoin,
     CollectorTimeout,
+    Handover,
+    ReleaseAfter,
     FetchTimeout,
 }
 
@@ -159,6 +161,8 @@ impl Member {
             Member::ReachChanges => "allocator.reach_changes",
             Member::Rejoin => "allocator.rejoin",
             Member::CollectorTimeout => "allocator.collector_timeout",
+            Member::Handover => "allocator.handover",
+            Member::ReleaseAfter => "allocator.release_after",
             Member::FetchTimeout => "allocator.fetch_timeout",
         }
     }
@@ -190,6 +194,8 @@ impl Member {
             Member::Host(_) => "no name of a host in small letters, without a port",
             Member::AdminTokens | Member::CollectorTokens => "no path of a file",
             Member::ReachChanges => "neither \"drained\" nor \"now\"",
+            Member::Handover => "neither \"ordered\" nor \"free\"",
+            Member::ReleaseAfter => "neither a duration above 0 nor \"never\"",
             Member::Keep => "no whole number of 32 bits",
             Member::Connections => "no whole number from 64 to 65535",
             Member::CollectorName(_) => "no name of a collector",

@@ -16,5 +16,6 @@ pub use error::{Member, SettingsError};
 pub use reading::{LEAST_CONNECTIONS, MOST_CONNECTIONS};
 pub use settings::{
     Collector, DEFAULT_CONNECTIONS, DEFAULT_FETCH_TIMEOUT, DEFAULT_GIVE_UP, DEFAULT_INTERVAL,
-    DEFAULT_KEEP, DEFAULT_LISTEN, DEFAULT_SETTLE, Doors, ReachChanges, Settings, read_settings,
+    DEFAULT_KEEP, DEFAULT_LISTEN, DEFAULT_SETTLE, Doors, Handover, ReachChanges, Settings,
+    read_settings,
 };

@@ -8,6 +8,7 @@ ghost use Rattle.service_settings.specs.Settings.{settings_of as settings_made, 
 mod allocator;
 mod collectors;
 mod doors;
+mod handover;
 mod members;
 mod reach_changes;
 mod scrapes;
@@ -19,6 +20,7 @@ use allocator::{Collecting, Housekeeping, collecting_in, housekeeping_in};
 pub use collectors::Collector;
 pub use doors::Doors;
 use doors::doors_in;
+pub use handover::Handover;
 use lists::{List, Text};
 use members::{Kind, known_or_none};
 pub use reach_changes::ReachChanges;
@@ -77,6 +79,10 @@ pub struct Settings {
     pub rejoin: bool,
     /// After how long without a word a collector leaves. Above 0, and never, if there is none.
     pub collector_timeout: Option<u64>,
+    /// When a target that moved is in the list of the collector that it moved to.
+    pub handover: Handover,
+    /// How long after a collector that left was last heard of its lists count as let go. Above 0, and never, if there is none.
+    pub release_after: Option<u64>,
     /// How long a fetch may take. Above 0.
     pub fetch_timeout: u64,
 }
@@ -134,6 +140,8 @@ fn settings_of(
         reach_changes: collecting.reach_changes,
         rejoin: collecting.rejoin,
         collector_timeout: collecting.collector_timeout,
+        handover: collecting.handover,
+        release_after: collecting.release_after,
         fetch_timeout: collecting.fetch_timeout,
     }
 }

@@ -11,6 +11,7 @@ use crate::reading::{
     time_or_none,
 };
 use crate::settings::collectors::{Collector, collectors_in};
+use crate::settings::handover::{Handover, handover_in, release_after_in};
 use crate::settings::reach_changes::{ReachChanges, reach_changes_in};
 use crate::settings::{
     DEFAULT_CONNECTIONS, DEFAULT_FETCH_TIMEOUT, DEFAULT_GIVE_UP, DEFAULT_KEEP, DEFAULT_LISTEN,
@@ -40,6 +41,8 @@ pub(crate) struct Collecting {
     pub(crate) reach_changes: ReachChanges,
     pub(crate) rejoin: bool,
     pub(crate) collector_timeout: Option<u64>,
+    pub(crate) handover: Handover,
+    pub(crate) release_after: Option<u64>,
     pub(crate) fetch_timeout: u64,
 }
 
@@ -86,6 +89,9 @@ pub(crate) fn collecting_in(
     let rejoin = flag_or(true, Member::Rejoin, member_of(allocator, "rejoin"))?;
     let collector_timeout = member_of(allocator, "collector_timeout");
     let collector_timeout = time_or_none(Member::CollectorTimeout, collector_timeout)?;
+    let handover = handover_in(member_of(allocator, "handover"))?;
+    let release_after = member_of(allocator, "release_after");
+    let release_after = release_after_in(collector_timeout, release_after)?;
     let fetch_timeout = member_of(allocator, "fetch_timeout");
     let fetch_timeout = time_or(DEFAULT_FETCH_TIMEOUT, Member::FetchTimeout, fetch_timeout)?;
     Ok(Collecting {
@@ -94,6 +100,8 @@ pub(crate) fn collecting_in(
         reach_changes,
         rejoin,
         collector_timeout,
+        handover,
+        release_after,
         fetch_timeout,
     })
 }

@@ -81,6 +81,8 @@ fn has_member(kind: Kind, name: &str) -> bool
             | "reach_changes"
             | "rejoin"
             | "collector_timeout"
+            | "handover"
+            | "release_after"
             | "fetch_timeout" => true,
             _ => false,
         },
