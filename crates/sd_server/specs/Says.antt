@@ -1,11 +1,12 @@
 -- What a request is told.
-use Rattle.std.specs.Prelude.{◌≡◌, ◌⊎◌, ℕ, List, Option, Some, None, Result, Ok, Err, codes}
+use Rattle.std.specs.Prelude.{◌≡◌, ◌⊎◌, ℕ, List, Option, Some, None, Result, Ok, Err, codes, length}
 use Rattle.fleet.specs.Fleet.{id_named}
 use Rattle.fleet_events.specs.declared.event.Event.{Event}
-use Rattle.fleet_events.specs.declared.event.Event.TheVariants.{Take}
+use Rattle.fleet_events.specs.declared.event.Event.TheVariants.{Take, Serve}
 use Rattle.fleet_events.specs.declared.answer.Answer.{Answer}
-use Rattle.fleet_events.specs.declared.answer.Answer.TheVariants.{Taken as HasTaken, Not}
+use Rattle.fleet_events.specs.declared.answer.Answer.TheVariants.{Taken as HasTaken, Served as HasServed, Not}
 use Rattle.fleet_events.specs.declared.refusal.Refusal.TheVariants.{UnknownJob, UnknownCollector}
+use Rattle.allocation_core.specs.Idle.{IsIdle}
 use Rattle.allocation_core.specs.State.{State}
 use Rattle.alloc_desk.specs.Counts.{Counts}
 use Rattle.alloc_desk.specs.History.{History}
@@ -21,7 +22,7 @@ use Rattle.sd_routes.specs.declared.notice.Notice.TheVariants.{Healthy, Broken, 
 use Rattle.sd_routes.specs.declared.request_error.RequestError.{RequestError}
 use Rattle.sd_routes.specs.declared.request_error.RequestError.TheVariants.{Shape, JournalFull, NotKept, Memory}
 use Rattle.sd_routes.specs.declared.responding.Said.{Said}
-use Rattle.sd_routes.specs.declared.responding.Said.TheVariants.{Answer as Answered, Page, Taken, Refused, Misshapen, Notice as Noticed, Metrics, Document, Reloaded, NotReloaded}
+use Rattle.sd_routes.specs.declared.responding.Said.TheVariants.{Answer as Answered, Page, Taken, Served, Refused, Misshapen, Notice as Noticed, Metrics, Document, Reloaded, NotReloaded}
 use Rattle.service_state.specs.Jobs.{place_of}
 use Rattle.sd_server.specs.Texts.{certificate_text, groups_text, job_text}
 use Rattle.service_state.specs.declared.config_pages.ConfigPages.{ConfigPages}
@@ -42,6 +43,10 @@ SaysNot opening NotKept = Unit {0}
 SaysNot opening Memory = Unit {0}
 SaysNot opening _ = ⊥
 
+-- An answer to an event: that of an event that was entered, or that at a moment at which the event would change nothing.
+abbrev pub IsAnswered : State → Event → Answer → Type 0
+IsAnswered opening event answer = ((receipt : Receipt) × IsEntered opening event receipt × (answer ≡ receipt.answer)) ⊎ OfSome opening (λ h. IsIdle h.state event (Some answer))
+
 -- the machine's answer to an event
 abbrev pub SaysEvent : State → Event → Said → Type 0
 SaysEvent opening event (Answered answer) = (receipt : Receipt) × IsEntered opening event receipt × (answer ≡ receipt.answer)
@@ -56,24 +61,44 @@ SaysListed opening place answer (Answered told) = told ≡ answer
 SaysListed opening place answer (Refused error) = error ≡ Memory
 SaysListed opening place answer _ = ⊥
 
+-- what the answer to a Serve is told as, with the groups of what the list has; unless memory ran out
+abbrev pub SaysServed : State → ℕ → Answer → Said → Type 0
+SaysServed opening place answer (Served allocation round left_out groups) =
+    (listed : List ℕ) × (others : List ℕ) × (answer ≡ HasServed allocation round listed others) × (left_out ≡ length others) × OfSome opening (λ h. groups ≡ groups_text place listed h)
+SaysServed opening place answer (Answered told) = told ≡ answer
+SaysServed opening place answer (Refused error) = error ≡ Memory
+SaysServed opening place answer _ = ⊥
+
+-- there is no answer to an event
+abbrev pub SaysNoAnswer : State → Said → Type 0
+SaysNoAnswer opening said = (error : RequestError) × SaysNot opening error × (said ≡ Refused error)
+
 -- what a collector that takes the allocation is told of a job
 abbrev pub SaysTake : State → ℕ → ℕ → Said → Type 0
-SaysTake opening place id said = ((receipt : Receipt) × IsEntered opening (Take id) receipt × SaysListed opening place receipt.answer said)
-    ⊎ ((error : RequestError) × SaysNot opening error × (said ≡ Refused error))
+SaysTake opening place id said = ((answer : Answer) × IsAnswered opening (Take id) answer × SaysListed opening place answer said) ⊎ SaysNoAnswer opening said
+
+-- what a collector that is served its list of a job is told
+abbrev pub SaysServe : State → ℕ → List ℕ → ℕ → Said → Type 0
+SaysServe opening place job id said = ((answer : Answer) × IsAnswered opening (Serve id job) answer × SaysServed opening place answer said) ⊎ SaysNoAnswer opening said
 
 -- a text that does not change, unless memory ran out
 abbrev pub SaysCopy : List ℕ → Said → Type 0
 SaysCopy text said = (said ≡ Page text) ⊎ (said ≡ Refused Memory)
 
--- what is told under a name that nobody has: nothing is to be scraped by a collector that had it, unless memory ran out, and no other is known
-abbrev pub SaysGone : Said → Type 0
-SaysGone said = (said ≡ Answered (Not UnknownCollector)) ⊎ SaysCopy (codes "[]") said
+-- what is told under a name that nobody has: nothing is to be scraped by a collector that had it, unless its lists could not be let go
+-- or memory ran out, and no other is known
+abbrev pub SaysGone : State → Said → Type 0
+SaysGone opening said = (said ≡ Answered (Not UnknownCollector)) ⊎ (SaysCopy (codes "[]") said ⊎ SaysNoAnswer opening said)
 
--- nobody has the name, or its collector takes
-abbrev pub SaysHeld : State → ℕ → List ℕ → Said → Type 0
-SaysHeld opening place name said =
-    (OfSome opening (λ h. id_named h.state.fleet.collectors name ≡ None) × SaysGone said)
-    ⊎ ((id : ℕ) × OfSome opening (λ h. id_named h.state.fleet.collectors name ≡ Some id) × SaysTake opening place id said)
+-- what a collector is told of a job: it takes, or is served
+abbrev pub SaysList : State → ℕ → List ℕ → ℕ → Said → Type 0
+SaysList opening place job id said = SaysTake opening place id said ⊎ SaysServe opening place job id said
+
+-- nobody has the name, or its collector has a list
+abbrev pub SaysHeld : State → ℕ → List ℕ → List ℕ → Said → Type 0
+SaysHeld opening place job name said =
+    (OfSome opening (λ h. id_named h.state.fleet.collectors name ≡ None) × SaysGone opening said)
+    ⊎ ((id : ℕ) × OfSome opening (λ h. id_named h.state.fleet.collectors name ≡ Some id) × SaysList opening place job id said)
 
 -- a page, unless memory ran out
 abbrev pub SaysText : State → (History → List ℕ) → Said → Type 0
@@ -86,9 +111,9 @@ abbrev pub SaysJob : State → List ℕ → Option ℕ → Said → Type 0
 SaysJob opening job None said = said ≡ Answered (Not UnknownJob)
 SaysJob opening job (Some place) said = SaysText opening (job_text job place) said
 
-abbrev pub SaysCollector : State → List ℕ → Option ℕ → Said → Type 0
-SaysCollector opening name None said = said ≡ Answered (Not UnknownJob)
-SaysCollector opening name (Some place) said = SaysHeld opening place name said
+abbrev pub SaysCollector : State → List ℕ → List ℕ → Option ℕ → Said → Type 0
+SaysCollector opening job name None said = said ≡ Answered (Not UnknownJob)
+SaysCollector opening job name (Some place) said = SaysHeld opening place job name said
 
 abbrev pub SaysLive : Said → Type 0
 SaysLive said = (said ≡ Noticed Healthy) ⊎ (said ≡ Noticed Broken)
@@ -147,7 +172,7 @@ SaysPage opening pages ask.Quit said = SaysQuit said
 SaysPage opening pages ask.Status said = SaysDocument said
 SaysPage opening pages (ask.Uncovered job) said = SaysUncovered (place_of job pages.names) said
 SaysPage opening pages (ask.JobTargets job) said = SaysJob opening job (place_of job pages.names) said
-SaysPage opening pages (ask.CollectorTargets job name) said = SaysCollector opening name (place_of job pages.names) said
+SaysPage opening pages (ask.CollectorTargets job name) said = SaysCollector opening job name (place_of job pages.names) said
 SaysPage opening pages _ said = Unit {0}
 
 -- what is asked waits for nothing

@@ -1,13 +1,15 @@
 //! What a request is handled with.
-ghost use Rattle.std.specs.Prelude.{◌≡◌, IfOk, IfErr};
+ghost use Rattle.std.specs.Prelude.{◌≡◌, Some, IfOk, IfErr, IfSome, codes};
 ghost use Rattle.std.specs.Arc.{arc_value};
 ghost use Rattle.fleet.specs.Fleet.{id_named};
+ghost use Rattle.fleet_events.specs.declared.event.Event.TheVariants.{Serve};
+ghost use Rattle.allocation_core.specs.Idle.{IsIdle};
 ghost use Rattle.alloc_desk.specs.Views.{numbered_of, shares_of};
 ghost use Rattle.service_state.specs.Jobs.{place_of};
 ghost use Rattle.sd_server.specs.Texts.{certificate_text, job_text};
 ghost use Rattle.sd_server.specs.Listing.{IsGroups};
 ghost use Rattle.sd_server.specs.Entries.{Leads, OnceKept};
-ghost use Rattle.sd_server.specs.Says.{IsAtOnce, IsEntered, IsUncoveredText, OfSome, Says, SaysCollector, SaysCopy, SaysDocument, SaysEvent, SaysGone, SaysHeld, SaysJob, SaysListed, SaysLive, SaysMetrics, SaysNot, SaysPage, SaysQuit, SaysReady, SaysRefused, SaysReload, SaysTake, SaysText, SaysUncovered};
+ghost use Rattle.sd_server.specs.Says.{IsAnswered, IsAtOnce, IsEntered, IsUncoveredText, OfSome, Says, SaysCollector, SaysCopy, SaysDocument, SaysEvent, SaysGone, SaysHeld, SaysJob, SaysList, SaysListed, SaysLive, SaysMetrics, SaysNot, SaysPage, SaysQuit, SaysReady, SaysRefused, SaysReload, SaysServe, SaysServed, SaysTake, SaysText, SaysUncovered};
 
 use crate::certificate_page::certificate_page;
 use crate::counter::Counter;
@@ -153,7 +155,8 @@ impl<R: Wait + Clock + Copy, L: Ledger, B: Ledger, N: DeskName> Handler<R, L, B,
         match self.submitted(event) {
             Ok(receipt) => {
                 self.note_change(change, &receipt.answer);
-                self.once_kept(receipt.position, Said::Answer(receipt.answer))
+                let rests = receipt.position.saturating_add(1);
+                self.once_kept(rests, Said::Answer(receipt.answer))
             }
             Err(error) => Entry::Now(Said::Refused(error)),
         }
@@ -393,36 +396,24 @@ impl<R: Wait + Clock + Copy, L: Ledger, B: Ledger, N: DeskName> Handler<R, L, B,
     }
 
     fn collector(&self, job: &Text, name: &CollectorName) -> Entry
-        ensures { Leads (SaysCollector N.opening name.now (place_of job.now (arc_value self.now.pages).names)) result }
+        ensures { Leads (SaysCollector N.opening job.now name.now (place_of job.now (arc_value self.now.pages).names)) result }
     {
         let Some(place) = self.pages.place(job.as_str()) else {
             return Entry::Now(Said::Answer(Answer::Not(Refusal::UnknownJob)));
         };
-        self.held(place, name.as_str())
+        self.held(place, job, name.as_str())
     }
 
-    fn held(&self, place: usize, name: &str) -> Entry
-        ensures { Leads (SaysHeld N.opening place name.now) result }
+    fn held(&self, place: usize, job: &Text, name: &str) -> Entry
+        ensures { Leads (SaysHeld N.opening place job.now name.now) result }
     {
         match self.named(name) {
-            Some(collector) => {
-                self.state.note_live(&self.rt, name);
-                self.taken(place, collector)
+            Some(id) => {
+                self.state.note_live(&self.rt, name, id);
+                self.state.note_taker(&self.rt, id);
+                self.list(place, job, name, id)
             }
-            None => Entry::Now(self.gone(name)),
-        }
-    }
-
-    /// What is told under a name that no live collector has: who had it is to let go of what it scrapes.
-    fn gone(&self, name: &str) -> Said
-        ensures { SaysGone result }
-    {
-        if !self.state.was_live(&self.rt, name) {
-            return Said::Answer(Answer::Not(Refusal::UnknownCollector));
-        }
-        match Text::from_str(self.alloc, "[]") {
-            Ok(nothing) => Said::Page(nothing),
-            Err(_) => Said::Refused(RequestError::Memory),
+            None => self.gone(job, name),
         }
     }
 
@@ -433,16 +424,141 @@ impl<R: Wait + Clock + Copy, L: Ledger, B: Ledger, N: DeskName> Handler<R, L, B,
         self.desk.named(&self.rt, &mut *pass, name)
     }
 
-    fn taken(&self, place: usize, collector: CollectorId) -> Entry
-        ensures { Leads (SaysTake N.opening place collector) result }
+    /// What a collector is told of a job.
+    fn list(&self, place: usize, job: &Text, name: &str, id: CollectorId) -> Entry
+        ensures { Leads (SaysList N.opening place job.now id) result }
     {
-        match self.submitted(Event::Take(collector)) {
-            Ok(receipt) => {
-                let position = receipt.position;
-                let listed = self.listed(place, collector, receipt.answer);
-                self.once_kept(position, listed)
-            }
+        if !self.state.is_ordered() {
+            return self.taken(place, id);
+        }
+        if let Some(earlier) = self.state.earlier(&self.rt, name, id) {
+            // Its list of the job is the one that it is served under its number of now.
+            let _ = self.let_go(job, earlier);
+        }
+        self.served(place, job, id)
+    }
+
+    /// What is told under a name that no live collector has: who had it is to let go of what it scrapes.
+    fn gone(&self, job: &Text, name: &str) -> Entry
+        ensures { Leads (SaysGone N.opening) result }
+    {
+        let Some(id) = self.state.number_of(&self.rt, name) else {
+            return Entry::Now(Said::Answer(Answer::Not(Refusal::UnknownCollector)));
+        };
+        if !self.state.is_ordered() {
+            return Entry::Now(self.nothing());
+        }
+        match self.let_go(job, id) {
+            Ok(rests) => self.once_kept(rests, self.nothing()),
             Err(error) => Entry::Now(Said::Refused(error)),
+        }
+    }
+
+    /// The empty list.
+    fn nothing(&self) -> Said
+        ensures { SaysCopy (codes "[]") result }
+    {
+        match Text::from_str(self.alloc, "[]") {
+            Ok(nothing) => Said::Page(nothing),
+            Err(_) => Said::Refused(RequestError::Memory),
+        }
+    }
+
+    /// The list of a job of a collector that left is let go. Gives how many entries of the journal that rests on.
+    fn let_go(&self, job: &Text, id: CollectorId) -> Result<u64, RequestError>
+        ensures { IfErr result (SaysNot N.opening) }
+    {
+        let (rests, _answer) = self.answered_serve(job, id)?;
+        Ok(rests)
+    }
+
+    fn taken(&self, place: usize, id: CollectorId) -> Entry
+        ensures { Leads (SaysTake N.opening place id) result }
+    {
+        match self.answered(Event::Take(id)) {
+            Ok((rests, answer)) => self.once_kept(rests, self.listed(place, id, answer)),
+            Err(error) => Entry::Now(Said::Refused(error)),
+        }
+    }
+
+    fn served(&self, place: usize, job: &Text, id: CollectorId) -> Entry
+        ensures { Leads (SaysServe N.opening place job.now id) result }
+    {
+        match self.answered_serve(job, id) {
+            Ok((rests, answer)) => self.once_kept(rests, self.served_list(place, id, answer)),
+            Err(error) => Entry::Now(Said::Refused(error)),
+        }
+    }
+
+    /// The answer to a Serve, and how many entries of the journal it rests on.
+    fn answered_serve(
+        &self,
+        job: &Text,
+        collector: CollectorId,
+    ) -> Result<(u64, Answer), RequestError>
+        ensures answer { IfOk result (λ r. IsAnswered N.opening (Serve collector job.now) r.1) }
+        ensures not { IfErr result (SaysNot N.opening) }
+    {
+        match job.copy() {
+            Ok(job) => self.answered(Event::Serve { collector, job }),
+            Err(_) => Err(RequestError::Memory),
+        }
+    }
+
+    /// The answer to an event, and how many entries of the journal it rests on. An event that would change nothing is not entered.
+    fn answered(&self, event: Event) -> Result<(u64, Answer), RequestError>
+        ensures answer { IfOk result (λ r. IsAnswered N.opening event r.1) }
+        ensures not { IfErr result (SaysNot N.opening) }
+    {
+        if self.is_broken() {
+            return Err(RequestError::NotKept);
+        }
+        match self.unchanged(&event) {
+            Some(told) => Ok(told),
+            None => self.answered_once_entered(event),
+        }
+    }
+
+    fn answered_once_entered(&self, event: Event) -> Result<(u64, Answer), RequestError>
+        ensures answer { IfOk result (λ r. IsAnswered N.opening event r.1) }
+        ensures not { IfErr result (SaysNot N.opening) }
+    {
+        match self.submitted(event) {
+            Ok(receipt) => Ok((receipt.position.saturating_add(1), receipt.answer)),
+            Err(error) => Err(error),
+        }
+    }
+
+    /// What an event is answered that would change nothing, and how many entries of the journal that rests on.
+    fn unchanged(&self, event: &Event) -> Option<(u64, Answer)>
+        ensures { IfSome result (λ t. OfSome N.opening (λ h. IsIdle h.state event.now (Some t.1))) }
+    {
+        let mut pass = self.pass.lock(&self.rt);
+        match self.desk.unchanged(&self.rt, &mut *pass, event) {
+            Ok(told) => told,
+            Err(_) => None,
+        }
+    }
+
+    fn served_list(&self, place: usize, collector: CollectorId, answer: Answer) -> Said
+        ensures { SaysServed N.opening place answer result }
+    {
+        match answer {
+            Answer::Served {
+                allocation,
+                round,
+                listed,
+                left_out,
+            } => match self.groups(place, collector, allocation, listed.as_slice()) {
+                Ok(groups) => Said::Served {
+                    allocation,
+                    round,
+                    left_out: left_out.len() as u32,
+                    groups,
+                },
+                Err(_) => Said::Refused(RequestError::Memory),
+            },
+            other => Said::Answer(other),
         }
     }
 
@@ -538,11 +654,11 @@ impl<R: Wait + Clock + Copy, L: Ledger, B: Ledger, N: DeskName> Handler<R, L, B,
         }
     }
 
-    /// What is said once the entry at a position is kept, where it is to be.
-    fn once_kept(&self, position: u64, said: Said) -> Entry
+    /// What is said once so many entries of the journal are kept, where they are to be.
+    fn once_kept(&self, entries: u64, said: Said) -> Entry
         ensures { Leads (OnceKept said) result }
     {
-        let Some(kept) = &self.kept else {
+        let (Some(kept), Some(position)) = (&self.kept, entries.checked_sub(1)) else {
             return Entry::Now(said);
         };
         match kept.ask(&self.rt, position) {

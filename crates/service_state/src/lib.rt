@@ -17,6 +17,7 @@ mod notes;
 mod page;
 mod reloading;
 mod service_state;
+mod takers;
 
 pub use changes::{ChangeNote, Changes};
 pub use config_pages::ConfigPages;

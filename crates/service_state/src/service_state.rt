@@ -2,6 +2,7 @@
 use crate::changes::{ChangeNote, Changes};
 use crate::counts::{EventKind, Route};
 use crate::names::Names;
+use crate::takers::Takers;
 use crate::notes::{AllocationNote, Notes, SourceNote};
 use crate::reloading::Reloading;
 use fleet_events::{Answer, CollectorId};
@@ -49,6 +50,8 @@ pub struct ServiceState {
     changes: Mutex<Changes>,
     /// The names under which lists were asked for.
     names: Mutex<Names>,
+    /// The live collectors that asked for a list.
+    takers: Mutex<Takers>,
 }
 
 impl ServiceState {
@@ -77,6 +80,7 @@ impl ServiceState {
             notes: Mutex::new(Notes::new(alloc)),
             changes: Mutex::new(Changes::new(alloc)),
             names: Mutex::new(Names::new(alloc)),
+            takers: Mutex::new(Takers::new(alloc)),
         }
     }
 
@@ -237,6 +241,16 @@ impl ServiceState {
     /// The number that a collector had before this one, where it joined anew under its name.
     pub fn earlier(&self, rt: &impl Wait, name: &str, id: CollectorId) -> Option<CollectorId> {
         self.names.lock(rt).earlier(name, id)
+    }
+
+    /// A live collector asks for a list. What finds no memory is not noted.
+    pub fn note_taker(&self, rt: &impl Wait, id: CollectorId) {
+        let _ = self.takers.lock(rt).note(id);
+    }
+
+    /// The live collectors that asked for a list, since this was asked.
+    pub fn take_takers(&self, rt: &impl Wait) -> Vec<CollectorId> {
+        self.takers.lock(rt).take()
     }
 
     /// The names under which somebody asked and that no live collector had, since this was asked.

@@ -2,7 +2,8 @@
 use crate::logging::log_warning;
 use crate::scheduling::Schedule;
 use crate::shared::Shared;
-use alloc_desk::{DeskName, Entry, Pass, Record};
+use alloc_desk::{DeskName, Pass, Record};
+use allocation_core::Core;
 use fleet_events::{Answer, CollectorId, Event};
 use log::warn;
 use logfmt::Logfmt;
@@ -14,10 +15,10 @@ use std::time::{Clock, Duration, Instant};
 /// When the live collectors were last seen.
 #[derive(Drop)]
 pub(crate) struct Attendance {
-    /// How many entries of the desk's journal were looked at.
-    read: usize,
     /// In order of the collectors' ids.
     sightings: Vec<Sighting>,
+    /// Those that left, and whose lists still have targets.
+    left: Vec<Sighting>,
     /// Those that are drained since they were absent.
     drained: Vec<CollectorId>,
 }
@@ -29,15 +30,13 @@ struct Sighting {
     at: Instant,
 }
 
-/// What a desk says of its collectors since the last look.
+/// What a desk says of its collectors.
 #[derive(Drop)]
 struct Roll {
     /// In order of their ids.
     live: Vec<Member>,
-    /// Those that took something.
-    takers: Vec<CollectorId>,
-    /// How long the journal is.
-    read: usize,
+    /// Those that left, and whose lists still have targets.
+    left: Vec<CollectorId>,
 }
 
 /// A live collector.
@@ -51,31 +50,69 @@ impl Attendance {
     /// With nobody seen yet.
     pub(crate) fn new(alloc: Global) -> Attendance {
         Attendance {
-            read: 0,
             sightings: Vec::new(alloc),
+            left: Vec::new(alloc),
             drained: Vec::new(alloc),
         }
     }
 
-    /// Another desk is looked at from now on, whose journal is empty.
-    pub(crate) fn begin_desk(&mut self) {
-        self.read = 0;
+    /// Notes who is live, who left with lists, and who asked.
+    fn note(
+        &mut self,
+        alloc: Global,
+        roll: &Roll,
+        takers: &[CollectorId],
+        now: Instant,
+    ) -> Result<(), AllocError> {
+        let left = self.left_now(alloc, roll, now)?;
+        let live = self.live_now(alloc, roll, now)?;
+        self.left = left;
+        self.sightings = live;
+        for taker in takers {
+            self.see(*taker, now);
+        }
+        Ok(())
     }
 
-    /// Notes who is live, and who took something.
-    fn note(&mut self, alloc: Global, roll: &Roll, now: Instant) -> Result<(), AllocError> {
-        let mut sightings = Vec::with_capacity(alloc, roll.live.len())?;
+    fn live_now(
+        &self,
+        alloc: Global,
+        roll: &Roll,
+        now: Instant,
+    ) -> Result<Vec<Sighting>, AllocError> {
+        let mut live = Vec::with_capacity(alloc, roll.live.len())?;
         for member in roll.live.iter() {
             let collector = member.collector;
             let at = self.last_seen(collector).unwrap_or(now);
-            sightings.push(Sighting { collector, at })?;
+            live.push(Sighting { collector, at })?;
         }
-        self.sightings = sightings;
-        for taker in roll.takers.iter() {
-            self.see(*taker, now);
+        Ok(live)
+    }
+
+    /// Those that left, each beside when it was heard of last, as far as that is known.
+    fn left_now(
+        &self,
+        alloc: Global,
+        roll: &Roll,
+        now: Instant,
+    ) -> Result<Vec<Sighting>, AllocError> {
+        let mut left = Vec::with_capacity(alloc, roll.left.len())?;
+        for collector in roll.left.iter() {
+            let collector = *collector;
+            let at = self.last_heard(collector).unwrap_or(now);
+            left.push(Sighting { collector, at })?;
         }
-        self.read = roll.read;
-        Ok(())
+        Ok(left)
+    }
+
+    /// When one that left was heard of last.
+    fn last_heard(&self, collector: CollectorId) -> Option<Instant> {
+        for sighting in self.left.iter() {
+            if sighting.collector == collector {
+                return Some(sighting.at);
+            }
+        }
+        self.last_seen(collector)
     }
 
     fn last_seen(&self, collector: CollectorId) -> Option<Instant> {
@@ -111,8 +148,8 @@ impl Attendance {
     }
 }
 
-/// What a desk says of its collectors, where so many entries of its journal are known.
-fn roll_of(alloc: Global, record: &Record, known: usize) -> Result<Roll, AllocError> {
+/// What a desk says of its collectors.
+fn roll_of(alloc: Global, record: &Record) -> Result<Roll, AllocError> {
     let collectors = record.core().fleet().collectors();
     let mut live = Vec::with_capacity(alloc, collectors.len())?;
     for collector in collectors {
@@ -121,31 +158,19 @@ fn roll_of(alloc: Global, record: &Record, known: usize) -> Result<Roll, AllocEr
             draining: collector.draining,
         })?;
     }
-    let journal = record.journal();
-    let takers = takers_in(alloc, journal.get(known..).unwrap_or(&[]))?;
-    Ok(Roll {
-        live,
-        takers,
-        read: journal.len(),
-    })
+    let left = left_in(alloc, record.core())?;
+    Ok(Roll { live, left })
 }
 
-fn takers_in(alloc: Global, entries: &[Entry]) -> Result<Vec<CollectorId>, AllocError> {
-    let mut takers = Vec::new(alloc);
-    for entry in entries {
-        if let Some(collector) = taker_in(&entry.event) {
-            takers.push(collector)?;
+/// The collectors that are not live and whose lists still have targets, each once.
+fn left_in(alloc: Global, core: &Core) -> Result<Vec<CollectorId>, AllocError> {
+    let mut left = Vec::new(alloc);
+    for collector in core.slots() {
+        if *collector != 0 && !left.contains(collector) && !core.fleet().is_joined(*collector) {
+            left.push(*collector)?;
         }
     }
-    Ok(takers)
-}
-
-/// Who took, or was served, a list by an event.
-fn taker_in(event: &Event) -> Option<CollectorId> {
-    match event {
-        Event::Take(collector) | Event::Serve { collector, job: _ } => Some(*collector),
-        _ => None,
-    }
+    Ok(left)
 }
 
 /// What is entered of a collector that took nothing for so long.
@@ -160,44 +185,77 @@ fn due(member: Member, absent: Duration, limit: Duration) -> Option<Event> {
 }
 
 impl<R: Wait + Clock + Eprint + Copy, L: Ledger, B: Ledger, N: DeskName> Shared<R, L, B, N> {
-    /// Drains collectors that took nothing for as long as the limit says, and has those leave that took nothing for twice as long.
+    /// Drains collectors that asked for nothing for as long as the limit says, has those leave that asked for nothing for twice as long,
+    /// and lets the lists go of those that left and were not heard of for long.
     pub(crate) fn dismiss_absent<C>(
         &self,
         pass: &mut Pass<L, B, N>,
         schedule: &mut Schedule<C>,
         now: Instant,
     ) {
-        let Some(limit) = self.absence else {
-            return;
-        };
-        if self
-            .dismiss_after(pass, &mut schedule.attendance, limit, now)
-            .is_err()
-        {
+        let attendance = &mut schedule.attendance;
+        if self.call_roll(pass, attendance, now).is_err() {
             log_warning(&self.rt, "no memory to see which collectors are absent");
         }
+    }
+
+    fn call_roll(
+        &self,
+        pass: &mut Pass<L, B, N>,
+        attendance: &mut Attendance,
+        now: Instant,
+    ) -> Result<(), AllocError> {
+        let alloc = self.alloc;
+        let takers = self.state.take_takers(&self.rt);
+        let roll = self
+            .desk
+            .read(&self.rt, pass, |record| roll_of(alloc, record))?;
+        attendance.note(alloc, &roll, takers.as_slice(), now)?;
+        if let Some(limit) = self.absence {
+            self.dismiss_after(pass, attendance, &roll, limit, now);
+        }
+        if let Some(limit) = self.release_after {
+            self.release_after(pass, attendance, limit, now);
+        }
+        Ok(())
     }
 
     fn dismiss_after(
         &self,
         pass: &mut Pass<L, B, N>,
         attendance: &mut Attendance,
+        roll: &Roll,
         limit: Duration,
         now: Instant,
-    ) -> Result<(), AllocError> {
-        let known = attendance.read;
-        let alloc = self.alloc;
-        let roll = self
-            .desk
-            .read(&self.rt, pass, |record| roll_of(alloc, record, known))?;
-        attendance.note(alloc, &roll, now)?;
+    ) {
         for member in roll.live.iter() {
             if let Some(seen) = attendance.last_seen(member.collector) {
                 let absent = now.saturating_duration_since(seen);
                 self.follow_member(pass, attendance, *member, absent, limit);
             }
         }
-        Ok(())
+    }
+
+    /// The lists are let go of those that left and were not heard of for so long.
+    fn release_after(
+        &self,
+        pass: &mut Pass<L, B, N>,
+        attendance: &Attendance,
+        limit: Duration,
+        now: Instant,
+    ) {
+        for left in attendance.left.iter() {
+            if now.saturating_duration_since(left.at) >= limit {
+                self.release(pass, left.collector);
+            }
+        }
+    }
+
+    fn release(&self, pass: &mut Pass<L, B, N>, collector: CollectorId) {
+        let job = None;
+        if let Some(answer) = self.enter(pass, Event::Release { collector, job }) {
+            self.log_answer("a collector that left", &answer);
+        }
     }
 
     /// What is due of a collector that took nothing for so long, or takes again.

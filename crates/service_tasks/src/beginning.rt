@@ -9,6 +9,7 @@ use label_sets::Target;
 use lists::{List, Plain};
 use relabel::{Found, Rules};
 use sd_documents::Job;
+use service_settings::Handover;
 use std::alloc::{AllocError, Global};
 use std::sync::ledger::Ledger;
 use std::sync::{Arc, Wait};
@@ -23,6 +24,8 @@ impl<R: Wait + Clock + Eprint + Copy, L: Ledger, B: Ledger, N: DeskName> Shared<
         service: &Service,
         office: &mut Office<S, F, C>,
     ) -> Result<(), AllocError> {
+        self.state
+            .set_ordered(service.settings.handover == Handover::Ordered);
         if self.is_broken() {
             self.state.break_down();
         } else if office.is_new {

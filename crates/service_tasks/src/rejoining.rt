@@ -20,7 +20,8 @@ impl<R: Wait + Clock + Eprint + Copy, L: Ledger, B: Ledger, N: DeskName> Shared<
     pub(crate) fn remember_names(&self, pass: &mut Pass<L, B, N>) {
         self.desk.read(&self.rt, pass, |record| {
             for collector in record.core().fleet().collectors() {
-                self.state.note_live(&self.rt, collector.name.as_str());
+                self.state
+                    .note_live(&self.rt, collector.name.as_str(), collector.id);
             }
         });
     }

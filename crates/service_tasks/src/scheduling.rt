@@ -95,7 +95,6 @@ impl<R: Wait + Clock + Eprint + Copy, L: Ledger, B: Ledger, N: DeskName> Shared<
     }
 
     fn take_turns<C: Configuration>(&self, pass: &mut Pass<L, B, N>, schedule: &mut Schedule<C>) {
-        schedule.attendance.begin_desk();
         schedule.held.clear();
         self.remember_held(pass, schedule);
         self.remember_names(pass);

@@ -22,6 +22,8 @@ pub struct Shared<R, L: Ledger, B: Ledger, N: DeskName> {
     pub(crate) settle: Duration,
     /// After how long a collector that takes nothing is drained, if ever.
     pub(crate) absence: Option<Duration>,
+    /// After how long the lists are let go of a collector that left and is not heard of, if ever.
+    pub(crate) release_after: Option<Duration>,
     /// Whether a collector of the configuration that is not live joins where its list is asked for.
     pub(crate) rejoin: bool,
     /// How long after its journal broke the service ends.
@@ -55,6 +57,7 @@ impl<R: Wait + Copy, L: Ledger, B: Ledger, N: DeskName> Shared<R, L, B, N> {
             round: Duration::from_millis(settings.scrape_interval),
             settle: Duration::from_millis(settings.settle),
             absence: settings.collector_timeout.map(Duration::from_millis),
+            release_after: settings.release_after.map(Duration::from_millis),
             rejoin: settings.rejoin,
             give_up: Duration::from_millis(settings.give_up),
             control: Control::new(),
