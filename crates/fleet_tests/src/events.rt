@@ -139,6 +139,29 @@ fn taken(allocation: u32, round: u32, held: List<u32>) -> Answer {
     }
 }
 
+/// The answer to a collector that is served these targets, and not those.
+fn says_served(
+    alloc: Global,
+    listed: &[u32],
+    left_out: &[u32],
+    line: &str,
+) -> Result<bool, AllocError> {
+    let listed = Vec::from_slice(alloc, listed)?;
+    match Vec::from_slice(alloc, left_out) {
+        Ok(left_out) => says(alloc, served(listed, left_out), line),
+        Err(error) => Err(error),
+    }
+}
+
+fn served(listed: Vec<u32>, left_out: Vec<u32>) -> Answer {
+    Answer::Served {
+        allocation: 2,
+        round: 1,
+        listed: List::from_vec(listed),
+        left_out: List::from_vec(left_out),
+    }
+}
+
 fn says_discovered(alloc: Global) -> Result<bool, AllocError> {
     let discovered = Answer::Discovered {
         added: 1,
@@ -169,7 +192,10 @@ fn says_of_allocations(alloc: Global) -> Result<bool, AllocError> {
             && says(alloc, Answer::Published(4294967295), "Published 4294967295")?
             && says(alloc, Answer::RoundOpen(2), "RoundOpen 2")?
             && says_taken(alloc, 1, 2, &[0, 3, 5], "Taken 1 2 0,3,5")?
-            && says_taken(alloc, 0, 1, &[], "Taken 0 1 -")?,
+            && says_taken(alloc, 0, 1, &[], "Taken 0 1 -")?
+            && says_served(alloc, &[0, 1], &[], "Served 2 1 0,1 -")?
+            && says_served(alloc, &[], &[3], "Served 2 1 - 3")?
+            && says(alloc, Answer::Released(3), "Released 3")?,
     )
 }
 
@@ -196,6 +222,7 @@ fn says_refusals(rt: HostRuntime) -> Result<(), Fail> {
         (Refusal::UnknownTarget, "UnknownTarget"),
         (Refusal::NotHolder(Some(2)), "NotHolder 2"),
         (Refusal::NotHolder(None), "NotHolder none"),
+        (Refusal::StillServed(3), "StillServed 3"),
         (Refusal::RoundClosed(2), "RoundClosed 2"),
         (Refusal::RoundNotOpen(1), "RoundNotOpen 1"),
         (Refusal::AlreadyBooked, "AlreadyBooked"),
