@@ -1,35 +1,27 @@
 //! What a request is handled with.
-ghost use Rattle.std.specs.Prelude.{◌≡◌, Some, IfOk, IfErr, IfSome, codes};
+ghost use Rattle.std.specs.Prelude.{◌≡◌, Some, IfOk, IfErr};
 ghost use Rattle.std.specs.Arc.{arc_value};
-ghost use Rattle.fleet.specs.Fleet.{id_named};
-ghost use Rattle.fleet_events.specs.declared.event.Event.TheVariants.{Serve};
-ghost use Rattle.allocation_core.specs.Idle.{IsIdle};
-ghost use Rattle.alloc_desk.specs.Views.{numbered_of, shares_of};
+
+ghost use Rattle.alloc_desk.specs.Views.{shares_of};
 ghost use Rattle.service_state.specs.Jobs.{place_of};
 ghost use Rattle.sd_server.specs.Texts.{certificate_text, job_text};
-ghost use Rattle.sd_server.specs.Listing.{IsGroups};
+
 ghost use Rattle.sd_server.specs.Entries.{Leads, OnceKept};
-ghost use Rattle.sd_server.specs.Says.{IsAnswered, IsAtOnce, IsEntered, IsUncoveredText, OfSome, Says, SaysCollector, SaysCopy, SaysDocument, SaysEvent, SaysGone, SaysHeld, SaysJob, SaysList, SaysListed, SaysLive, SaysMetrics, SaysNot, SaysPage, SaysQuit, SaysReady, SaysRefused, SaysReload, SaysServe, SaysServed, SaysTake, SaysText, SaysUncovered};
+ghost use Rattle.sd_server.specs.Says.{IsAtOnce, IsEntered, IsUncoveredText, OfSome, Says, SaysCopy, SaysDocument, SaysEvent, SaysJob, SaysLive, SaysMetrics, SaysNot, SaysPage, SaysQuit, SaysReady, SaysRefused, SaysReload, SaysText, SaysUncovered};
 
 use crate::certificate_page::certificate_page;
 use crate::counter::Counter;
 use crate::entry::{Entry, Later, Reload};
-use crate::list_text::ListText;
 use crate::list_texts::ListTexts;
 use crate::uncovered::{Uncovered, uncovered_of};
 use admission::Admission;
-use alloc_desk::{Desk, DeskName, EnterError, NumberedTarget, Pass, Receipt, Share};
+use alloc_desk::{Desk, DeskName, EnterError, Pass, Receipt, Share};
 use allocation_core::{Answer, Event, Refusal};
-use bytes::Bytes;
 use event_loops::Gate;
-use fleet_events::{AllocationNumber, CollectorId, TargetId};
-use lists::{List, Plain, Text};
+use fleet_events::{CollectorId};
+use lists::{List, Text};
 use price_certificate::{Instance, Plan};
-use reach_rules::CollectorName;
-use sd_routes::{
-    Ask, Notice, RequestError, Said, event_of, job_page, misshapen_member, targets_page,
-    uncovered_page,
-};
+use sd_routes::{Ask, Notice, RequestError, Said, event_of, job_page, misshapen_member, uncovered_page};
 use service_state::{
     Asked, ChangeNote, ConfigPages, EventKind, Figures, Kept, LONGEST_WAIT_MILLIS, Route,
     ServiceState, figures_of, metrics_page, status_page,
@@ -167,7 +159,9 @@ impl<R: Wait + Clock + Copy, L: Ledger, B: Ledger, N: DeskName> Handler<R, L, B,
         let collector = match event {
             Event::Join { name, .. } => Text::from_str(self.alloc, name.as_str()),
             Event::Leave(id) | Event::Drain(id) => self.number_text(*id),
-            Event::SetLimits { collector, .. } => self.number_text(*collector),
+            Event::SetLimits { collector, .. } | Event::Release { collector, .. } => {
+                self.number_text(*collector)
+            }
             _ => return None,
         };
         Some((EventKind::of(event), collector.ok()?))
@@ -227,6 +221,7 @@ impl<R: Wait + Clock + Copy, L: Ledger, B: Ledger, N: DeskName> Handler<R, L, B,
             | Ask::Join
             | Ask::Leave(_)
             | Ask::Drain(_)
+            | Ask::Release(_)
             | Ask::SetLimits(_)
             | Ask::Report => Said::Refused(RequestError::Memory),
         }
@@ -395,245 +390,8 @@ impl<R: Wait + Clock + Copy, L: Ledger, B: Ledger, N: DeskName> Handler<R, L, B,
         )
     }
 
-    fn collector(&self, job: &Text, name: &CollectorName) -> Entry
-        ensures { Leads (SaysCollector N.opening job.now name.now (place_of job.now (arc_value self.now.pages).names)) result }
-    {
-        let Some(place) = self.pages.place(job.as_str()) else {
-            return Entry::Now(Said::Answer(Answer::Not(Refusal::UnknownJob)));
-        };
-        self.held(place, job, name.as_str())
-    }
-
-    fn held(&self, place: usize, job: &Text, name: &str) -> Entry
-        ensures { Leads (SaysHeld N.opening place job.now name.now) result }
-    {
-        match self.named(name) {
-            Some(id) => {
-                self.state.note_live(&self.rt, name, id);
-                self.state.note_taker(&self.rt, id);
-                self.list(place, job, name, id)
-            }
-            None => self.gone(job, name),
-        }
-    }
-
-    fn named(&self, name: &str) -> Option<CollectorId>
-        ensures { OfSome N.opening (λ h. result ≡ id_named h.state.fleet.collectors name.now) }
-    {
-        let mut pass = self.pass.lock(&self.rt);
-        self.desk.named(&self.rt, &mut *pass, name)
-    }
-
-    /// What a collector is told of a job.
-    fn list(&self, place: usize, job: &Text, name: &str, id: CollectorId) -> Entry
-        ensures { Leads (SaysList N.opening place job.now id) result }
-    {
-        if !self.state.is_ordered() {
-            return self.taken(place, id);
-        }
-        if let Some(earlier) = self.state.earlier(&self.rt, name, id) {
-            // Its list of the job is the one that it is served under its number of now.
-            let _ = self.let_go(job, earlier);
-        }
-        self.served(place, job, id)
-    }
-
-    /// What is told under a name that no live collector has: who had it is to let go of what it scrapes.
-    fn gone(&self, job: &Text, name: &str) -> Entry
-        ensures { Leads (SaysGone N.opening) result }
-    {
-        let Some(id) = self.state.number_of(&self.rt, name) else {
-            return Entry::Now(Said::Answer(Answer::Not(Refusal::UnknownCollector)));
-        };
-        if !self.state.is_ordered() {
-            return Entry::Now(self.nothing());
-        }
-        match self.let_go(job, id) {
-            Ok(rests) => self.once_kept(rests, self.nothing()),
-            Err(error) => Entry::Now(Said::Refused(error)),
-        }
-    }
-
-    /// The empty list.
-    fn nothing(&self) -> Said
-        ensures { SaysCopy (codes "[]") result }
-    {
-        match Text::from_str(self.alloc, "[]") {
-            Ok(nothing) => Said::Page(nothing),
-            Err(_) => Said::Refused(RequestError::Memory),
-        }
-    }
-
-    /// The list of a job of a collector that left is let go. Gives how many entries of the journal that rests on.
-    fn let_go(&self, job: &Text, id: CollectorId) -> Result<u64, RequestError>
-        ensures { IfErr result (SaysNot N.opening) }
-    {
-        let (rests, _answer) = self.answered_serve(job, id)?;
-        Ok(rests)
-    }
-
-    fn taken(&self, place: usize, id: CollectorId) -> Entry
-        ensures { Leads (SaysTake N.opening place id) result }
-    {
-        match self.answered(Event::Take(id)) {
-            Ok((rests, answer)) => self.once_kept(rests, self.listed(place, id, answer)),
-            Err(error) => Entry::Now(Said::Refused(error)),
-        }
-    }
-
-    fn served(&self, place: usize, job: &Text, id: CollectorId) -> Entry
-        ensures { Leads (SaysServe N.opening place job.now id) result }
-    {
-        match self.answered_serve(job, id) {
-            Ok((rests, answer)) => self.once_kept(rests, self.served_list(place, id, answer)),
-            Err(error) => Entry::Now(Said::Refused(error)),
-        }
-    }
-
-    /// The answer to a Serve, and how many entries of the journal it rests on.
-    fn answered_serve(
-        &self,
-        job: &Text,
-        collector: CollectorId,
-    ) -> Result<(u64, Answer), RequestError>
-        ensures answer { IfOk result (λ r. IsAnswered N.opening (Serve collector job.now) r.1) }
-        ensures not { IfErr result (SaysNot N.opening) }
-    {
-        match job.copy() {
-            Ok(job) => self.answered(Event::Serve { collector, job }),
-            Err(_) => Err(RequestError::Memory),
-        }
-    }
-
-    /// The answer to an event, and how many entries of the journal it rests on. An event that would change nothing is not entered.
-    fn answered(&self, event: Event) -> Result<(u64, Answer), RequestError>
-        ensures answer { IfOk result (λ r. IsAnswered N.opening event r.1) }
-        ensures not { IfErr result (SaysNot N.opening) }
-    {
-        if self.is_broken() {
-            return Err(RequestError::NotKept);
-        }
-        match self.unchanged(&event) {
-            Some(told) => Ok(told),
-            None => self.answered_once_entered(event),
-        }
-    }
-
-    fn answered_once_entered(&self, event: Event) -> Result<(u64, Answer), RequestError>
-        ensures answer { IfOk result (λ r. IsAnswered N.opening event r.1) }
-        ensures not { IfErr result (SaysNot N.opening) }
-    {
-        match self.submitted(event) {
-            Ok(receipt) => Ok((receipt.position.saturating_add(1), receipt.answer)),
-            Err(error) => Err(error),
-        }
-    }
-
-    /// What an event is answered that would change nothing, and how many entries of the journal that rests on.
-    fn unchanged(&self, event: &Event) -> Option<(u64, Answer)>
-        ensures { IfSome result (λ t. OfSome N.opening (λ h. IsIdle h.state event.now (Some t.1))) }
-    {
-        let mut pass = self.pass.lock(&self.rt);
-        match self.desk.unchanged(&self.rt, &mut *pass, event) {
-            Ok(told) => told,
-            Err(_) => None,
-        }
-    }
-
-    fn served_list(&self, place: usize, collector: CollectorId, answer: Answer) -> Said
-        ensures { SaysServed N.opening place answer result }
-    {
-        match answer {
-            Answer::Served {
-                allocation,
-                round,
-                listed,
-                left_out,
-            } => match self.groups(place, collector, allocation, listed.as_slice()) {
-                Ok(groups) => Said::Served {
-                    allocation,
-                    round,
-                    left_out: left_out.len() as u32,
-                    groups,
-                },
-                Err(_) => Said::Refused(RequestError::Memory),
-            },
-            other => Said::Answer(other),
-        }
-    }
-
-    fn listed(&self, place: usize, collector: CollectorId, answer: Answer) -> Said
-        ensures { SaysListed N.opening place answer result }
-    {
-        match answer {
-            Answer::Taken {
-                allocation,
-                round,
-                held,
-            } => match self.groups(place, collector, allocation, held.as_slice()) {
-                Ok(groups) => Said::Taken {
-                    allocation,
-                    round,
-                    groups,
-                },
-                Err(_) => Said::Refused(RequestError::Memory),
-            },
-            other => Said::Answer(other),
-        }
-    }
-
-    /// The text of what a collector holds of a job in an allocation.
-    fn groups(
-        &self,
-        place: usize,
-        collector: CollectorId,
-        allocation: AllocationNumber,
-        held: &[TargetId],
-    ) -> Result<Bytes, AllocError>
-        ensures { IfOk result (IsGroups N.opening place held.now) }
-    {
-        if let Some(text) = self.texts.text(&self.rt, collector, place, held)? {
-            return Ok(text);
-        }
-        let text = self.new_groups(place, held)?;
-        if let Ok(kept) = self.kept_text(place, held, &text) {
-            let _ = self
-                .texts
-                .keep(&self.rt, allocation, collector, place, kept);
-        }
-        Ok(text)
-    }
-
-    /// A text, to be kept.
-    fn kept_text(
-        &self,
-        place: usize,
-        held: &[TargetId],
-        text: &Bytes,
-    ) -> Result<Arc<ListText<N>>, AllocError>
-        requires { IsGroups N.opening place held.now text.now }
-    {
-        let text = ListText::new(self.alloc, place, held, text.clone()?)?;
-        Ok(Arc::new(self.alloc, text)?)
-    }
-
-    fn new_groups(&self, place: usize, held: &[TargetId]) -> Result<Bytes, AllocError>
-        ensures { IfOk result (IsGroups N.opening place held.now) }
-    {
-        let targets = self.numbered(place, held)?;
-        Bytes::from_string(targets_page(self.alloc, targets.as_slice())?.into_string())
-    }
-
-    fn numbered(&self, place: usize, held: &[TargetId]) -> Result<List<NumberedTarget>, AllocError>
-        ensures { IfOk result (λ l. OfSome N.opening (λ h. l ≡ numbered_of h.state place held.now)) }
-    {
-        let mut pass = self.pass.lock(&self.rt);
-        self.desk
-            .numbered(&self.rt, self.alloc, &mut *pass, place, held)
-    }
-
     /// The receipt of an event that was entered.
-    fn submitted(&self, event: Event) -> Result<Receipt, RequestError>
+    pub(crate) fn submitted(&self, event: Event) -> Result<Receipt, RequestError>
         ensures receipt { IfOk result (IsEntered N.opening event) }
         ensures not { IfErr result (SaysNot N.opening) }
     {
@@ -647,7 +405,7 @@ impl<R: Wait + Clock + Copy, L: Ledger, B: Ledger, N: DeskName> Handler<R, L, B,
     }
 
     /// Whether what is submitted cannot be kept.
-    fn is_broken(&self) -> bool {
+    pub(crate) fn is_broken(&self) -> bool {
         match &self.kept {
             Some(kept) => kept.is_broken(&self.rt),
             None => false,
@@ -655,7 +413,7 @@ impl<R: Wait + Clock + Copy, L: Ledger, B: Ledger, N: DeskName> Handler<R, L, B,
     }
 
     /// What is said once so many entries of the journal are kept, where they are to be.
-    fn once_kept(&self, entries: u64, said: Said) -> Entry
+    pub(crate) fn once_kept(&self, entries: u64, said: Said) -> Entry
         ensures { Leads (OnceKept said) result }
     {
         let (Some(kept), Some(position)) = (&self.kept, entries.checked_sub(1)) else {

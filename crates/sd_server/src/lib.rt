@@ -7,6 +7,7 @@
 
 mod by_loops;
 mod certificate_page;
+mod collector_lists;
 mod counter;
 mod entry;
 mod handler;
