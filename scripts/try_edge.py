@@ -2,7 +2,7 @@
 """Runs `allocd serve` over settings, sources and figures that scripts/try_serve.py does not look at, and tells of each thing whether it holds: try_edge.py [PART ..]
 
 Where it listens and keeps its journal, each job's own rules, reloads with more sources, other orders and too many jobs, who is uncovered,
-names as text, what is counted, what strangers send, rounds. It needs Linux and the program (ALLOCD_PROGRAM, or dist/allocd)."""
+names as text, what is counted, what strangers send and don't send, rounds. It needs Linux and the program (ALLOCD_PROGRAM, or dist/allocd)."""
 
 import http.server
 import json
@@ -267,6 +267,20 @@ def talks(folder):
     ends(service)
 
 
+def stalls(folder):
+    """A body that does not come holds no reload for longer than an exchange may go on once the server ends."""
+    service = started(folder, [static("a", 3)])
+    with socket.create_connection(("127.0.0.1", service.port)) as stranger:
+        stranger.sendall(post(b"/collectors", b"{", 1000))
+        time.sleep(0.3)
+        begun = time.monotonic()
+        tell("a reload beside a body that does not come", reloaded(service, config([static("a", 3), static("b", 1)])) == 200)
+        follows = comes(lambda: "b" in json.loads(service.ask("GET", "/jobs")[1]), 30)
+        took = time.monotonic() - begun
+        tell("it is followed within 15 seconds", follows and took < 15, f"{took:.1f} seconds")
+    ends(service)
+
+
 def rounds(folder):
     service = started(folder, [static("n", 1)], interval="1s")
     first, began = service.figure("allocd_round"), time.monotonic()
@@ -279,4 +293,4 @@ def rounds(folder):
 SOURCE = http.server.ThreadingHTTPServer(("127.0.0.1", 0), Source)
 SOURCE.daemon_threads = True
 threading.Thread(target=SOURCE.serve_forever, daemon=True).start()
-run_parts((settings, relabels, reloads, uncovered, texts, figures, talks, rounds), sys.argv[1:])
+run_parts((settings, relabels, reloads, uncovered, texts, figures, talks, stalls, rounds), sys.argv[1:])
