@@ -19,7 +19,7 @@ use alloc_desk::{Desk, DeskName, EnterError, Pass, Receipt, Share};
 use allocation_core::{Answer, Event, Refusal};
 use event_loops::Gate;
 use fleet_events::{CollectorId};
-use lists::{List, Text};
+use lists::{List, Plain, Text};
 use price_certificate::{Instance, Plan};
 use sd_routes::{Ask, Notice, RequestError, Said, event_of, job_page, misshapen_member, uncovered_page};
 use service_state::{

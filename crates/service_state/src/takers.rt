@@ -24,7 +24,8 @@ impl Takers {
         if self.takers.contains(&id) {
             return Ok(());
         }
-        self.takers.push(id)
+        self.takers.push(id)?;
+        Ok(())
     }
 
     /// Those that asked, since this was asked.
