@@ -73,9 +73,22 @@ with_list known served collector job number held =
       numbers = with_number served.numbers collector job number;
     }
 
--- the lists of a collector are let go, that of a job where one is named
+-- the job is the one, or none is named
+abbrev pub is_job_or_any : Option ℕ → ℕ → Bool
+is_job_or_any None j = true
+is_job_or_any (Some job) j = j == job
+
+-- the numbers without those of a collector, that of a job where one is named
+abbrev pub without_numbers : List ((ℕ × ℕ) × ℕ) → ℕ → Option ℕ → List ((ℕ × ℕ) × ℕ)
+without_numbers numbers collector job = filter (λ (q : (ℕ × ℕ) × ℕ). not ((q.0.0 == collector) && is_job_or_any job q.0.1)) numbers
+
+-- the lists of a collector are let go, that of a job where one is named, and the allocations that they are of are forgotten
 abbrev pub without_list : List KnownTarget → Served → ℕ → Option ℕ → Served
-without_list known served collector job = record served { slots = tabulated (slot_let_go known served.slots collector job) (length served.slots) }
+without_list known served collector job =
+    record {
+      slots = tabulated (slot_let_go known served.slots collector job) (length served.slots);
+      numbers = without_numbers served.numbers collector job;
+    }
 
 -- how many targets they have
 abbrev pub count_had : List KnownTarget → Served → ℕ → Option ℕ → ℕ

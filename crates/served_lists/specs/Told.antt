@@ -1,9 +1,9 @@
 -- What the slots tell of the lists that were served last.
-use Rattle.std.specs.Prelude.{◌≡◌, ◌<◌, ◌≤◌, ◌≢◌, ◌==◌, ◌&&◌, Bool, true, false, ℕ, List, [], ◌++◌, if◌then◌else◌, filter, length, Option, Some, None}
+use Rattle.std.specs.Prelude.{◌≡◌, ◌<◌, ◌≤◌, ◌≢◌, ◌==◌, ◌&&◌, true, false, ℕ, List, [], ◌++◌, if◌then◌else◌, filter, length, Option, Some, None}
 use Rattle.fleet.specs.Live.{is_in}
 use Rattle.fleet.specs.Orderly.{is_of}
 use Rattle.fleet.specs.declared.known_target.KnownTarget.{KnownTarget}
-use Rattle.served_lists.specs.Served.{Served, has, left_out_of, listed_of, slot_of, with_list, without_list}
+use Rattle.served_lists.specs.Served.{Served, has, is_job_or_any, left_out_of, listed_of, number_of, slot_of, with_list, without_list}
 
 -- Lists by collector and job. A target stands in the list of a collector and a job exactly where it is of the job and its slot names
 -- the collector: so in one list at most.
@@ -26,11 +26,6 @@ abbrev pub ServingTells : Type 0
 ServingTells =
     (known : List KnownTarget) (served : Served) (lists : ℕ → ℕ → List ℕ) (collector job number : ℕ) (held : List ℕ) → 0 < collector → Tells known served.slots lists
     → Tells known (with_list known served collector job number held).slots (lists_with lists collector job (listed_of known served.slots collector job held))
-
--- the job is the one, or none is named
-abbrev pub is_job_or_any : Option ℕ → ℕ → Bool
-is_job_or_any None j = true
-is_job_or_any (Some job) j = j == job
 
 -- the lists without those of a collector, that of a job where one is named
 abbrev pub lists_without : (ℕ → ℕ → List ℕ) → ℕ → Option ℕ → ℕ → ℕ → List ℕ
@@ -72,6 +67,12 @@ FreeIsListed =
 -- What a list had that is let go, no list has.
 abbrev pub LetGoIsFree : Type 0
 LetGoIsFree = (known : List KnownTarget) (served : Served) (collector target : ℕ) (job : Option ℕ) → has known served.slots collector job target ≡ true → slot_of (without_list known served collector job).slots target ≡ 0
+
+-- Where lists are let go, these are of no allocation any more, and the others of the one that they were of.
+abbrev pub LetGoIsForgotten : Type 0
+LetGoIsForgotten =
+    (known : List KnownTarget) (served : Served) (collector c j : ℕ) (job : Option ℕ)
+    → number_of (without_list known served collector job).numbers c j ≡ (if (c == collector) && is_job_or_any job j then None else number_of served.numbers c j)
 
 -- What a list had, no list has once its collector is served it anew and no longer holds the target.
 abbrev pub ServedAnewIsFree : Type 0

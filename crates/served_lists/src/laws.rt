@@ -1,5 +1,5 @@
 //! Laws above the definitions: the slots tell the lists that were served last.
-ghost use Rattle.served_lists.specs.Told.{FreeIsListed, GrowingTells, LeftOutForAnother, LetGoIsFree, LettingGoTells, ListsAreDisjoint, NoneTell, ServedAnewIsFree, ServingTells};
+ghost use Rattle.served_lists.specs.Told.{FreeIsListed, GrowingTells, LeftOutForAnother, LetGoIsForgotten, LetGoIsFree, LettingGoTells, ListsAreDisjoint, NoneTell, ServedAnewIsFree, ServingTells};
 ghost use Rattle.served_lists.specs.Anew.{RenewedTells};
 
 /// Of no slots the lists are empty.
@@ -40,6 +40,11 @@ pub fn free_is_listed()
 /// What a list had that is let go, no list has.
 pub fn let_go_is_free()
     ensures { LetGoIsFree }
+{}
+
+/// Where lists are let go, these are of no allocation any more, and the others of the one that they were of.
+pub fn let_go_is_forgotten()
+    ensures { LetGoIsForgotten }
 {}
 
 /// What a list had, no list has once its collector is served it anew and no longer holds the target.

@@ -11,8 +11,9 @@ mod served_lists;
 mod slots;
 
 pub use laws::{
-    free_is_listed, growing_tells, left_out_for_another, let_go_is_free, letting_go_tells,
-    lists_are_disjoint, none_tell, renewed_tells, served_anew_is_free, serving_tells,
+    free_is_listed, growing_tells, left_out_for_another, let_go_is_forgotten, let_go_is_free,
+    letting_go_tells, lists_are_disjoint, none_tell, renewed_tells, served_anew_is_free,
+    serving_tells,
 };
 pub use list::ServedList;
 pub use served_lists::ServedLists;

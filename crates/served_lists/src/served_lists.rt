@@ -1,7 +1,7 @@
 //! The lists that were served last.
-ghost use Rattle.std.specs.Prelude.{◌≡◌, ◌≤◌, [], length, IfOk, IsTrue, OnOk, OnErr};
+ghost use Rattle.std.specs.Prelude.{◌≡◌, ◌≤◌, ◌==◌, ◌&&◌, [], length, not, IfOk, IsTrue, OnOk, OnErr};
 ghost use Rattle.fleet.specs.declared.limits.TheConstants.{MOST_KNOWN_TARGETS};
-ghost use Rattle.served_lists.specs.Served.{count_had, left_out_of, listed_of, nothing_served, number_of, slot_of, with_list, with_number, without_list};
+ghost use Rattle.served_lists.specs.Served.{count_had, is_job_or_any, left_out_of, listed_of, nothing_served, number_of, slot_of, with_list, with_number, without_list, without_numbers};
 
 use crate::list::{ServedList, list_for};
 use crate::same::slots_stay;
@@ -137,8 +137,8 @@ impl ServedLists {
         Ok(list)
     }
 
-    /// The lists of a collector are let go, that of a job where one is named. It gives how many targets they had, and takes no
-    /// memory.
+    /// The lists of a collector are let go, that of a job where one is named, and are of no allocation any more. It gives how many
+    /// targets they had, and takes no memory.
     pub fn release(
         &mut self,
         known: &[KnownTarget],
@@ -148,6 +148,7 @@ impl ServedLists {
         ensures count { result ≡ count_had known.now self.old collector job }
         ensures state { self.new ≡ without_list known.now self.old collector job }
     {
+        forget_numbers(&mut self.numbers, collector, job);
         let_go(self.slots.as_mut_slice(), known, collector, job)
     }
 }
@@ -166,4 +167,29 @@ fn set_number(
         .insert((collector, job), number)
         .map_err(AllocError::from)?;
     Ok(())
+}
+
+/// Forgets which allocations the lists of a collector are of, that of a job where one is named.
+fn forget_numbers(
+    numbers: &mut IndexMap<(CollectorId, usize), u32>,
+    collector: CollectorId,
+    job: Option<usize>,
+)
+    ensures { numbers.new.entries ≡ without_numbers numbers.old.entries collector job }
+{
+    numbers.retain(
+        |list: &(CollectorId, usize), number: &mut u32| -> bool
+            ensures { (result ≡ not ((list.now.0 == collector) && is_job_or_any job list.now.1)) × (number.new ≡ number.old) }
+        { list.0 != collector || !is_job_or_any(job, list.1) },
+    );
+}
+
+/// Whether a job is the one that is named, or none is named.
+fn is_job_or_any(named: Option<usize>, job: usize) -> bool
+    ensures { result ≡ is_job_or_any named job }
+{
+    match named {
+        Some(named) => job == named,
+        None => true,
+    }
 }
