@@ -3,6 +3,7 @@ ghost use Rattle.std.specs.Prelude.{◌≡◌, None, Some, true, IfOk, OnOk, OnE
 ghost use Rattle.allocation_core.specs.State.{held_live, left_out_at, list_at, served_at, was_given};
 ghost use Rattle.allocation_core.specs.Steps.{answer_of, job_meant, place_of, refusal_of, state_after};
 ghost use Rattle.fleet_events.specs.declared.event.Event.TheVariants.{Release, Serve};
+ghost use Rattle.served_lists.specs.Served.{number_of};
 
 use super::Core;
 use fleet::job_named;
@@ -70,6 +71,13 @@ impl Core {
         let held = self.held_live(id)?;
         self.served
             .list(self.fleet.known(), id, job, held.as_slice())
+    }
+
+    /// The number of the allocation of the list of a job that a collector was served last, if it was served one that it has not let go.
+    pub fn served_number(&self, collector: CollectorId, job: usize) -> Option<u32>
+        ensures { result ≡ number_of self.now.served.numbers collector job }
+    {
+        self.served.number(collector, job)
     }
 
     /// What a live collector holds; nothing where it has left.
