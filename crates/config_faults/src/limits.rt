@@ -1,35 +1,45 @@
-//! Limits of collectors of jobs that there are not.
-use crate::collectors::collectors_in;
+//! Limits that collectors join with, of jobs that there are not.
+use crate::collectors::{Entry, Joining};
 use crate::lines::Lines;
 use logfmt::Quoted;
 use serde_json::{Map, Value};
 use std::alloc::{AllocError, Global};
 
-/// Tells the limits of the collectors of a document whose jobs it does not have.
+/// Tells the limits of the collectors and patterns of a document whose jobs it does not have.
 pub(crate) fn tell_limits(
     alloc: Global,
     lines: &mut Lines<'_>,
     document: &Value,
 ) -> Result<(), AllocError> {
-    for (index, collector) in collectors_in(document).iter().enumerate() {
-        if let Some(limits) = collector.get("limits").and_then(Value::as_object) {
-            tell_limits_of(alloc, lines, document, index, limits)?;
+    tell_limits_in(alloc, lines, document, Joining::Collectors)?;
+    tell_limits_in(alloc, lines, document, Joining::Patterns)
+}
+
+fn tell_limits_in(
+    alloc: Global,
+    lines: &mut Lines<'_>,
+    document: &Value,
+    list: Joining,
+) -> Result<(), AllocError> {
+    for (index, entry) in list.entries_in(document).iter().enumerate() {
+        if let Some(limits) = entry.get("limits").and_then(Value::as_object) {
+            tell_limits_of(alloc, lines, document, list.entry(index), limits)?;
         }
     }
     Ok(())
 }
 
-/// Tells the first limit of a collector whose job there is not.
+/// Tells the first limit of an entry whose job there is not.
 fn tell_limits_of(
     alloc: Global,
     lines: &mut Lines<'_>,
     document: &Value,
-    index: usize,
+    entry: Entry,
     limits: &Map<String, Value>,
 ) -> Result<(), AllocError> {
     for (job, _limit) in limits.iter() {
         if !has_job(document, job.as_str()) {
-            return tell_limit(alloc, lines, index, job.as_str());
+            return tell_limit(alloc, lines, entry, job.as_str());
         }
     }
     Ok(())
@@ -38,13 +48,11 @@ fn tell_limits_of(
 fn tell_limit(
     alloc: Global,
     lines: &mut Lines<'_>,
-    index: usize,
+    entry: Entry,
     job: &str,
 ) -> Result<(), AllocError> {
     let job = Quoted(job);
-    let line = format!(in alloc;
-        "allocator.collectors[{index}].limits: no job has the name {job}"
-    )?;
+    let line = format!(in alloc; "{entry}.limits: no job has the name {job}")?;
     lines.tell(line.as_str())
 }
 

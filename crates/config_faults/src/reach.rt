@@ -1,5 +1,5 @@
-//! What is wrong with the reach rules of a collector.
-use crate::collectors::member_of;
+//! What is wrong with the reach rules that a collector joins with.
+use crate::collectors::Entry;
 use crate::rules::is_label;
 use json_values::Spelled;
 use reach_rules::ReachRule;
@@ -11,9 +11,9 @@ pub(crate) fn reach_fault(
     alloc: Global,
     document: &Value,
     line: &str,
-    index: usize,
+    entry: Entry,
 ) -> Result<String, AllocError> {
-    let Some(found) = member_of(document, index, "reach") else {
+    let Some(found) = entry.member(document, "reach") else {
         return format!(in alloc; "{line}: it is missing");
     };
     let Some(rules) = found.as_array() else {
@@ -21,7 +21,7 @@ pub(crate) fn reach_fault(
     };
     for (place, rule) in rules.iter().enumerate() {
         if !is_rule(alloc, rule)? {
-            return rule_line(alloc, index, place, rule);
+            return rule_line(alloc, entry, place, rule);
         }
     }
     format!(in alloc; "{line}: it has more than 32 rules")
@@ -34,12 +34,12 @@ fn is_rule(alloc: Global, rule: &Value) -> Result<bool, AllocError> {
 
 fn rule_line(
     alloc: Global,
-    index: usize,
+    entry: Entry,
     place: usize,
     rule: &Value,
 ) -> Result<String, AllocError> {
     let why = rule_fault(alloc, rule)?;
-    format!(in alloc; "allocator.collectors[{index}].reach[{place}]{why}")
+    format!(in alloc; "{entry}.reach[{place}]{why}")
 }
 
 /// What is wrong with a rule, behind the way to it.

@@ -1,5 +1,5 @@
 //! What is wrong with the settings.
-use crate::collectors::{limits_fault, name_fault};
+use crate::collectors::{Joining, limits_fault, name_fault, pattern_fault};
 use crate::job::is_duration;
 use crate::lines::Lines;
 use crate::reach::reach_fault;
@@ -77,8 +77,24 @@ fn right_line(
         | Member::Settle => format!(in alloc; "{line}, as 15s or 1m30s is"),
         Member::Listen => format!(in alloc; "{line}, as 127.0.0.1:8080 is"),
         Member::CollectorName(index) => name_fault(alloc, value, line, index),
-        Member::CollectorReach(index) => reach_fault(alloc, value, line, index),
-        Member::CollectorLimits(index) => limits_fault(alloc, value, line, index),
+        Member::Pattern(index) => pattern_fault(alloc, value, line, index),
+        _ => joining_line(alloc, value, line, member),
+    }
+}
+
+/// The same of what collectors join with.
+fn joining_line(
+    alloc: Global,
+    value: &Value,
+    line: &str,
+    member: Member,
+) -> Result<String, AllocError> {
+    let (collectors, patterns) = (Joining::Collectors, Joining::Patterns);
+    match member {
+        Member::CollectorReach(index) => reach_fault(alloc, value, line, collectors.entry(index)),
+        Member::CollectorLimits(index) => limits_fault(alloc, value, line, collectors.entry(index)),
+        Member::PatternReach(index) => reach_fault(alloc, value, line, patterns.entry(index)),
+        Member::PatternLimits(index) => limits_fault(alloc, value, line, patterns.entry(index)),
         _ => String::from_str(alloc, line),
     }
 }

@@ -3,9 +3,10 @@ use crate::discovery::{discovery, first_labels, found};
 use crate::documents::{certificate, config, config_jobs, groups, instance};
 use crate::labels::{finished, label_name, label_steps};
 use crate::limits::{limit_steps, limits, own_limits, same_limits};
+use crate::pages::collectors_configs;
 use crate::reach::{collector_name, reach, reaches};
 use crate::rules::rules;
-use crate::service::{address, arguments, duration, settings};
+use crate::service::{address, arguments, duration, joins, settings};
 use crate::values::{compact, pairs, texts};
 use crate::words::{media, samples, url, written_groups};
 use std::alloc::{AllocError, Global};
@@ -48,11 +49,13 @@ fn words_answer(alloc: Global, reader: &str, text: &str) -> Result<Option<String
         "address" => address(alloc, text),
         "arguments" => arguments(alloc, text),
         "collector_name" => collector_name(alloc, text),
+        "collectors_configs" => collectors_configs(alloc, text),
         "compact" => compact(alloc, text),
         "duration" => duration(alloc, text),
         "finished" => finished(alloc, text),
         "first_labels" => first_labels(alloc, text),
         "found" => found(alloc, text),
+        "joins" => joins(alloc, text),
         "label_name" => label_name(alloc, text),
         "label_steps" => label_steps(alloc, text),
         "media" => media(alloc, text),

@@ -8,6 +8,7 @@ mod discovery;
 mod documents;
 mod labels;
 mod limits;
+mod pages;
 mod reach;
 mod rules;
 mod service;

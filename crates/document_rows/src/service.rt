@@ -4,9 +4,11 @@ use crate::values::NONE;
 use command_words::{Asked, ServeOptions, read_words};
 use json_values::parse;
 use lists::Text;
+use reach_rules::{OwnLimits, Reach};
 use serde_json::Value;
 use service_settings::{
-    Collector, Settings, SettingsError, address_of, duration_of, read_settings,
+    Collector, CollectorTimeout, JoiningPattern, ReleaseAfter, Settings, SettingsError, address_of,
+    duration_of, read_settings,
 };
 use std::alloc::{AllocError, Global};
 
@@ -91,6 +93,7 @@ fn outline(alloc: Global, settings: &Settings) -> Result<String, AllocError> {
         text.push_str(journal.as_str())?;
     }
     add_collectors(alloc, &mut text, settings.collectors.as_slice())?;
+    add_patterns(alloc, &mut text, settings.join_by_asking.as_slice())?;
     Ok(text)
 }
 
@@ -108,7 +111,8 @@ fn add_refresh(alloc: Global, text: &mut String, settings: &Settings) -> Result<
 
 fn add_rest(alloc: Global, text: &mut String, settings: &Settings) -> Result<(), AllocError> {
     text.push_str(rest_outline(alloc, settings)?.as_str())?;
-    text.push_str(doors_outline(alloc, settings)?.as_str())
+    text.push_str(doors_outline(alloc, settings)?.as_str())?;
+    text.push_str(handover_outline(alloc, settings)?.as_str())
 }
 
 /// The other settings.
@@ -118,9 +122,9 @@ fn rest_outline(alloc: Global, settings: &Settings) -> Result<String, AllocError
     let lifecycle = settings.lifecycle;
     let keep = settings.keep;
     let settle = settings.settle;
-    let timeout = settings.collector_timeout;
+    let timeout = timeout_outline(alloc, settings.collector_timeout)?;
     let fetch = settings.fetch_timeout;
-    format!(in alloc; " {a}.{b}.{c}.{d}:{port} {lifecycle} {keep} {settle} {timeout:?} {fetch}")
+    format!(in alloc; " {a}.{b}.{c}.{d}:{port} {lifecycle} {keep} {settle} {timeout} {fetch}")
 }
 
 /// Who may ask, and what is taken.
@@ -138,6 +142,29 @@ fn doors_outline(alloc: Global, settings: &Settings) -> Result<String, AllocErro
     format!(in alloc;
         " {give_up} {connections} {hosts} {admin} {collectors} {open} {no_jobs} {reach:?} {rejoin}"
     )
+}
+
+/// How lists are handed over.
+fn handover_outline(alloc: Global, settings: &Settings) -> Result<String, AllocError> {
+    let handover = settings.handover;
+    let release = release_outline(alloc, settings.release_after)?;
+    format!(in alloc; " {handover:?} {release}")
+}
+
+fn timeout_outline(alloc: Global, timeout: CollectorTimeout) -> Result<String, AllocError> {
+    match timeout {
+        CollectorTimeout::Adaptive => String::from_str(alloc, "adaptive"),
+        CollectorTimeout::After(millis) => format!(in alloc; "{millis}"),
+        CollectorTimeout::Never => String::from_str(alloc, "never"),
+    }
+}
+
+fn release_outline(alloc: Global, release: ReleaseAfter) -> Result<String, AllocError> {
+    match release {
+        ReleaseAfter::WithTimeout => String::from_str(alloc, "with the timeout"),
+        ReleaseAfter::After(millis) => format!(in alloc; "{millis}"),
+        ReleaseAfter::Never => String::from_str(alloc, "never"),
+    }
 }
 
 fn text_or_dash(text: &Option<Text>) -> &str {
@@ -159,4 +186,47 @@ fn add_collectors(
         text.push_str(format!(in alloc; " {name}:{limits}")?.as_str())?;
     }
     Ok(())
+}
+
+/// The patterns of those that join by asking, with how many limits each has.
+fn add_patterns(
+    alloc: Global,
+    text: &mut String,
+    patterns: &[JoiningPattern],
+) -> Result<(), AllocError> {
+    for pattern in patterns {
+        let name = pattern.pattern.as_str();
+        let limits = pattern.limits.entries().len();
+        text.push_str(format!(in alloc; " ~{name}:{limits}")?.as_str())?;
+    }
+    Ok(())
+}
+
+/// A list of a pattern and a name: whether the name matches the pattern, and a copy of it.
+pub(crate) fn joins(alloc: Global, text: &str) -> Result<String, AllocError> {
+    match parse(alloc, text.as_bytes())? {
+        Some(Value::Array(values)) => match values.as_slice() {
+            [pattern, name] => joins_by(alloc, pattern.as_str(), name.as_str()),
+            _ => String::from_str(alloc, NONE),
+        },
+        _ => String::from_str(alloc, NONE),
+    }
+}
+
+fn joins_by(
+    alloc: Global,
+    pattern: Option<&str>,
+    name: Option<&str>,
+) -> Result<String, AllocError> {
+    let (pattern, name) = (pattern.unwrap_or(""), name.unwrap_or(""));
+    let Ok(reach) = Reach::read(alloc, &Value::Array(Vec::new(alloc))) else {
+        return Err(AllocError);
+    };
+    let pattern = JoiningPattern {
+        pattern: Text::from_str(alloc, pattern)?,
+        reach,
+        limits: OwnLimits::none(alloc),
+    };
+    let (first, second) = (pattern.matches(name), pattern.copy()?.matches(name));
+    format!(in alloc; "{first} {second}")
 }

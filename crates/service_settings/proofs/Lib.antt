@@ -2,4 +2,5 @@ pub mod Behind
 pub mod Numbers
 pub mod Lengths
 pub mod Beside
+pub mod Ends
 pub mod Spelled

@@ -7,7 +7,11 @@ pub mod Lines
 pub mod Reading
 pub mod Members
 pub mod Collectors
+pub mod JoiningPattern
 pub mod Doors
 pub mod ReachChanges
+pub mod CollectorTimeout
+pub mod Handover
+pub mod ReleaseAfter
 pub mod Settings
 pub mod Beside

@@ -4,7 +4,7 @@ use Rattle.std.specs.Fmt.{decimal}
 use Rattle.service_settings.specs.declared.error.SettingsError.{SettingsError}
 use Rattle.service_settings.specs.declared.error.SettingsError.TheVariants.{NotJson, Shape, Unknown, RepeatedCollector, Memory}
 use Rattle.service_settings.specs.declared.error.Member.{Member}
-use Rattle.service_settings.specs.declared.error.Member.TheVariants.{Document, Global, ScrapeInterval, ScrapeConfigs, ScrapeConfig, HttpSdConfigs, HttpSdConfig, RefreshInterval, Allocator, Listen, Lifecycle, Journal, Keep, Settle, GiveUp, Connections, Hosts, Host, Tokens, AdminTokens, CollectorTokens, OpenToAll, AllowNoJobs, Collectors, Collector, CollectorName, CollectorReach, CollectorLimits, ReachChanges, Rejoin, CollectorTimeout, FetchTimeout}
+use Rattle.service_settings.specs.declared.error.Member.TheVariants.{Document, Global, ScrapeInterval, ScrapeConfigs, ScrapeConfig, HttpSdConfigs, HttpSdConfig, RefreshInterval, Allocator, Listen, Lifecycle, Journal, Keep, Settle, GiveUp, Connections, Hosts, Host, Tokens, AdminTokens, CollectorTokens, OpenToAll, AllowNoJobs, Collectors, Collector, CollectorName, CollectorReach, CollectorLimits, JoinByAsking, JoiningPattern, Pattern, PatternReach, PatternLimits, ReachChanges, Rejoin, CollectorTimeout, Handover, ReleaseAfter, FetchTimeout}
 
 -- without indices
 abbrev pub member_path : Member → List ℕ
@@ -36,9 +36,16 @@ member_path (Collector index) = codes "allocator.collectors"
 member_path (CollectorName index) = codes "allocator.collectors"
 member_path (CollectorReach index) = codes "allocator.collectors"
 member_path (CollectorLimits index) = codes "allocator.collectors"
+member_path JoinByAsking = codes "allocator.join_by_asking"
+member_path (JoiningPattern index) = codes "allocator.join_by_asking"
+member_path (Pattern index) = codes "allocator.join_by_asking"
+member_path (PatternReach index) = codes "allocator.join_by_asking"
+member_path (PatternLimits index) = codes "allocator.join_by_asking"
 member_path ReachChanges = codes "allocator.reach_changes"
 member_path Rejoin = codes "allocator.rejoin"
 member_path CollectorTimeout = codes "allocator.collector_timeout"
+member_path Handover = codes "allocator.handover"
+member_path ReleaseAfter = codes "allocator.release_after"
 member_path FetchTimeout = codes "allocator.fetch_timeout"
 
 -- the way to the member from the document
@@ -52,6 +59,10 @@ member_text (Collector index) = codes "allocator.collectors[" ++ (decimal index 
 member_text (CollectorName index) = codes "allocator.collectors[" ++ (decimal index ++ codes "].name")
 member_text (CollectorReach index) = codes "allocator.collectors[" ++ (decimal index ++ codes "].reach")
 member_text (CollectorLimits index) = codes "allocator.collectors[" ++ (decimal index ++ codes "].limits")
+member_text (JoiningPattern index) = codes "allocator.join_by_asking[" ++ (decimal index ++ codes "]")
+member_text (Pattern index) = codes "allocator.join_by_asking[" ++ (decimal index ++ codes "].pattern")
+member_text (PatternReach index) = codes "allocator.join_by_asking[" ++ (decimal index ++ codes "].reach")
+member_text (PatternLimits index) = codes "allocator.join_by_asking[" ++ (decimal index ++ codes "].limits")
 member_text other = member_path other
 
 -- what the member is not
@@ -84,9 +95,16 @@ missing (Collector index) = codes "no object"
 missing (CollectorName index) = codes "no name of a collector"
 missing (CollectorReach index) = codes "no list of reach rules"
 missing (CollectorLimits index) = codes "no object of limits"
+missing JoinByAsking = codes "no list"
+missing (JoiningPattern index) = codes "no object"
+missing (Pattern index) = codes "no pattern of collectors' names"
+missing (PatternReach index) = codes "no list of reach rules"
+missing (PatternLimits index) = codes "no object of limits"
 missing ReachChanges = codes "neither \"drained\" nor \"now\""
 missing Rejoin = codes "neither true nor false"
 missing CollectorTimeout = codes "no duration above 0"
+missing Handover = codes "neither \"ordered\" nor \"free\""
+missing ReleaseAfter = codes "neither a duration above 0 nor \"never\""
 missing FetchTimeout = codes "no duration above 0"
 
 abbrev pub error_line : SettingsError → List ℕ

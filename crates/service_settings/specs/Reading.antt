@@ -1,6 +1,7 @@
 -- Reading the members of a document: what they say, or the first fault.
-use Rattle.std.specs.Prelude.{◌≡◌, ◌≢◌, ℕ, ◌+◌, List, [], ◌∷◌, nat_lt, nat_le, ◌&&◌, Option, Some, None, option_and_then, Result, Ok, Err, is_some, if◌then◌else◌}
-use Rattle.std.specs.Option.{ok_or}
+use Rattle.std.specs.Prelude.{◌≡◌, ◌≢◌, ℕ, ◌+◌, List, [], ◌∷◌, nat_lt, nat_le, ◌&&◌, Bool, false, Option, Some, None, option_and_then, Result, Ok, Err, is_some, codes, if◌then◌else◌}
+use Rattle.std.specs.Option.{ok_or, option_map_or}
+use Rattle.std.specs.Str.{bytes_eq}
 use Rattle.serde_json.specs.Data.{Data, Items, no_items, item}
 use Rattle.serde_json.specs.Find.{get, as_str, as_array, as_object}
 use Rattle.json_values.specs.Texts.{json_of}
@@ -43,6 +44,9 @@ above_zero n = if nat_lt 0 n then Some n else None
 -- a duration above 0
 abbrev pub time_in : Data → Option ℕ
 time_in d = option_and_then above_zero (duration_in d)
+
+abbrev pub is_never : Data → Bool
+is_never d = option_map_or (λ text. bytes_eq text (codes "never")) (as_str d) false
 
 -- how many connections there may be at once
 abbrev pub enough : ℕ → Option ℕ

@@ -15,6 +15,10 @@ use Rattle.service_settings.specs.declared.settings.doors.Doors.{Doors}
 use Rattle.service_settings.specs.Collectors.{collectors_said}
 use Rattle.service_settings.specs.Doors.{doors_said}
 use Rattle.service_settings.specs.ReachChanges.{reach_changes_said}
+use Rattle.service_settings.specs.CollectorTimeout.{collector_timeout_said}
+use Rattle.service_settings.specs.Handover.{handover_said}
+use Rattle.service_settings.specs.JoiningPattern.{join_by_asking_said}
+use Rattle.service_settings.specs.ReleaseAfter.{release_after_said}
 use Rattle.service_settings.specs.Members.{known_said}
 use Rattle.service_settings.specs.Reading.{◌>>=◌, json_said, member_at, duration_in, time_in, address_in, connections_in, said_or, said_or_none, object_said, items_said, each_from}
 
@@ -57,11 +61,14 @@ unfoldable pub collecting_said : Option Data → Result Collecting SettingsError
 collecting_said allocator =
     said_or false as_bool part.AllowNoJobs (member_at (codes "allow_no_jobs") allocator) >>= λ allow_no_jobs.
     collectors_said (member_at (codes "collectors") allocator) >>= λ collectors.
+    join_by_asking_said (member_at (codes "join_by_asking") allocator) >>= λ join_by_asking.
     reach_changes_said (member_at (codes "reach_changes") allocator) >>= λ reach_changes.
     said_or true as_bool part.Rejoin (member_at (codes "rejoin") allocator) >>= λ rejoin.
-    said_or_none time_in part.CollectorTimeout (member_at (codes "collector_timeout") allocator) >>= λ collector_timeout.
+    collector_timeout_said (member_at (codes "collector_timeout") allocator) >>= λ collector_timeout.
+    handover_said (member_at (codes "handover") allocator) >>= λ handover.
+    release_after_said (member_at (codes "release_after") allocator) >>= λ release_after.
     said_or DEFAULT_FETCH_TIMEOUT time_in part.FetchTimeout (member_at (codes "fetch_timeout") allocator) >>= λ fetch_timeout.
-    Ok (record { allow_no_jobs = allow_no_jobs; collectors = collectors; reach_changes = reach_changes; rejoin = rejoin; collector_timeout = collector_timeout; fetch_timeout = fetch_timeout })
+    Ok (record { allow_no_jobs = allow_no_jobs; collectors = collectors; join_by_asking = join_by_asking; reach_changes = reach_changes; rejoin = rejoin; collector_timeout = collector_timeout; handover = handover; release_after = release_after; fetch_timeout = fetch_timeout })
 
 -- ---- all of them
 
@@ -79,9 +86,12 @@ settings_of scrape_interval refresh house doors fleet = record {
   doors = doors;
   allow_no_jobs = fleet.allow_no_jobs;
   collectors = fleet.collectors;
+  join_by_asking = fleet.join_by_asking;
   reach_changes = fleet.reach_changes;
   rejoin = fleet.rejoin;
   collector_timeout = fleet.collector_timeout;
+  handover = fleet.handover;
+  release_after = fleet.release_after;
   fetch_timeout = fleet.fetch_timeout;
 }
 

@@ -18,8 +18,8 @@ pub enum SettingsError {
     Memory,
 }
 
-/// A member of the document. The indices are those of a scrape config and of an entry of its `http_sd_configs`, or of a
-/// collector.
+/// A member of the document. The indices are those of a scrape config and of an entry of its `http_sd_configs`, of a collector, or
+/// of an entry of `join_by_asking`.
 #[derive(Clone, Copy, Debug, PartialEq, Eq)]
 pub enum Member {
     Document,
@@ -51,9 +51,16 @@ pub enum Member {
     CollectorName(usize),
     CollectorReach(usize),
     CollectorLimits(usize),
+    JoinByAsking,
+    JoiningPattern(usize),
+    Pattern(usize),
+    PatternReach(usize),
+    PatternLimits(usize),
     ReachChanges,
     Rejoin,
     CollectorTimeout,
+    Handover,
+    ReleaseAfter,
     FetchTimeout,
 }
 
@@ -120,6 +127,18 @@ impl Member {
             Member::CollectorLimits(index) => {
                 format!(in alloc; "allocator.collectors[{index}].limits")
             }
+            Member::JoiningPattern(index) => {
+                format!(in alloc; "allocator.join_by_asking[{index}]")
+            }
+            Member::Pattern(index) => {
+                format!(in alloc; "allocator.join_by_asking[{index}].pattern")
+            }
+            Member::PatternReach(index) => {
+                format!(in alloc; "allocator.join_by_asking[{index}].reach")
+            }
+            Member::PatternLimits(index) => {
+                format!(in alloc; "allocator.join_by_asking[{index}].limits")
+            }
             other => String::from_str(alloc, other.path()),
         }
     }
@@ -156,9 +175,16 @@ impl Member {
             | Member::CollectorName(_)
             | Member::CollectorReach(_)
             | Member::CollectorLimits(_) => "allocator.collectors",
+            Member::JoinByAsking
+            | Member::JoiningPattern(_)
+            | Member::Pattern(_)
+            | Member::PatternReach(_)
+            | Member::PatternLimits(_) => "allocator.join_by_asking",
             Member::ReachChanges => "allocator.reach_changes",
             Member::Rejoin => "allocator.rejoin",
             Member::CollectorTimeout => "allocator.collector_timeout",
+            Member::Handover => "allocator.handover",
+            Member::ReleaseAfter => "allocator.release_after",
             Member::FetchTimeout => "allocator.fetch_timeout",
         }
     }
@@ -174,9 +200,13 @@ impl Member {
             | Member::HttpSdConfig(_, _)
             | Member::Allocator
             | Member::Tokens
-            | Member::Collector(_) => "no object",
-            Member::ScrapeConfigs | Member::HttpSdConfigs(_) | Member::Hosts | Member::Collectors =>
-                "no list",
+            | Member::Collector(_)
+            | Member::JoiningPattern(_) => "no object",
+            Member::ScrapeConfigs
+            | Member::HttpSdConfigs(_)
+            | Member::Hosts
+            | Member::Collectors
+            | Member::JoinByAsking => "no list",
             Member::ScrapeInterval
             | Member::RefreshInterval(_, _)
             | Member::GiveUp
@@ -190,11 +220,14 @@ impl Member {
             Member::Host(_) => "no name of a host in small letters, without a port",
             Member::AdminTokens | Member::CollectorTokens => "no path of a file",
             Member::ReachChanges => "neither \"drained\" nor \"now\"",
+            Member::Handover => "neither \"ordered\" nor \"free\"",
+            Member::ReleaseAfter => "neither a duration above 0 nor \"never\"",
             Member::Keep => "no whole number of 32 bits",
             Member::Connections => "no whole number from 64 to 65535",
             Member::CollectorName(_) => "no name of a collector",
-            Member::CollectorReach(_) => "no list of reach rules",
-            Member::CollectorLimits(_) => "no object of limits",
+            Member::Pattern(_) => "no pattern of collectors' names",
+            Member::CollectorReach(_) | Member::PatternReach(_) => "no list of reach rules",
+            Member::CollectorLimits(_) | Member::PatternLimits(_) => "no object of limits",
         }
     }
 }

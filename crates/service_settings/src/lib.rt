@@ -7,6 +7,7 @@ mod address;
 mod digits;
 mod duration;
 mod error;
+mod matching;
 mod reading;
 mod settings;
 
@@ -15,6 +16,7 @@ pub use duration::{LONGEST_DURATION, duration_of};
 pub use error::{Member, SettingsError};
 pub use reading::{LEAST_CONNECTIONS, MOST_CONNECTIONS};
 pub use settings::{
-    Collector, DEFAULT_CONNECTIONS, DEFAULT_FETCH_TIMEOUT, DEFAULT_GIVE_UP, DEFAULT_INTERVAL,
-    DEFAULT_KEEP, DEFAULT_LISTEN, DEFAULT_SETTLE, Doors, ReachChanges, Settings, read_settings,
+    Collector, CollectorTimeout, DEFAULT_CONNECTIONS, DEFAULT_FETCH_TIMEOUT, DEFAULT_GIVE_UP,
+    DEFAULT_INTERVAL, DEFAULT_KEEP, DEFAULT_LISTEN, DEFAULT_SETTLE, Doors, Handover,
+    JoiningPattern, LONGEST_PATTERN, ReachChanges, ReleaseAfter, Settings, read_settings,
 };

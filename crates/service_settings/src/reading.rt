@@ -3,7 +3,7 @@ ghost use Rattle.std.specs.Prelude.{◌≡◌, IfOk, option_map};
 ghost use Rattle.serde_json.specs.Find.{as_str, as_bool};
 ghost use Rattle.serde_json.specs.View.{view, items_view};
 ghost use Rattle.json_values.specs.Spelling.{number_in};
-ghost use Rattle.service_settings.specs.Reading.{Gives, json_said, member_at, duration_in, time_in, address_in, connections_in, enough as enough_connections, said_or, said_or_none, object_said, items_said};
+ghost use Rattle.service_settings.specs.Reading.{Gives, json_said, member_at, duration_in, time_in, is_never as is_never_said, address_in, connections_in, enough as enough_connections, said_or, said_or_none, object_said, items_said};
 
 use crate::address::{Address, address_of};
 use crate::duration::duration_of;
@@ -81,19 +81,6 @@ pub(crate) fn time_or(
     match found {
         Some(value) => time(value).ok_or(SettingsError::Shape(member)),
         None => Ok(absent),
-    }
-}
-
-/// A duration above 0, in milliseconds.
-pub(crate) fn time_or_none(
-    member: Member,
-    found: Option<&Value>,
-) -> Result<Option<u64>, SettingsError>
-    ensures { Gives (λ o. o) result (said_or_none time_in member (option_map (λ v. view v.now) found.entry)) }
-{
-    match found {
-        Some(value) => Ok(Some(time(value).ok_or(SettingsError::Shape(member))?)),
-        None => Ok(None),
     }
 }
 
@@ -187,11 +174,22 @@ fn duration(value: &Value) -> Option<u64>
     duration_of(value.as_str()?)
 }
 
-fn time(value: &Value) -> Option<u64>
+/// A duration above 0, in milliseconds.
+pub(crate) fn time(value: &Value) -> Option<u64>
     ensures { result ≡ time_in (view value.now) }
 {
     let time = duration(value)?;
     if time > 0 { Some(time) } else { None }
+}
+
+/// Whether the value is the text `never`.
+pub(crate) fn is_never(value: &Value) -> bool
+    ensures { result ≡ is_never_said (view value.now) }
+{
+    match value.as_str() {
+        Some(text) => text == "never",
+        None => false,
+    }
 }
 
 fn address(value: &Value) -> Option<Address>

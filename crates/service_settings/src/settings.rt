@@ -6,22 +6,30 @@ ghost use Rattle.service_settings.specs.Beside.{AreBeside, AreBesideUrls};
 ghost use Rattle.service_settings.specs.Settings.{settings_of as settings_made, settings_said, settings_read};
 
 mod allocator;
+mod collector_timeout;
 mod collectors;
 mod doors;
+mod handover;
+mod joining_pattern;
 mod members;
 mod reach_changes;
+mod release_after;
 mod scrapes;
 
 use crate::address::Address;
 use crate::error::{Member, SettingsError};
 use crate::reading::json_in;
 use allocator::{Collecting, Housekeeping, collecting_in, housekeeping_in};
+pub use collector_timeout::CollectorTimeout;
 pub use collectors::Collector;
 pub use doors::Doors;
 use doors::doors_in;
+pub use handover::Handover;
+pub use joining_pattern::{JoiningPattern, LONGEST_PATTERN};
 use lists::{List, Text};
 use members::{Kind, known_or_none};
 pub use reach_changes::ReachChanges;
+pub use release_after::ReleaseAfter;
 use scrapes::{refresh_in, scrape_interval_in};
 use serde_json::Value;
 use std::alloc::Global;
@@ -71,12 +79,19 @@ pub struct Settings {
     pub allow_no_jobs: bool,
     /// Collectors that join when the service starts. Their names differ.
     pub collectors: List<Collector>,
+    /// What a collector joins with that is not live, and that the configuration does not name, when its list is asked for: what the first
+    /// pattern has that its name matches.
+    pub join_by_asking: List<JoiningPattern>,
     /// When another reach of a collector of the configuration is taken.
     pub reach_changes: ReachChanges,
     /// Whether a collector of the configuration that is not live joins where its list is asked for.
     pub rejoin: bool,
-    /// After how long without a word a collector leaves. Above 0, and never, if there is none.
-    pub collector_timeout: Option<u64>,
+    /// After how long without a word a collector counts as gone.
+    pub collector_timeout: CollectorTimeout,
+    /// When a target that moved is in the list of the collector that it moved to.
+    pub handover: Handover,
+    /// How long after a collector was last heard of its lists count as let go.
+    pub release_after: ReleaseAfter,
     /// How long a fetch may take. Above 0.
     pub fetch_timeout: u64,
 }
@@ -131,9 +146,12 @@ fn settings_of(
         doors,
         allow_no_jobs: collecting.allow_no_jobs,
         collectors: collecting.collectors,
+        join_by_asking: collecting.join_by_asking,
         reach_changes: collecting.reach_changes,
         rejoin: collecting.rejoin,
         collector_timeout: collecting.collector_timeout,
+        handover: collecting.handover,
+        release_after: collecting.release_after,
         fetch_timeout: collecting.fetch_timeout,
     }
 }

@@ -8,10 +8,13 @@ use crate::address::Address;
 use crate::error::{Member, SettingsError};
 use crate::reading::{
     address_or, connections_or, duration_or, flag_or, member_of, number_or, text_or_none, time_or,
-    time_or_none,
 };
+use crate::settings::collector_timeout::{CollectorTimeout, collector_timeout_in};
 use crate::settings::collectors::{Collector, collectors_in};
+use crate::settings::handover::{Handover, handover_in};
+use crate::settings::joining_pattern::{JoiningPattern, join_by_asking_in};
 use crate::settings::reach_changes::{ReachChanges, reach_changes_in};
+use crate::settings::release_after::{ReleaseAfter, release_after_in};
 use crate::settings::{
     DEFAULT_CONNECTIONS, DEFAULT_FETCH_TIMEOUT, DEFAULT_GIVE_UP, DEFAULT_KEEP, DEFAULT_LISTEN,
     DEFAULT_SETTLE,
@@ -37,9 +40,12 @@ pub(crate) struct Housekeeping {
 pub(crate) struct Collecting {
     pub(crate) allow_no_jobs: bool,
     pub(crate) collectors: List<Collector>,
+    pub(crate) join_by_asking: List<JoiningPattern>,
     pub(crate) reach_changes: ReachChanges,
     pub(crate) rejoin: bool,
-    pub(crate) collector_timeout: Option<u64>,
+    pub(crate) collector_timeout: CollectorTimeout,
+    pub(crate) handover: Handover,
+    pub(crate) release_after: ReleaseAfter,
     pub(crate) fetch_timeout: u64,
 }
 
@@ -82,18 +88,24 @@ pub(crate) fn collecting_in(
     let allow_no_jobs = member_of(allocator, "allow_no_jobs");
     let allow_no_jobs = flag_or(false, Member::AllowNoJobs, allow_no_jobs)?;
     let collectors = collectors_in(alloc, member_of(allocator, "collectors"))?;
+    let join_by_asking = join_by_asking_in(alloc, member_of(allocator, "join_by_asking"))?;
     let reach_changes = reach_changes_in(member_of(allocator, "reach_changes"))?;
     let rejoin = flag_or(true, Member::Rejoin, member_of(allocator, "rejoin"))?;
     let collector_timeout = member_of(allocator, "collector_timeout");
-    let collector_timeout = time_or_none(Member::CollectorTimeout, collector_timeout)?;
+    let collector_timeout = collector_timeout_in(collector_timeout)?;
+    let handover = handover_in(member_of(allocator, "handover"))?;
+    let release_after = release_after_in(member_of(allocator, "release_after"))?;
     let fetch_timeout = member_of(allocator, "fetch_timeout");
     let fetch_timeout = time_or(DEFAULT_FETCH_TIMEOUT, Member::FetchTimeout, fetch_timeout)?;
     Ok(Collecting {
         allow_no_jobs,
         collectors,
+        join_by_asking,
         reach_changes,
         rejoin,
         collector_timeout,
+        handover,
+        release_after,
         fetch_timeout,
     })
 }

@@ -90,7 +90,10 @@ fn collector_in(alloc: Global, index: usize, value: &Value) -> Result<Collector,
 }
 
 /// A collector's own limits: it has none where they are left out.
-fn limits_or_none(alloc: Global, found: Option<&Value>) -> Result<Option<OwnLimits>, AllocError>
+pub(crate) fn limits_or_none(
+    alloc: Global,
+    found: Option<&Value>,
+) -> Result<Option<OwnLimits>, AllocError>
     ensures { IfOk result (λ o. o ≡ limits_or_none_in (option_map (λ v. view v.now) found.entry)) }
 {
     match found {

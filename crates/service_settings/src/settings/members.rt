@@ -15,6 +15,7 @@ pub(crate) enum Kind {
     Allocator,
     Tokens,
     Collector,
+    JoiningPattern,
 }
 
 /// An object of this kind without a member that is not known, or nothing.
@@ -78,9 +79,12 @@ fn has_member(kind: Kind, name: &str) -> bool
             | "open_to_all"
             | "allow_no_jobs"
             | "collectors"
+            | "join_by_asking"
             | "reach_changes"
             | "rejoin"
             | "collector_timeout"
+            | "handover"
+            | "release_after"
             | "fetch_timeout" => true,
             _ => false,
         },
@@ -90,6 +94,10 @@ fn has_member(kind: Kind, name: &str) -> bool
         },
         Kind::Collector => match name {
             "name" | "reach" | "limits" => true,
+            _ => false,
+        },
+        Kind::JoiningPattern => match name {
+            "pattern" | "reach" | "limits" => true,
             _ => false,
         },
     }

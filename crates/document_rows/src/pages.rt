@@ -1,0 +1,13 @@
+//! What is told of a configuration.
+use crate::values::{NONE, json_of};
+use json_values::parse;
+use scrape_pages::collectors_configs as configs_of;
+use std::alloc::{AllocError, Global};
+
+/// The scrape configs of a document as its collectors are to use them.
+pub(crate) fn collectors_configs(alloc: Global, text: &str) -> Result<String, AllocError> {
+    match parse(alloc, text.as_bytes())? {
+        Some(document) => json_of(alloc, &configs_of(alloc, &document)?),
+        None => String::from_str(alloc, NONE),
+    }
+}
