@@ -1,0 +1,5 @@
+pub mod Found
+pub mod Kept
+pub mod Requests
+pub mod Times
+pub mod Pages
