@@ -4,7 +4,7 @@ use Rattle.std.specs.List.{list_any}
 use Rattle.http_header.specs.FieldValue.{FieldValue}
 use Rattle.http_header.specs.HeaderMap.{Entries, get}
 use Rattle.sd_routes.specs.declared.ask.Ask.{Ask}
-use Rattle.sd_routes.specs.declared.ask.Ask.TheVariants.{Status, ScrapeConfigs, Jobs, JobTargets, CollectorTargets, Uncovered, Certificate, Join, Leave, Drain, SetLimits, Report, Healthy, Live, Ready, Metrics, Reload, Quit}
+use Rattle.sd_routes.specs.declared.ask.Ask.TheVariants.{Status, ScrapeConfigs, Jobs, JobTargets, CollectorTargets, Uncovered, Certificate, Join, Leave, Drain, Release, SetLimits, Report, Healthy, Live, Ready, Metrics, Reload, Quit}
 use Rattle.admission.specs.declared.key.Key.{Key}
 use Rattle.admission.specs.Sites.{same_letters}
 
@@ -51,15 +51,16 @@ is_admin _ _ = false
 -- who takes lists and reports shows a collector's or an admin's.
 abbrev pub may_ask : Option (List Key) → Option (List Key) → Ask → Option (List ℕ) → Bool
 may_ask admin collectors Status shown = true
-may_ask admin collectors ScrapeConfigs shown = true
+may_ask admin collectors (ScrapeConfigs rules) shown = true
 may_ask admin collectors Jobs shown = true
 may_ask admin collectors (JobTargets job) shown = true
-may_ask admin collectors (CollectorTargets job name) shown = holds collectors (Some name) shown || is_admin admin shown
+may_ask admin collectors (CollectorTargets job name takes) shown = holds collectors (Some name) shown || is_admin admin shown
 may_ask admin collectors (Uncovered job) shown = true
 may_ask admin collectors Certificate shown = true
 may_ask admin collectors Join shown = holds admin None shown
 may_ask admin collectors (Leave id) shown = holds admin None shown
 may_ask admin collectors (Drain id) shown = holds admin None shown
+may_ask admin collectors (Release id) shown = holds admin None shown
 may_ask admin collectors (SetLimits id) shown = holds admin None shown
 may_ask admin collectors Report shown = holds collectors None shown || is_admin admin shown
 may_ask admin collectors Healthy shown = true

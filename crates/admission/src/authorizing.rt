@@ -22,7 +22,7 @@ pub(crate) fn is_allowed(
     };
     match ask {
         Ask::Status
-        | Ask::ScrapeConfigs
+        | Ask::ScrapeConfigs { rules: _ }
         | Ask::Jobs
         | Ask::JobTargets(_)
         | Ask::Uncovered(_)
@@ -31,11 +31,18 @@ pub(crate) fn is_allowed(
         | Ask::Live
         | Ask::Ready
         | Ask::Metrics => true,
-        Ask::Join | Ask::Leave(_) | Ask::Drain(_) | Ask::SetLimits(_) | Ask::Reload | Ask::Quit =>
-            holds(admin, None, token),
-        Ask::CollectorTargets { job: _, name } => {
-            holds(collectors, Some(name.as_str()), token) || is_admin(admin, token)
-        }
+        Ask::Join
+        | Ask::Leave(_)
+        | Ask::Drain(_)
+        | Ask::Release(_)
+        | Ask::SetLimits(_)
+        | Ask::Reload
+        | Ask::Quit => holds(admin, None, token),
+        Ask::CollectorTargets {
+            job: _,
+            name,
+            takes: _,
+        } => { holds(collectors, Some(name.as_str()), token) || is_admin(admin, token) }
         Ask::Report => holds(collectors, None, token) || is_admin(admin, token),
     }
 }

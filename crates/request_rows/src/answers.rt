@@ -1,13 +1,13 @@
 //! What is to be answered, by its name.
-use crate::numbers::{first_word, number};
+use crate::numbers::{first_word, large, number};
 use bytes::Bytes;
 use fleet_events::{Answer, Refusal};
 use lists::Text;
-use sd_routes::{Notice, Place, RequestError, Said};
+use sd_routes::{ListHead, Notice, Place, RequestError, Said};
 use std::alloc::{AllocError, Global};
 
-/// What a text says: `answer ANSWER`, `refused NAME`, `page TEXT`, `taken ALLOCATION ROUND GROUPS`, `metrics TEXT`,
-/// `document TEXT`, `misshapen MEMBER`, `reloaded TEXT` or `notice NAME`.
+/// What a text says: `answer ANSWER`, `refused NAME`, `page TEXT`, `taken HEAD GROUPS`, `served LEFT HEAD GROUPS`, `metrics TEXT`, `document TEXT`,
+/// `misshapen MEMBER`, `reloaded TEXT` or `notice NAME`. HEAD is `ALLOCATION ROUND COLLECTOR EPOCH AGE LENGTH`.
 pub(crate) fn said_in(alloc: Global, text: &str) -> Result<Option<Said>, AllocError> {
     let (word, rest) = first_word(text);
     match word {
@@ -16,7 +16,8 @@ pub(crate) fn said_in(alloc: Global, text: &str) -> Result<Option<Said>, AllocEr
         "document" => Ok(Some(Said::Document(Text::from_str(alloc, rest)?))),
         "misshapen" => Ok(Some(Said::Misshapen(Text::from_str(alloc, rest)?))),
         "reloaded" => Ok(Some(Said::Reloaded(Text::from_str(alloc, rest)?))),
-        "taken" => Ok(Some(taken(alloc, rest)?)),
+        "taken" => Ok(Some(list(alloc, None, rest)?)),
+        "served" => Ok(Some(served(alloc, rest)?)),
         "answer" => Ok(answer(rest)),
         "refused" => Ok(refused(rest)),
         "notice" => Ok(notice(rest)),
@@ -24,14 +25,36 @@ pub(crate) fn said_in(alloc: Global, text: &str) -> Result<Option<Said>, AllocEr
     }
 }
 
-fn taken(alloc: Global, text: &str) -> Result<Said, AllocError> {
+/// A list that says how many targets it leaves out.
+fn served(alloc: Global, text: &str) -> Result<Said, AllocError> {
+    let (left_out, rest) = first_word(text);
+    list(alloc, Some(number(left_out)), rest)
+}
+
+fn list(alloc: Global, left_out: Option<u32>, text: &str) -> Result<Said, AllocError> {
+    let (head, groups) = head(left_out, text);
+    let groups = Bytes::from_string(String::from_str(alloc, groups)?)?;
+    Ok(Said::List { head, groups })
+}
+
+/// The head of a list, and what stands behind it.
+fn head(left_out: Option<u32>, text: &str) -> (ListHead, &str) {
     let (allocation, rest) = first_word(text);
-    let (round, groups) = first_word(rest);
-    Ok(Said::Taken {
+    let (round, rest) = first_word(rest);
+    let (collector, rest) = first_word(rest);
+    let (epoch, rest) = first_word(rest);
+    let (age, rest) = first_word(rest);
+    let (length, rest) = first_word(rest);
+    let head = ListHead {
         allocation: number(allocation),
         round: number(round),
-        groups: Bytes::from_string(String::from_str(alloc, groups)?)?,
-    })
+        left_out,
+        collector: number(collector),
+        epoch: large(epoch),
+        age: large(age),
+        length: large(length),
+    };
+    (head, rest)
 }
 
 fn answer(text: &str) -> Option<Said> {
@@ -39,6 +62,7 @@ fn answer(text: &str) -> Option<Said> {
     let answer = match name {
         "Joined" => Answer::Joined(number(rest)),
         "Draining" => Answer::Draining,
+        "Released" => Answer::Released(number(rest)),
         "AlreadyDraining" => Answer::Not(Refusal::AlreadyDraining),
         "AlreadyJoined" => Answer::Not(Refusal::AlreadyJoined(number(rest))),
         "UnknownCollector" => Answer::Not(Refusal::UnknownCollector),
@@ -60,6 +84,7 @@ fn refused(text: &str) -> Option<Said> {
         "Method(Limits)" => RequestError::Method(Place::Limits),
         "NoRoute" => RequestError::NoRoute,
         "Origin" => RequestError::Origin,
+        "OtherEpoch" => RequestError::OtherEpoch,
         "Shape" => RequestError::Shape,
         "Token" => RequestError::Token,
         "TooLong" => RequestError::TooLong,

@@ -1,12 +1,15 @@
 //! What requests ask for.
 use fleet_events::Event;
 use http::{Method, Uri};
-use sd_routes::{Ask, RequestError, Routes, event_of, route};
+use sd_routes::{Ask, RequestError, Routes, event_of, misshapen_member, route};
 use std::alloc::{AllocError, Global};
 use std::str;
 
+/// The epoch in which bodies are read. No float of 64 bits is this number.
+const EPOCH: u64 = 9_007_199_254_740_993;
+
 /// A request: its method, its target, and its body behind a blank or a line feed. Says what it asks for, with the event that the body spells, or
-/// how it is refused.
+/// how it is refused, and at which member the body is not of the documented shape.
 pub(crate) fn request(alloc: Global, bytes: &[u8]) -> Result<String, AllocError> {
     let (method, rest) = cut(bytes);
     let (target, body) = cut(rest);
@@ -59,10 +62,18 @@ fn refused(alloc: Global, error: RequestError) -> Result<String, AllocError> {
 
 /// What is asked for, with what the body spells for it.
 fn told(alloc: Global, ask: &Ask, body: &[u8]) -> Result<String, AllocError> {
-    match event_of(alloc, ask, body) {
+    match event_of(alloc, ask, body, EPOCH) {
         Ok(Some(event)) => with(alloc, ask, spelled_event(alloc, &event)?),
         Ok(None) => spelled(alloc, ask),
+        Err(RequestError::Shape) => with(alloc, ask, misshapen(alloc, ask, body)?),
         Err(error) => with(alloc, ask, refused(alloc, error)?),
+    }
+}
+
+fn misshapen(alloc: Global, ask: &Ask, body: &[u8]) -> Result<String, AllocError> {
+    match misshapen_member(alloc, ask, body)? {
+        Some(member) => format!(in alloc; "Shape at {}", member.as_str()),
+        None => refused(alloc, RequestError::Shape),
     }
 }
 
@@ -80,17 +91,20 @@ fn with(alloc: Global, ask: &Ask, said: String) -> Result<String, AllocError> {
 fn spelled(alloc: Global, ask: &Ask) -> Result<String, AllocError> {
     match ask {
         Ask::Status => String::from_str(alloc, "status"),
-        Ask::ScrapeConfigs => String::from_str(alloc, "scrape configs"),
+        Ask::ScrapeConfigs { rules: false } => String::from_str(alloc, "scrape configs"),
+        Ask::ScrapeConfigs { rules: true } => String::from_str(alloc, "scrape configs with rules"),
         Ask::Jobs => String::from_str(alloc, "jobs"),
         Ask::JobTargets(job) => format!(in alloc; "targets of <{}>", job.as_str()),
-        Ask::CollectorTargets { job, name } => {
-            format!(in alloc; "targets of <{}> at <{}>", job.as_str(), name.as_str())
+        Ask::CollectorTargets { job, name, takes } => {
+            let at = if *takes { "at" } else { "as shown at" };
+            format!(in alloc; "targets of <{}> {at} <{}>", job.as_str(), name.as_str())
         }
         Ask::Uncovered(job) => format!(in alloc; "uncovered of <{}>", job.as_str()),
         Ask::Certificate => String::from_str(alloc, "certificate"),
         Ask::Join => String::from_str(alloc, "join"),
         Ask::Leave(collector) => format!(in alloc; "leave {collector}"),
         Ask::Drain(collector) => format!(in alloc; "drain {collector}"),
+        Ask::Release(collector) => format!(in alloc; "release {collector}"),
         Ask::SetLimits(collector) => format!(in alloc; "limits of {collector}"),
         Ask::Report => String::from_str(alloc, "report"),
         Ask::Healthy => String::from_str(alloc, "healthy"),

@@ -53,8 +53,9 @@ group_no_float numbered =
 pub groups_no_float : (targets : List NumberedTarget) → has_float (list_data group_data targets) ≡ false
 groups_no_float = no_float group_data group_no_float
 
-pub uncovered_no_float : (full unreached : List NumberedTarget) → has_float (uncovered_data full unreached) ≡ false
-uncovered_no_float full unreached = or_from _ _ (groups_no_float full) (or_from _ _ (groups_no_float unreached) refl)
+pub uncovered_no_float : (full handing_over unreached : List NumberedTarget) → has_float (uncovered_data full handing_over unreached) ≡ false
+uncovered_no_float full handing_over unreached =
+    or_from _ _ (groups_no_float full) (or_from _ _ (groups_no_float handing_over) (or_from _ _ (groups_no_float unreached) refl))
 
 share_no_float : (job : List ℕ) (share : Share) → has_float (share_data job share) ≡ false
 share_no_float job share = or_from _ _ refl (or_from _ _ (groups_no_float share.targets) refl)

@@ -1,12 +1,12 @@
--- The event that a request's body spells, or the first refusal: Shape, then BadName, then TooManyRules.
-use Rattle.std.specs.Prelude.{ℕ, List, [], length, nat_le, codes, Option, Some, None, Result, Ok, Err, option_and_then, if◌then◌else◌}
+-- The event that a request's body spells, or the first refusal: Shape, then BadName, then TooManyRules; and for a report Shape, then OtherEpoch.
+use Rattle.std.specs.Prelude.{ℕ, ◌==◌, List, [], length, nat_le, codes, Bool, true, false, Option, Some, None, Result, Ok, Err, option_map, option_and_then, if◌then◌else◌}
 use Rattle.serde_json.specs.Data.{Data}
-use Rattle.serde_json.specs.Find.{as_array, as_str, get}
+use Rattle.serde_json.specs.Find.{as_array, as_number, as_str, as_u64, get}
 use Rattle.json_values.specs.Spelling.{member_in}
 use Rattle.json_values.specs.Texts.{json_of}
 use Rattle.fleet_events.specs.Reading.{report_in}
 use Rattle.fleet_events.specs.declared.event.Event.{Event}
-use Rattle.fleet_events.specs.declared.event.Event.TheVariants.{Join, Leave, Drain, SetLimits}
+use Rattle.fleet_events.specs.declared.event.Event.TheVariants.{Join, Leave, Drain, SetLimits, Release}
 use Rattle.reach_rules.specs.OwnLimits.{LimitList, limits_in}
 use Rattle.reach_rules.specs.Spelling.{rules_spelled}
 use Rattle.reach_rules.specs.declared.reach.TheConstants.{MOST_RULES}
@@ -16,7 +16,7 @@ use Rattle.sd_routes.specs.JoinMembers.{is_join_object}
 use Rattle.sd_routes.specs.declared.ask.Ask.{Ask}
 use Rattle.sd_routes.specs.declared.ask.Ask.TheVariants as ask
 use Rattle.sd_routes.specs.declared.request_error.RequestError.{RequestError}
-use Rattle.sd_routes.specs.declared.request_error.RequestError.TheVariants.{Shape, TooManyRules}
+use Rattle.sd_routes.specs.declared.request_error.RequestError.TheVariants.{Shape, TooManyRules, OtherEpoch}
 
 -- what is there, or else Shape
 abbrev pub or_shape : {T : Type 0} → Option T → Result T RequestError
@@ -74,32 +74,45 @@ limits_set collector (Ok limits) = Ok (SetLimits collector limits)
 abbrev pub set_limits_said : ℕ → Data → Result Event RequestError
 set_limits_said collector d = limits_set collector (or_shape (member_in limits_in (codes "limits") d))
 
--- a report as its event has it, whatever the member `event` says
-abbrev pub report_said : Data → Result Event RequestError
-report_said d = or_shape (report_in d)
+-- whether an epoch that is named is this one; nothing where what is named is no whole number of at most 64 bits. None needs to be named
+abbrev pub is_epoch : ℕ → Option Data → Option Bool
+is_epoch epoch None = Some true
+is_epoch epoch (Some d) = option_map (λ named. named == epoch) (option_and_then as_u64 (as_number d))
+
+-- Shape before OtherEpoch
+abbrev pub reported : Option Event → Option Bool → Result Event RequestError
+reported None is_current = Err Shape
+reported (Some event) None = Err Shape
+reported (Some event) (Some false) = Err OtherEpoch
+reported (Some event) (Some true) = Ok event
+
+-- a report as its event has it, whatever the member `event` says, of this epoch if it names one
+abbrev pub report_said : ℕ → Data → Result Event RequestError
+report_said epoch d = reported (report_in d) (is_epoch epoch (get (codes "epoch") d))
 
 -- ---- all of them
 
-abbrev pub event_in : Ask → Data → Result Event RequestError
-event_in ask.Join d = join_said d
-event_in (ask.SetLimits collector) d = set_limits_said collector d
-event_in ask.Report d = report_said d
-event_in _ d = Err Shape
+abbrev pub event_in : Ask → ℕ → Data → Result Event RequestError
+event_in ask.Join epoch d = join_said d
+event_in (ask.SetLimits collector) epoch d = set_limits_said collector d
+event_in ask.Report epoch d = report_said epoch d
+event_in _ epoch d = Err Shape
 
 abbrev pub an_event : Result Event RequestError → Result (Option Event) RequestError
 an_event (Err e) = Err e
 an_event (Ok event) = Ok (Some event)
 
 -- the event of a body that is JSON
-abbrev pub posted : Ask → Option Data → Result (Option Event) RequestError
-posted asked None = Err Shape
-posted asked (Some d) = an_event (event_in asked d)
+abbrev pub posted : Ask → ℕ → Option Data → Result (Option Event) RequestError
+posted asked epoch None = Err Shape
+posted asked epoch (Some d) = an_event (event_in asked epoch d)
 
--- the event that a request asks for, if it asks for one
-abbrev pub event_said : Ask → List ℕ → Result (Option Event) RequestError
-event_said (ask.Leave collector) body = Ok (Some (Leave collector))
-event_said (ask.Drain collector) body = Ok (Some (Drain collector))
-event_said ask.Join body = posted ask.Join (json_of body)
-event_said (ask.SetLimits collector) body = posted (ask.SetLimits collector) (json_of body)
-event_said ask.Report body = posted ask.Report (json_of body)
-event_said _ body = Ok None
+-- the event that a request asks for in this epoch, if it asks for one
+abbrev pub event_said : Ask → ℕ → List ℕ → Result (Option Event) RequestError
+event_said (ask.Leave collector) epoch body = Ok (Some (Leave collector))
+event_said (ask.Drain collector) epoch body = Ok (Some (Drain collector))
+event_said (ask.Release collector) epoch body = Ok (Some (Release collector None))
+event_said ask.Join epoch body = posted ask.Join epoch (json_of body)
+event_said (ask.SetLimits collector) epoch body = posted (ask.SetLimits collector) epoch (json_of body)
+event_said ask.Report epoch body = posted ask.Report epoch (json_of body)
+event_said _ epoch body = Ok None

@@ -42,11 +42,12 @@ group_data numbered =
 
 -- ---- uncovered
 
--- the groups of the targets that some collector reaches, and of those that none does
-abbrev pub uncovered_data : List NumberedTarget → List NumberedTarget → Data
-uncovered_data full unreached =
+-- the groups of the targets that nobody holds and some collector reaches, of those that are handed over, and of those that none reaches
+abbrev pub uncovered_data : List NumberedTarget → List NumberedTarget → List NumberedTarget → Data
+uncovered_data full handing_over unreached =
     object (member (codes "full") (list_data group_data full)
-    (member (codes "unreached") (list_data group_data unreached) no_members))
+    (member (codes "handing_over") (list_data group_data handing_over)
+    (member (codes "unreached") (list_data group_data unreached) no_members)))
 
 -- ---- shares
 

@@ -1,5 +1,5 @@
 -- What a response says.
-use Rattle.std.specs.Prelude.{◌≡◌, ℕ, ◌==◌, List, [], ◌∷◌, ◌++◌, length, codes, Bool, true, false, Some, None, if◌then◌else◌}
+use Rattle.std.specs.Prelude.{◌≡◌, ℕ, ◌==◌, List, [], ◌∷◌, ◌++◌, length, codes, Bool, true, false, Option, Some, None, if◌then◌else◌}
 use Rattle.std.specs.Fmt.{decimal}
 use Rattle.http_header.specs.FieldValue.{FieldValue, plain_value}
 use Rattle.http_header.specs.HeaderMap.{Entries, insert}
@@ -17,10 +17,11 @@ use Rattle.fleet_events.specs.declared.refusal.Refusal.TheVariants.{UnknownJob, 
 use Rattle.sd_routes.specs.Errors.{status_of, name_of}
 use Rattle.sd_routes.specs.Notices.{status_noticed, text_noticed}
 use Rattle.sd_routes.specs.Table.{method_of}
+use Rattle.sd_routes.specs.declared.list_head.ListHead.{ListHead}
 use Rattle.sd_routes.specs.declared.request_error.RequestError.{RequestError}
 use Rattle.sd_routes.specs.declared.request_error.RequestError.TheVariants.{Method, Token}
 use Rattle.sd_routes.specs.declared.responding.Said.{Said}
-use Rattle.sd_routes.specs.declared.responding.Said.TheVariants.{Answer as Answered, Page, Taken, Refused, Misshapen, Notice as Noticed, Metrics, Document, Reloaded, NotReloaded}
+use Rattle.sd_routes.specs.declared.responding.Said.TheVariants.{Answer as Answered, Page, List as ListOf, Refused, Misshapen, Notice as Noticed, Metrics, Document, Reloaded, NotReloaded}
 
 -- a head with this status code and these headers
 pub record IsHead (code : ℕ) (fields : Entries FieldValue) (head : Parts) : Type 0 where
@@ -51,11 +52,29 @@ document_headers =
 abbrev pub json_headers : Entries FieldValue
 json_headers = media_headers (codes "application/json")
 
--- the number of the allocation that was taken, and the round that was open then
-abbrev pub taken_headers : ℕ → ℕ → Entries FieldValue
-taken_headers allocation round =
-    (codes "content-type", plain_value (codes "application/json") ∷ [])
-    ∷ with_no_other ((codes "x-allocation-number", plain_value (decimal allocation) ∷ []) ∷ (codes "x-scrape-round", plain_value (decimal round) ∷ []) ∷ [])
+-- a number in decimal under this name, behind the others
+abbrev pub with_number : List ℕ → ℕ → Entries FieldValue → Entries FieldValue
+with_number name number fields = insert fields name (plain_value (decimal number))
+
+-- the number of the allocation, and the round that was open
+abbrev pub with_allocation : ListHead → Entries FieldValue → Entries FieldValue
+with_allocation head fields = with_number (codes "x-scrape-round") head.round (with_number (codes "x-allocation-number") head.allocation fields)
+
+-- how many targets the list leaves out, where that is told
+abbrev pub with_left_out : Option ℕ → Entries FieldValue → Entries FieldValue
+with_left_out None fields = fields
+with_left_out (Some count) fields = with_number (codes "x-left-out") count fields
+
+-- the collector's number, and the epoch
+abbrev pub with_collector : ListHead → Entries FieldValue → Entries FieldValue
+with_collector head fields = with_number (codes "x-allocator-epoch") head.epoch (with_number (codes "x-collector") head.collector fields)
+
+-- for how long the round is open, and how long a round is
+abbrev pub with_times : ListHead → Entries FieldValue → Entries FieldValue
+with_times head fields = with_number (codes "x-scrape-round-length") head.length (with_number (codes "x-scrape-round-age") head.age fields)
+
+abbrev pub list_headers : ListHead → Entries FieldValue
+list_headers head = with_times head (with_collector head (with_left_out head.left_out (with_allocation head json_headers)))
 
 -- where the path has another method, that method (RFC 9110, section 15.5.6); where a token is needed, how one is shown (section 11.6.1)
 abbrev pub refused_headers : RequestError → Entries FieldValue
@@ -99,7 +118,7 @@ misshapen_data name = object (member (codes "member") (string name) (member (cod
 abbrev pub status_said : Said → ℕ
 status_said (Answered answer) = status_answered answer
 status_said (Page text) = 200
-status_said (Taken allocation round groups) = 200
+status_said (ListOf head groups) = 200
 status_said (Refused error) = status_of error
 status_said (Misshapen name) = 400
 status_said (Noticed notice) = status_noticed notice
@@ -109,7 +128,7 @@ status_said (Reloaded changes) = 200
 status_said (NotReloaded fault) = 500
 
 abbrev pub headers_said : Said → Entries FieldValue
-headers_said (Taken allocation round groups) = taken_headers allocation round
+headers_said (ListOf head groups) = list_headers head
 headers_said (Refused error) = refused_headers error
 headers_said (Noticed notice) = media_headers (codes "text/plain; charset=utf-8")
 headers_said (Metrics text) = media_headers (codes "text/plain; version=0.0.4; charset=utf-8")
@@ -121,7 +140,7 @@ headers_said _ = json_headers
 abbrev pub body_said : Said → List ℕ
 body_said (Answered answer) = answer_text answer
 body_said (Page text) = text
-body_said (Taken allocation round groups) = groups
+body_said (ListOf head groups) = groups
 body_said (Refused error) = refused_text (name_of error)
 body_said (Misshapen name) = compact_text (misshapen_data name)
 body_said (Noticed notice) = text_noticed notice

@@ -2,7 +2,7 @@
 use Rattle.std.specs.Prelude.{ℕ, ◌==◌, List, Option, Some, None, if◌then◌else◌}
 use Rattle.std.specs.List.{before_first, after_first}
 use Rattle.std.specs.Str.{is_utf8}
-use Rattle.percent_encoding.specs.Percent.{percent_decode}
+use Rattle.form_urlencoded.specs.Form.{decode}
 
 -- what follows the first slash
 abbrev pub past_slash : List ℕ → List ℕ
@@ -16,6 +16,10 @@ up_to_slash text = before_first (λ b. b == 47) text
 abbrev pub second_segment : List ℕ → List ℕ
 second_segment path = up_to_slash (past_slash (past_slash path))
 
--- the text that a segment stands for, where its bytes are UTF-8
-unfoldable pub text_in : List ℕ → Option (List ℕ)
-text_in segment = if is_utf8 (percent_decode segment) then Some (percent_decode segment) else None
+-- the text that bytes are, where they are UTF-8
+unfoldable pub text_from : List ℕ → Option (List ℕ)
+text_from bytes = if is_utf8 bytes then Some bytes else None
+
+-- the text that a segment stands for, which is escaped as a form's value is (URL Standard, section 5.1): a `+` is a blank
+abbrev pub text_in : List ℕ → Option (List ℕ)
+text_in segment = text_from (decode segment)

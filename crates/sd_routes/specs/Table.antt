@@ -1,7 +1,7 @@
 -- The table of paths: which place each names, and the method of the place.
 use Rattle.std.specs.Prelude.{ℕ, ◌==◌, ◌&&◌, ◌++◌, List, [], ◌∷◌, Bool, true, false, not, codes, Option, Some, None, if◌then◌else◌}
 use Rattle.sd_routes.specs.declared.place.Place.{Place}
-use Rattle.sd_routes.specs.declared.place.Place.TheVariants.{Status, ScrapeConfigs, Jobs, JobTargets, Uncovered, Certificate, Collectors, Collector, Drain, Limits, Reports, Healthy, Live, Ready, Metrics, Reload, Quit}
+use Rattle.sd_routes.specs.declared.place.Place.TheVariants.{Status, ScrapeConfigs, Jobs, JobTargets, Uncovered, Certificate, Collectors, Collector, Drain, Release, Limits, Reports, Healthy, Live, Ready, Metrics, Reload, Quit}
 
 -- in a route, what stands for one segment of a path. It is no byte
 abbrev pub segment : ℕ
@@ -20,6 +20,7 @@ table =
     ∷ (codes "/certificate", Certificate)
     ∷ (codes "/collectors/" ++ segment ∷ codes "/drain", Drain)
     ∷ (codes "/collectors/" ++ segment ∷ codes "/limits", Limits)
+    ∷ (codes "/collectors/" ++ segment ∷ codes "/release", Release)
     ∷ (codes "/collectors/" ++ segment ∷ [], Collector)
     ∷ (codes "/collectors", Collectors)
     ∷ (codes "/jobs/" ++ segment ∷ codes "/targets", JobTargets)
@@ -43,6 +44,7 @@ method_of Certificate = codes "GET"
 method_of Collectors = codes "POST"
 method_of Collector = codes "DELETE"
 method_of Drain = codes "POST"
+method_of Release = codes "POST"
 method_of Limits = codes "PUT"
 method_of Reports = codes "POST"
 method_of Healthy = codes "GET"

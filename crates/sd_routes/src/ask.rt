@@ -8,14 +8,20 @@ use reach_rules::CollectorName;
 pub enum Ask {
     /// The page for people.
     Status,
-    /// The scrape configs as they were read.
-    ScrapeConfigs,
+    /// The scrape configs: as they were read, with their rules of relabelling, or as collectors are to have them.
+    ScrapeConfigs {
+        rules: bool,
+    },
     /// The jobs with their links.
     Jobs,
     /// What each live collector holds of a job.
     JobTargets(Text),
-    /// What one collector holds of a job, which takes the current allocation.
-    CollectorTargets { job: Text, name: CollectorName },
+    /// What one collector has of a job: it takes its list, or somebody only looks at it.
+    CollectorTargets {
+        job: Text,
+        name: CollectorName,
+        takes: bool,
+    },
     /// The live targets of a job that nobody holds.
     Uncovered(Text),
     /// The certificate of the last published allocation.
@@ -24,6 +30,8 @@ pub enum Ask {
     Join,
     Leave(CollectorId),
     Drain(CollectorId),
+    /// The lists that a collector was served count as let go.
+    Release(CollectorId),
     /// A collector's own limits are replaced; the body has them.
     SetLimits(CollectorId),
     /// A scrape is reported; the body has it.

@@ -1,9 +1,9 @@
 //! The event that a request's body spells.
-ghost use Rattle.std.specs.Prelude.{codes};
+ghost use Rattle.std.specs.Prelude.{◌≡◌, codes, option_map};
 ghost use Rattle.serde_json.specs.Find.{get};
 ghost use Rattle.serde_json.specs.View.{view};
 ghost use Rattle.json_values.specs.Spelling.{member_in};
-ghost use Rattle.sd_routes.specs.Events.{event_said, event_in, join_said, set_limits_said, report_said, few_said, rules_in, limits_or_none_said, limits_said};
+ghost use Rattle.sd_routes.specs.Events.{event_said, event_in, join_said, set_limits_said, report_said, is_epoch, few_said, rules_in, limits_or_none_said, limits_said};
 ghost use Rattle.sd_routes.specs.Gives.{Gives};
 
 use crate::ask::Ask;
@@ -16,29 +16,40 @@ use reach_rules::{OwnLimits, Reach, ReachError};
 use serde_json::Value;
 use std::alloc::Global;
 
-/// The event that a request asks for, if it asks for one: of a Join, of other limits and of a report, what the body spells; of a Leave and
-/// of a Drain the body is not looked at. Where several refusals hold, the first of `Shape`, `BadName` and `TooManyRules` is given.
-pub fn event_of(alloc: Global, ask: &Ask, body: &[u8]) -> Result<Option<Event>, RequestError>
-    ensures { Gives result (event_said ask.now body.now) }
+/// The event that a request asks for, if it asks for one: of a Join, of other limits and of a report, what the body spells; of a Leave, of a
+/// Drain and of a Release the body is not looked at. A report that names an epoch is one of that epoch. Where several refusals hold, the first of
+/// `Shape`, `BadName`, `TooManyRules` and `OtherEpoch` is given.
+pub fn event_of(
+    alloc: Global,
+    ask: &Ask,
+    body: &[u8],
+    epoch: u64,
+) -> Result<Option<Event>, RequestError>
+    ensures { Gives result (event_said ask.now epoch body.now) }
 {
     match ask {
         Ask::Leave(collector) => Ok(Some(Event::Leave(*collector))),
         Ask::Drain(collector) => Ok(Some(Event::Drain(*collector))),
+        Ask::Release(collector) => {
+            let collector = *collector;
+            let job = None;
+            Ok(Some(Event::Release { collector, job }))
+        }
         Ask::Join | Ask::SetLimits(_) | Ask::Report => match parse(alloc, body)? {
-            Some(value) => Ok(Some(event_in(alloc, ask, &value)?)),
+            Some(value) => Ok(Some(event_in(alloc, ask, &value, epoch)?)),
             None => Err(RequestError::Shape),
         },
         _ => Ok(None),
     }
 }
 
-fn event_in(alloc: Global, ask: &Ask, value: &Value) -> Result<Event, RequestError>
-    ensures { Gives result (event_in ask.now (view value.now)) }
+fn event_in(alloc: Global, ask: &Ask, value: &Value, epoch: u64) -> Result<Event, RequestError>
+    ensures { Gives result (event_in ask.now epoch (view value.now)) }
 {
     match ask {
         Ask::Join => read_join(alloc, value),
         Ask::SetLimits(collector) => read_set_limits(alloc, *collector, value),
-        Ask::Report => read_reported(alloc, value),
+        Ask::Report => read_reported(alloc, value, epoch),
         _ => Err(RequestError::Shape),
     }
 }
@@ -111,8 +122,28 @@ fn read_set_limits(
     Ok(Event::SetLimits { collector, limits })
 }
 
-fn read_reported(alloc: Global, value: &Value) -> Result<Event, RequestError>
-    ensures { Gives result (report_said (view value.now)) }
+fn read_reported(alloc: Global, value: &Value, epoch: u64) -> Result<Event, RequestError>
+    ensures { Gives result (report_said epoch (view value.now)) }
 {
-    read_report(alloc, value)?.ok_or(RequestError::Shape)
+    let Some(event) = read_report(alloc, value)? else {
+        return Err(RequestError::Shape);
+    };
+    match is_epoch(epoch, value.get("epoch")) {
+        Some(true) => Ok(event),
+        Some(false) => Err(RequestError::OtherEpoch),
+        None => Err(RequestError::Shape),
+    }
+}
+
+/// Whether the epoch that is named is this one, or none is named. None where what is named is no epoch.
+fn is_epoch(epoch: u64, found: Option<&Value>) -> Option<bool>
+    ensures { result ≡ is_epoch epoch (option_map (λ v. view v.now) found.entry) }
+{
+    let Some(value) = found else {
+        return Some(true);
+    };
+    match value.as_u64() {
+        Some(named) => Some(named == epoch),
+        None => None,
+    }
 }

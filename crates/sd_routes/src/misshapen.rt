@@ -6,6 +6,7 @@ ghost use Rattle.sd_routes.specs.Responses.{misshapen_data};
 
 use crate::ask::Ask;
 use crate::join_members::{is_short_rule, other_member};
+use fleet_events::read_report;
 use json_values::{Spelled, number, parse, text_of};
 use label_sets::{LabelError, LabelName};
 use lists::Text;
@@ -147,8 +148,11 @@ fn has_number(value: &Value, name: &str) -> bool {
     }
 }
 
-/// The first member of a report that is none.
+/// The first member of a report that is none. Where the report is whole, that is its epoch.
 fn report_fault(alloc: Global, value: &Value) -> Result<Option<String>, AllocError> {
+    if read_report(alloc, value)?.is_some() {
+        return named(alloc, "epoch");
+    }
     for name in ["collector", "number", "target", "round"] {
         if !has_number(value, name) {
             return named(alloc, name);

@@ -80,30 +80,33 @@ pub fn targets_page(alloc: Global, targets: &[NumberedTarget]) -> Result<Text, A
     text_of(alloc, &page)
 }
 
-/// The targets of a job that nobody holds: the groups of those that some collector reaches, which are all full, and of those that none
-/// reaches.
+/// The targets of a job that no list has: the groups of those that nobody holds and some collector reaches, of those that are handed over,
+/// and of those that no collector reaches.
 #[tactic(auto, using(crate::proofs::Floats::uncovered_no_float))]
 pub fn uncovered_page(
     alloc: Global,
     full: &[NumberedTarget],
+    handing_over: &[NumberedTarget],
     unreached: &[NumberedTarget],
 ) -> Result<Text, AllocError>
-    ensures { IfOk result (λ t. t ≡ compact_text (uncovered_data full.now unreached.now)) }
+    ensures { IfOk result (λ t. t ≡ compact_text (uncovered_data full.now handing_over.now unreached.now)) }
 {
-    let page = uncovered_value(alloc, full, unreached)?;
+    let page = uncovered_value(alloc, full, handing_over, unreached)?;
     text_of(alloc, &page)
 }
 
 fn uncovered_value(
     alloc: Global,
     full: &[NumberedTarget],
+    handing_over: &[NumberedTarget],
     unreached: &[NumberedTarget],
 ) -> Result<Value, AllocError>
-    ensures { IfOk result (λ v. view v ≡ uncovered_data full.now unreached.now) }
+    ensures { IfOk result (λ v. view v ≡ uncovered_data full.now handing_over.now unreached.now) }
 {
     let full = groups_value(alloc, full)?;
+    let handing_over = groups_value(alloc, handing_over)?;
     let unreached = groups_value(alloc, unreached)?;
-    json!(in alloc; {"full": full, "unreached": unreached})
+    json!(in alloc; {"full": full, "handing_over": handing_over, "unreached": unreached})
 }
 
 fn groups_value(alloc: Global, targets: &[NumberedTarget]) -> Result<Value, AllocError>

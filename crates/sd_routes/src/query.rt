@@ -1,27 +1,52 @@
 //! The query of a request.
-ghost use Rattle.std.specs.Prelude.{◌≡◌, IfOk, option_copied, option_and_then};
-ghost use Rattle.sd_routes.specs.Queries.{collector_in};
+ghost use Rattle.std.specs.Prelude.{◌≡◌, IfOk, option_copied};
+ghost use Rattle.sd_routes.specs.Queries.{flag_of, value_in, value_of};
+ghost use Rattle.sd_routes.specs.Gives.{Gives};
 
+use crate::request_error::RequestError;
 use form_urlencoded::parse;
 use lists::Text;
 use std::alloc::{AllocError, Global};
 
-/// The first `collector_id` of a query, decoded. Other names are ignored.
-pub(crate) fn collector_of(alloc: Global, query: Option<&str>) -> Result<Option<Text>, AllocError>
-    ensures { IfOk result (λ found. found ≡ option_and_then collector_in (option_copied query.entry)) }
+/// A flag of a query, decoded: the first of this name counts, and one that is left out is the default. Other names are ignored.
+pub(crate) fn flag_of(
+    alloc: Global,
+    query: Option<&str>,
+    name: &str,
+    default: bool,
+) -> Result<bool, RequestError>
+    ensures { Gives result (flag_of name.now default (option_copied query.entry)) }
+{
+    let Some(value) = value_of(alloc, query, name)? else {
+        return Ok(default);
+    };
+    match value.as_str() {
+        "true" => Ok(true),
+        "false" => Ok(false),
+        _ => Err(RequestError::Shape),
+    }
+}
+
+/// The first value of a name in a query, decoded. Other names are ignored.
+pub(crate) fn value_of(
+    alloc: Global,
+    query: Option<&str>,
+    name: &str,
+) -> Result<Option<Text>, AllocError>
+    ensures { IfOk result (λ found. found ≡ value_of name.now (option_copied query.entry)) }
 {
     match query {
-        Some(query) => collector_in(alloc, query.as_bytes()),
+        Some(query) => value_in(alloc, query.as_bytes(), name),
         None => Ok(None),
     }
 }
 
-fn collector_in(alloc: Global, query: &[u8]) -> Result<Option<Text>, AllocError>
-    ensures { IfOk result (λ found. found ≡ collector_in query.now) }
+fn value_in(alloc: Global, query: &[u8], name: &str) -> Result<Option<Text>, AllocError>
+    ensures { IfOk result (λ found. found ≡ value_in name.now query.now) }
 {
     for pair in parse(alloc, query) {
-        let (name, value) = pair?;
-        if name.as_bytes() == b"collector_id".as_slice() {
+        let (key, value) = pair?;
+        if key.as_bytes() == name.as_bytes() {
             return Ok(Some(Text::from_string(value.into_owned(alloc)?)));
         }
     }

@@ -31,6 +31,8 @@ pub enum RequestError {
     BadName,
     /// A reach has more than 32 rules.
     TooManyRules,
+    /// A report is of another epoch.
+    OtherEpoch,
     /// The body has more than 1,048,576 bytes.
     TooLong,
     /// The journal takes no further event.
@@ -57,6 +59,7 @@ impl RequestError {
             RequestError::Shape | RequestError::BadName | RequestError::TooManyRules => {
                 StatusCode::BAD_REQUEST
             }
+            RequestError::OtherEpoch => StatusCode::CONFLICT,
             RequestError::TooLong => StatusCode::PAYLOAD_TOO_LARGE,
             RequestError::JournalFull => StatusCode::INSUFFICIENT_STORAGE,
             RequestError::NotKept | RequestError::Memory => StatusCode::SERVICE_UNAVAILABLE,
@@ -79,6 +82,7 @@ impl RequestError {
             RequestError::Shape => "Shape",
             RequestError::BadName => "BadName",
             RequestError::TooManyRules => "TooManyRules",
+            RequestError::OtherEpoch => "OtherEpoch",
             RequestError::TooLong => "TooLong",
             RequestError::JournalFull => "JournalFull",
             RequestError::NotKept => "NotKept",

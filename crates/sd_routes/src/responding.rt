@@ -1,15 +1,16 @@
 //! How an answer is written.
-ghost use Rattle.std.specs.Prelude.{◌≡◌, IfOk, IsTrue, true, string_bytes};
+ghost use Rattle.std.specs.Prelude.{◌≡◌, IfOk, OnOk, IsTrue, true, string_bytes};
 ghost use Rattle.http.specs.Response.{head_of, body_of};
 ghost use Rattle.http_header.specs.FieldValue.{is_visible_text};
 ghost use Rattle.sd_routes.specs.Errors.{status_of};
-ghost use Rattle.sd_routes.specs.Responses.{IsResponse, IsHead, closing, json_headers, media_headers, document_headers, taken_headers, refused_headers, refused_text, answer_text, status_answered, status_said, headers_said, body_said};
+ghost use Rattle.sd_routes.specs.Responses.{IsResponse, IsHead, closing, json_headers, media_headers, document_headers, list_headers, with_allocation, with_collector, with_left_out, with_number, with_times, refused_headers, refused_text, answer_text, status_answered, status_said, headers_said, body_said};
 
+use crate::list_head::ListHead;
 use crate::misshapen::misshapen_page;
 use crate::notice::Notice;
 use crate::request_error::RequestError;
 use bytes::Bytes;
-use fleet_events::{AllocationNumber, Answer, Refusal, Round};
+use fleet_events::{Answer, Refusal};
 use http::header::{
     ALLOW, CONNECTION, CONTENT_SECURITY_POLICY, CONTENT_TYPE, HeaderName, HeaderValue,
     WWW_AUTHENTICATE, X_CONTENT_TYPE_OPTIONS,
@@ -31,10 +32,9 @@ pub enum Said {
     Answer(Answer),
     /// A page, as its JSON text.
     Page(Text),
-    /// What a collector that took an allocation holds of a job.
-    Taken {
-        allocation: AllocationNumber,
-        round: Round,
+    /// The list of a job that a collector has.
+    List {
+        head: ListHead,
         /// The list of groups, as its JSON text.
         groups: Bytes,
     },
@@ -61,7 +61,7 @@ impl Said {
     {
         match self {
             Said::Answer(answer) => status_of(answer),
-            Said::Page(_) | Said::Taken { .. } => StatusCode::OK,
+            Said::Page(_) | Said::List { .. } => StatusCode::OK,
             Said::Refused(error) => error.status(),
             Said::Misshapen(_) => StatusCode::BAD_REQUEST,
             Said::Notice(notice) => notice.status(),
@@ -106,11 +106,7 @@ fn response_of(alloc: Global, said: Said) -> Result<Response<Full<Bytes>>, Alloc
             response(head, answer_text(alloc, &answer)?)
         }
         Said::Page(text) => response(json_head(alloc, StatusCode::OK)?, text.into_string()),
-        Said::Taken {
-            allocation,
-            round,
-            groups,
-        } => Ok(response_with(taken_head(alloc, allocation, round)?, groups)),
+        Said::List { head, groups } => Ok(response_with(list_parts(alloc, &head)?, groups)),
         Said::Refused(error) => {
             let head = refused_head(alloc, error)?;
             response(head, refused_text(alloc, error.name())?)
@@ -231,25 +227,77 @@ fn refused_head(alloc: Global, error: RequestError) -> Result<Parts, AllocError>
     Ok(head)
 }
 
-fn taken_head(
-    alloc: Global,
-    allocation: AllocationNumber,
-    round: Round,
-) -> Result<Parts, AllocError>
-    ensures { IfOk result (IsHead 200 (taken_headers allocation round)) }
+/// The head of the response that gives a list.
+fn list_parts(alloc: Global, told: &ListHead) -> Result<Parts, AllocError>
+    ensures { IfOk result (IsHead 200 (list_headers told.now)) }
 {
     let mut head = json_head(alloc, StatusCode::OK)?;
-    let allocation = HeaderValue::from_u64(alloc, u64::from(allocation))?;
-    let name = HeaderName::from_static("x-allocation-number");
-    if head.headers.insert(name, allocation).is_err() {
-        return Err(AllocError);
-    }
-    let round = HeaderValue::from_u64(alloc, u64::from(round))?;
-    let name = HeaderName::from_static("x-scrape-round");
-    if head.headers.insert(name, round).is_err() {
-        return Err(AllocError);
-    }
+    push_allocation(alloc, &mut head, told)?;
+    push_left_out(alloc, &mut head, told.left_out)?;
+    push_collector(alloc, &mut head, told)?;
+    push_times(alloc, &mut head, told)?;
     Ok(head)
+}
+
+fn push_allocation(alloc: Global, head: &mut Parts, told: &ListHead) -> Result<(), AllocError>
+    ensures status { OnOk result (head.new.status ≡ head.old.status) }
+    ensures headers { OnOk result (head.new.headers ≡ with_allocation told.now head.old.headers) }
+{
+    let allocation = u64::from(told.allocation);
+    let name = HeaderName::from_static("x-allocation-number");
+    push_number(alloc, head, name, allocation)?;
+    let name = HeaderName::from_static("x-scrape-round");
+    push_number(alloc, head, name, u64::from(told.round))
+}
+
+fn push_left_out(alloc: Global, head: &mut Parts, left_out: Option<u32>) -> Result<(), AllocError>
+    ensures status { OnOk result (head.new.status ≡ head.old.status) }
+    ensures headers { OnOk result (head.new.headers ≡ with_left_out left_out head.old.headers) }
+{
+    match left_out {
+        Some(left_out) => {
+            let name = HeaderName::from_static("x-left-out");
+            push_number(alloc, head, name, u64::from(left_out))
+        }
+        None => Ok(()),
+    }
+}
+
+fn push_collector(alloc: Global, head: &mut Parts, told: &ListHead) -> Result<(), AllocError>
+    ensures status { OnOk result (head.new.status ≡ head.old.status) }
+    ensures headers { OnOk result (head.new.headers ≡ with_collector told.now head.old.headers) }
+{
+    let name = HeaderName::from_static("x-collector");
+    push_number(alloc, head, name, u64::from(told.collector))?;
+    let name = HeaderName::from_static("x-allocator-epoch");
+    push_number(alloc, head, name, told.epoch)
+}
+
+fn push_times(alloc: Global, head: &mut Parts, told: &ListHead) -> Result<(), AllocError>
+    ensures status { OnOk result (head.new.status ≡ head.old.status) }
+    ensures headers { OnOk result (head.new.headers ≡ with_times told.now head.old.headers) }
+{
+    let name = HeaderName::from_static("x-scrape-round-age");
+    push_number(alloc, head, name, told.age)?;
+    let name = HeaderName::from_static("x-scrape-round-length");
+    push_number(alloc, head, name, told.length)
+}
+
+/// A number in decimal goes under a name.
+fn push_number(
+    alloc: Global,
+    head: &mut Parts,
+    name: HeaderName,
+    number: u64,
+) -> Result<(), AllocError>
+    ensures status { OnOk result (head.new.status ≡ head.old.status) }
+    ensures headers { OnOk result (head.new.headers ≡ with_number name number head.old.headers) }
+{
+    let number = HeaderValue::from_u64(alloc, number)?;
+    match head.headers.insert(name, number) {
+        Ok(_) => Ok(()),
+        Err(_) => Err(AllocError),
+    }
 }
 
 /// The object that tells a refusal.

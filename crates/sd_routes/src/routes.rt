@@ -74,6 +74,7 @@ fn desk_router(alloc: Global) -> Result<Router<Place>, InsertError>
     router.insert("/collectors", Place::Collectors)?;
     router.insert("/collectors/{id}", Place::Collector)?;
     router.insert("/collectors/{id}/drain", Place::Drain)?;
+    router.insert("/collectors/{id}/release", Place::Release)?;
     router.insert("/collectors/{id}/limits", Place::Limits)?;
     router.insert("/reports", Place::Reports)?;
     Ok(router)

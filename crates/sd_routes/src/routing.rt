@@ -1,13 +1,13 @@
 //! What a method and a target ask for.
 ghost use Rattle.http_uri.specs.Uri.{uri_path, uri_query};
 ghost use Rattle.std.specs.Prelude.{option_copied};
-ghost use Rattle.sd_routes.specs.Asks.{asked, asked_at, job_targets_asked, held_asked, uncovered_asked, id_in, name_said};
+ghost use Rattle.sd_routes.specs.Asks.{asked, asked_at, scrape_configs_asked, job_targets_asked, held_asked, uncovered_asked, id_in, name_said};
 ghost use Rattle.sd_routes.specs.Gives.{Gives};
 
 use crate::ask::Ask;
 use crate::decimal::decimal;
 use crate::place::Place;
-use crate::query::collector_of;
+use crate::query::{flag_of, value_of};
 use crate::request_error::RequestError;
 use crate::routes::Routes;
 use crate::segment::{decoded, second_segment};
@@ -18,7 +18,7 @@ use reach_rules::{CollectorName, NameError};
 use std::alloc::Global;
 
 /// What a request asks for. Where several refusals hold, the first of these is given: no such path, another method, a segment of
-/// another shape, a collector's name that is none.
+/// another shape or a flag of the query that is none, a collector's name that is none.
 pub fn route(
     routes: &Routes,
     alloc: Global,
@@ -40,7 +40,7 @@ fn ask_at(alloc: Global, place: Place, path: &str, query: Option<&str>) -> Resul
 {
     match place {
         Place::Status => Ok(Ask::Status),
-        Place::ScrapeConfigs => Ok(Ask::ScrapeConfigs),
+        Place::ScrapeConfigs => scrape_configs(alloc, query),
         Place::Jobs => Ok(Ask::Jobs),
         Place::JobTargets => job_targets(alloc, path, query),
         Place::Uncovered => uncovered(alloc, path),
@@ -48,6 +48,7 @@ fn ask_at(alloc: Global, place: Place, path: &str, query: Option<&str>) -> Resul
         Place::Collectors => Ok(Ask::Join),
         Place::Collector => Ok(Ask::Leave(collector_id(path)?)),
         Place::Drain => Ok(Ask::Drain(collector_id(path)?)),
+        Place::Release => Ok(Ask::Release(collector_id(path)?)),
         Place::Limits => Ok(Ask::SetLimits(collector_id(path)?)),
         Place::Reports => Ok(Ask::Report),
         Place::Healthy => Ok(Ask::Healthy),
@@ -59,13 +60,20 @@ fn ask_at(alloc: Global, place: Place, path: &str, query: Option<&str>) -> Resul
     }
 }
 
+fn scrape_configs(alloc: Global, query: Option<&str>) -> Result<Ask, RequestError>
+    ensures { Gives result (scrape_configs_asked (option_copied query.entry)) }
+{
+    let rules = flag_of(alloc, query, "rules", false)?;
+    Ok(Ask::ScrapeConfigs { rules })
+}
+
 fn job_targets(alloc: Global, path: &str, query: Option<&str>) -> Result<Ask, RequestError>
     ensures { Gives result (job_targets_asked path.now (option_copied query.entry)) }
 {
     let job = decoded(alloc, second_segment(path))?.ok_or(RequestError::Shape)?;
-    match collector_of(alloc, query)? {
+    match value_of(alloc, query, "collector_id")? {
         None => Ok(Ask::JobTargets(job)),
-        Some(name) => held(alloc, job, &name),
+        Some(name) => held(alloc, job, &name, query),
     }
 }
 
@@ -76,11 +84,12 @@ fn uncovered(alloc: Global, path: &str) -> Result<Ask, RequestError>
     Ok(Ask::Uncovered(job))
 }
 
-fn held(alloc: Global, job: Text, name: &Text) -> Result<Ask, RequestError>
-    ensures { Gives result (held_asked job name.now) }
+fn held(alloc: Global, job: Text, name: &Text, query: Option<&str>) -> Result<Ask, RequestError>
+    ensures { Gives result (held_asked job name.now (option_copied query.entry)) }
 {
+    let takes = flag_of(alloc, query, "take", true)?;
     let name = collector_name(alloc, name.as_str())?;
-    Ok(Ask::CollectorTargets { job, name })
+    Ok(Ask::CollectorTargets { job, name, takes })
 }
 
 pub(crate) fn collector_name(alloc: Global, text: &str) -> Result<CollectorName, RequestError>
