@@ -14,21 +14,28 @@ use std::alloc::{AllocError, Global};
 /// The pages of a configuration, and the names of its jobs in order.
 #[derive(Debug, Drop)]
 pub struct ConfigPages {
-    /// The JSON of `/scrape_configs`.
+    /// The JSON of `/scrape_configs`: each scrape config as its collectors are to use it.
     pub scrape_configs: Text,
+    /// The JSON of `/scrape_configs?rules=true`: each scrape config as it was read.
+    pub as_read: Text,
     /// The JSON of `/jobs`.
     pub jobs: Text,
     pub names: List<Text>,
 }
 
 impl ConfigPages {
-    /// What a configuration is told by.
-    pub fn of(alloc: Global, config: &Config) -> Result<ConfigPages, AllocError>
-        ensures scrape_configs { IfOk result (λ p. p.scrape_configs ≡ compact_text (view config.now.as_read)) }
+    /// What a configuration is told by, with the text of its scrape configs as collectors are to use them.
+    pub fn of(
+        alloc: Global,
+        config: &Config,
+        scrape_configs: Text,
+    ) -> Result<ConfigPages, AllocError>
+        ensures scrape_configs { IfOk result (λ p. p.scrape_configs ≡ scrape_configs) }
+        ensures as_read { IfOk result (λ p. p.as_read ≡ compact_text (view config.now.as_read)) }
         ensures jobs { IfOk result (λ p. p.jobs ≡ compact_text (jobs_data config.now.jobs)) }
         ensures names { IfOk result (λ p. p.names ≡ map (λ (j : Job). j.name) config.now.jobs) }
     {
-        let scrape_configs = scrape_configs_text(alloc, config)?;
+        let as_read = scrape_configs_text(alloc, config)?;
         let jobs = jobs_page(alloc, config.jobs.as_slice())?;
         let mut names = List::new(alloc);
         for job in config.jobs.as_slice() {
@@ -36,6 +43,7 @@ impl ConfigPages {
         }
         Ok(ConfigPages {
             scrape_configs,
+            as_read,
             jobs,
             names,
         })

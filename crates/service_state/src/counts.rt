@@ -3,7 +3,7 @@ use fleet_events::{Answer, Event, Refusal};
 use sd_routes::Ask;
 
 /// The routes as they are told, and what no route has.
-pub(crate) const ROUTES: [&str; 19] = [
+pub(crate) const ROUTES: [&str; 20] = [
     "/",
     "/scrape_configs",
     "/jobs",
@@ -14,6 +14,7 @@ pub(crate) const ROUTES: [&str; 19] = [
     "POST /collectors",
     "DELETE /collectors/{id}",
     "POST /collectors/{id}/drain",
+    "POST /collectors/{id}/release",
     "PUT /collectors/{id}/limits",
     "POST /reports",
     "/-/healthy",
@@ -155,7 +156,7 @@ impl EventKind {
 #[derive(Clone, Copy, Debug, Drop)]
 pub(crate) struct Counts {
     /// Of requests that were answered, at the places of their routes and statuses.
-    pub(crate) requests: [[u64; 15]; 19],
+    pub(crate) requests: [[u64; 15]; 20],
     /// Of events, at the places of their kinds and answers.
     pub(crate) events: [[u64; 31]; 11],
 }
@@ -163,7 +164,7 @@ pub(crate) struct Counts {
 impl Counts {
     pub(crate) fn new() -> Counts {
         Counts {
-            requests: [[0; 15]; 19],
+            requests: [[0; 15]; 20],
             events: [[0; 31]; 11],
         }
     }
@@ -209,7 +210,7 @@ fn count(counts: &mut [u64], place: usize) {
 fn place_of(ask: &Ask) -> usize {
     match ask {
         Ask::Status => 0,
-        Ask::ScrapeConfigs => 1,
+        Ask::ScrapeConfigs { .. } => 1,
         Ask::Jobs => 2,
         Ask::JobTargets(_) => 3,
         Ask::CollectorTargets { .. } => 4,
@@ -218,14 +219,15 @@ fn place_of(ask: &Ask) -> usize {
         Ask::Join => 7,
         Ask::Leave(_) => 8,
         Ask::Drain(_) => 9,
-        Ask::SetLimits(_) => 10,
-        Ask::Report => 11,
-        Ask::Healthy => 12,
-        Ask::Live => 13,
-        Ask::Ready => 14,
-        Ask::Metrics => 15,
-        Ask::Reload => 16,
-        Ask::Quit => 17,
+        Ask::Release(_) => 10,
+        Ask::SetLimits(_) => 11,
+        Ask::Report => 12,
+        Ask::Healthy => 13,
+        Ask::Live => 14,
+        Ask::Ready => 15,
+        Ask::Metrics => 16,
+        Ask::Reload => 17,
+        Ask::Quit => 18,
     }
 }
 

@@ -1,4 +1,5 @@
 //! What a desk shows of itself in numbers.
+use crate::handing_over::{HandingOver, targets_handing_over};
 use alloc_desk::Record;
 use allocation_core::Core;
 use fleet::{Collector, JobSpec};
@@ -19,6 +20,8 @@ pub struct Figures {
     pub(crate) samples: u128,
     /// How many entries the journal has.
     pub(crate) entries: usize,
+    /// How many live targets stand in lists of collectors that left, and are held by others.
+    pub(crate) waited_for_left: u64,
 }
 
 #[derive(Debug, Drop)]
@@ -28,6 +31,8 @@ pub(crate) struct JobFigures {
     pub(crate) live: u64,
     /// How many of them somebody holds in the current allocation.
     pub(crate) covered: u64,
+    /// How many of these the list of the holder leaves out, since another list has them.
+    pub(crate) handing_over: u64,
 }
 
 #[derive(Debug, Drop)]
@@ -43,6 +48,8 @@ pub(crate) struct CollectorFigures {
     pub(crate) taken: AllocationNumber,
     /// How many it may hold of all jobs together, where each job has a limit for it.
     pub(crate) room: Option<u64>,
+    /// How many live targets stand in its lists, and are held by others.
+    pub(crate) waited_for: u64,
 }
 
 /// A collector's share of a job.
@@ -66,10 +73,13 @@ pub fn figures_of(alloc: Global, record: &Record) -> Result<Figures, AllocError>
         round: core.round(),
         samples: core.total(),
         entries: record.journal().len(),
+        waited_for_left: 0,
     };
     let live = core.fleet().live_marks()?;
     count_live(core, live.as_slice(), &mut figures);
     count_covered(core, live.as_slice(), &mut figures);
+    let waiting = targets_handing_over(alloc, core)?;
+    count_handing_over(core, waiting.as_slice(), &mut figures);
     Ok(figures)
 }
 
@@ -81,6 +91,7 @@ fn empty_jobs(alloc: Global, core: &Core) -> Result<Vec<JobFigures>, AllocError>
             name,
             live: 0,
             covered: 0,
+            handing_over: 0,
         })?;
     }
     Ok(jobs)
@@ -96,11 +107,27 @@ fn idle_collectors(alloc: Global, core: &Core) -> Result<Vec<CollectorFigures>, 
             draining: collector.draining,
             held: 0,
             shares: idle_shares(alloc, core.fleet().jobs(), collector)?,
-            taken: core.taken(collector.id),
+            taken: last_list(core, collector.id),
             room: room_of(core.fleet().jobs(), collector),
+            waited_for: 0,
         })?;
     }
     Ok(collectors)
+}
+
+/// The number of the allocation of its last list: of its lists that are served in order, that of the oldest; 0 where it has none.
+fn last_list(core: &Core, collector: CollectorId) -> AllocationNumber {
+    match oldest_list(core, collector) {
+        Some(number) => number,
+        None => core.taken(collector),
+    }
+}
+
+fn oldest_list(core: &Core, collector: CollectorId) -> Option<AllocationNumber> {
+    let jobs = core.fleet().jobs().len();
+    (0..jobs)
+        .filter_map(|job| core.served_number(collector, job))
+        .min()
 }
 
 fn idle_shares(
@@ -165,5 +192,32 @@ fn count_one(core: &Core, target: usize, collector: CollectorId, figures: &mut F
         if let Some(share) = holder.shares.get_mut(known.job) {
             share.held = share.held.saturating_add(1);
         }
+    }
+}
+
+fn count_handing_over(core: &Core, waiting: &[HandingOver], figures: &mut Figures) {
+    for one in waiting {
+        if let Some(known) = core.fleet().known().get(one.target as usize) {
+            if let Some(job) = figures.jobs.get_mut(known.job) {
+                job.handing_over = job.handing_over.saturating_add(1);
+            }
+        }
+        count_waited_for(one.waits_for, figures);
+    }
+}
+
+fn count_waited_for(collector: CollectorId, figures: &mut Figures) {
+    let place = figures
+        .collectors
+        .binary_search_by(|other| other.id.cmp(&collector));
+    match place {
+        Ok(place) => count_waited_for_at(place, figures),
+        Err(_) => figures.waited_for_left = figures.waited_for_left.saturating_add(1),
+    }
+}
+
+fn count_waited_for_at(place: usize, figures: &mut Figures) {
+    if let Some(collector) = figures.collectors.get_mut(place) {
+        collector.waited_for = collector.waited_for.saturating_add(1);
     }
 }

@@ -19,6 +19,7 @@ pub fn metrics_page(
     write_collectors(&mut page, figures.collectors.as_slice())?;
     write_allocation(&mut page, figures)?;
     write_last_allocation(&mut page, notes)?;
+    write_waiting(&mut page, figures, state)?;
     write_events(&mut page, &notes.counts)?;
     write_requests(&mut page, alloc, &notes.counts)?;
     write_sources(&mut page, alloc, notes.sources.as_slice())?;
@@ -49,6 +50,20 @@ fn write_jobs(page: &mut Exposition, jobs: &[JobFigures]) -> Result<(), AllocErr
     for job in jobs {
         let count = job.live.saturating_sub(job.covered);
         page.labelled_sample(uncovered, "job", job.name.as_str(), u128::from(count))?;
+    }
+    write_handing_over(page, jobs)
+}
+
+fn write_handing_over(page: &mut Exposition, jobs: &[JobFigures]) -> Result<(), AllocError> {
+    let name = "allocd_targets_handing_over";
+    page.family(
+        name,
+        Kind::Gauge,
+        "Live targets that the list of their collector leaves out, since another list has them.",
+    )?;
+    for job in jobs {
+        let count = u128::from(job.handing_over);
+        page.labelled_sample(name, "job", job.name.as_str(), count)?;
     }
     Ok(())
 }
@@ -83,6 +98,23 @@ fn write_collectors(
         let name = collector.name.as_str();
         page.labelled_sample(taken, "collector", name, u128::from(collector.taken))?;
     }
+    write_waited_for(page, collectors)
+}
+
+fn write_waited_for(
+    page: &mut Exposition,
+    collectors: &[CollectorFigures],
+) -> Result<(), AllocError> {
+    let name = "allocd_collector_waited_for";
+    page.family(
+        name,
+        Kind::Gauge,
+        "Live targets of others that the collector's lists have until it asks again.",
+    )?;
+    for collector in collectors {
+        let count = u128::from(collector.waited_for);
+        page.labelled_sample(name, "collector", collector.name.as_str(), count)?;
+    }
     Ok(())
 }
 
@@ -109,6 +141,26 @@ fn write_allocation(page: &mut Exposition, figures: &Figures) -> Result<(), Allo
         samples,
         "Samples of all booked reports.",
         figures.samples,
+    )
+}
+
+/// What holds up the handing over of targets.
+fn write_waiting(
+    page: &mut Exposition,
+    figures: &Figures,
+    state: &ServiceState,
+) -> Result<(), AllocError> {
+    write_gauge(
+        page,
+        "allocd_targets_waited_for_left",
+        "Live targets that lists of collectors that left have until these are let go.",
+        u128::from(figures.waited_for_left),
+    )?;
+    write_gauge(
+        page,
+        "allocd_targets_handing_over_since_seconds",
+        "Since when the target is handed over that is so for longest, in seconds since 1970, or 0.",
+        u128::from(state.handing_over_since()),
     )
 }
 

@@ -1,5 +1,6 @@
 //! The names under which lists were asked for.
-use lists::Text;
+use fleet_events::CollectorId;
+use lists::{Plain, Text};
 use std::alloc::{AllocError, Global};
 use std::mem;
 
@@ -14,9 +15,29 @@ pub(crate) const MOST_ABSENT: usize = 64;
 pub(crate) struct Names {
     alloc: Global,
     /// Those of collectors that are live or were.
-    live: Vec<Text>,
+    live: Vec<LiveName>,
     /// Those that nobody had, since that was looked at.
     absent: Vec<Text>,
+}
+
+/// A name, and under which numbers it was live.
+#[derive(Debug, Drop)]
+struct LiveName {
+    name: Text,
+    /// The last number.
+    id: CollectorId,
+    /// The number before, where it joined anew.
+    earlier: Option<CollectorId>,
+}
+
+impl LiveName {
+    /// It is live under this number. A number below the last one was told late.
+    fn note(&mut self, id: CollectorId) {
+        if id > self.id {
+            self.earlier = Some(self.id);
+            self.id = id;
+        }
+    }
 }
 
 impl Names {
@@ -28,22 +49,58 @@ impl Names {
         }
     }
 
-    /// A live collector has this name.
-    pub(crate) fn note_live(&mut self, name: &str) -> Result<(), AllocError> {
-        if has_name(self.live.as_slice(), name) {
-            return Ok(());
+    /// The live collector of this number has this name.
+    pub(crate) fn note_live(&mut self, name: &str, id: CollectorId) -> Result<(), AllocError> {
+        for known in &mut self.live {
+            if known.name.as_str() == name {
+                known.note(id);
+                return Ok(());
+            }
         }
+        self.add(name, id)
+    }
+
+    /// A name that is not known.
+    fn add(&mut self, name: &str, id: CollectorId) -> Result<(), AllocError> {
         let name = Text::from_str(self.alloc, name)?;
         if self.live.len() >= MOST_NAMES {
             self.live.remove(0);
         }
-        self.live.push(name)?;
+        self.live.push(LiveName {
+            name,
+            id,
+            earlier: None,
+        })?;
         Ok(())
     }
 
-    /// Whether a collector has this name, or had it.
+    /// The last number under which a collector has this name, or had it.
+    pub(crate) fn number_of(&self, name: &str) -> Option<CollectorId> {
+        Some(self.known(name)?.id)
+    }
+
+    /// Whether a live collector has this name, or had it.
     pub(crate) fn was_live(&self, name: &str) -> bool {
-        has_name(self.live.as_slice(), name)
+        self.known(name).is_some()
+    }
+
+    /// The number before this one, where the name joined anew.
+    pub(crate) fn earlier(&self, name: &str, id: CollectorId) -> Option<CollectorId> {
+        let known = self.known(name)?;
+        if known.id == id { known.earlier } else { None }
+    }
+
+    fn known(&self, name: &str) -> Option<&LiveName> {
+        self.live.iter().find(|known| known.name.as_str() == name)
+    }
+
+    /// The names with their last numbers. The one that was live first stands first.
+    pub(crate) fn all(&self, alloc: Global) -> Result<Vec<(Text, CollectorId)>, AllocError> {
+        let mut names = Vec::with_capacity(alloc, self.live.len())?;
+        for known in self.live.iter() {
+            names.push((known.name.copy()?, known.id))?;
+        }
+        Ok(names)
     }
 
     /// Nobody has this name, and somebody asks under it.

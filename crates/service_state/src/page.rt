@@ -10,7 +10,7 @@ const HEAD: &str =
     "<!DOCTYPE html>\n<html lang=\"en\">\n<head><meta charset=\"utf-8\"><title>allocd</title>\n<style>body{font-family:sans-serif;margin:2em}table{border-collapse:collapse}th,td{padding:.3em 1em;text-align:right;border-bottom:1px solid #ccc}th:first-child,td:first-child{text-align:left}meter{width:12em}</style>\n</head>\n<body>\n<h1>allocd</h1>\n";
 
 const JOBS: &str =
-    "<h2>Jobs</h2>\n<table>\n<tr><th>Job</th><th>Live</th><th>Covered</th><th>Uncovered</th></tr>\n";
+    "<h2>Jobs</h2>\n<table>\n<tr><th>Job</th><th>Live</th><th>Covered</th><th>Uncovered</th><th>Handing over</th></tr>\n";
 
 const COLLECTORS: &str =
     "<h2>Collectors</h2>\n<table>\n<tr><th>Collector</th><th>Id</th><th>State</th><th>Holds</th><th>May hold</th><th></th><th>Took</th><th>By job</th></tr>\n";
@@ -63,6 +63,7 @@ fn write_jobs(page: &mut Hypertext, jobs: &[JobFigures]) -> Result<(), AllocErro
         number_cell(page, job.live)?;
         number_cell(page, job.covered)?;
         number_cell(page, job.live.saturating_sub(job.covered))?;
+        number_cell(page, job.handing_over)?;
         page.markup("</tr>\n")?;
     }
     page.markup("</table>\n")

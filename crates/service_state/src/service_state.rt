@@ -3,12 +3,15 @@ use crate::changes::{ChangeNote, Changes};
 use crate::counts::{EventKind, Route};
 use crate::names::Names;
 use crate::notes::{AllocationNote, Notes, SourceNote};
+use crate::open_round::{OpenRound, RoundTimes};
 use crate::reloading::Reloading;
-use fleet_events::Answer;
+use crate::takers::Takers;
+use fleet_events::{Answer, CollectorId};
 use lists::Text;
 use std::alloc::{AllocError, Global};
 use std::sync::atomic::{AtomicBool, AtomicU64, Ordering};
 use std::sync::{Arc, Mutex, Wait};
+use std::time::{Clock, Duration, Instant};
 
 /// What a service says of itself beside its desk. The threads of the service write it, and requests read it.
 #[derive(Drop)]
@@ -27,6 +30,8 @@ pub struct ServiceState {
     is_hanging: AtomicBool,
     /// Whether all that was found first was given out.
     has_begun: AtomicBool,
+    /// Whether a list leaves out what another one still has.
+    is_ordered: AtomicBool,
     untried: AtomicU64,
     refreshes: AtomicU64,
     failed_refreshes: AtomicU64,
@@ -47,6 +52,11 @@ pub struct ServiceState {
     changes: Mutex<Changes>,
     /// The names under which lists were asked for.
     names: Mutex<Names>,
+    /// The live collectors that asked for a list.
+    takers: Mutex<Takers>,
+    round: Mutex<OpenRound>,
+    /// Since when the target is handed over that is so for longest, in seconds since 1970. 0 where none is.
+    handing_over_since: AtomicU64,
 }
 
 impl ServiceState {
@@ -61,6 +71,7 @@ impl ServiceState {
             is_broken: AtomicBool::new(false),
             is_hanging: AtomicBool::new(false),
             has_begun: AtomicBool::new(false),
+            is_ordered: AtomicBool::new(false),
             untried: AtomicU64::new(sources),
             refreshes: AtomicU64::new(0),
             failed_refreshes: AtomicU64::new(0),
@@ -74,6 +85,9 @@ impl ServiceState {
             notes: Mutex::new(Notes::new(alloc)),
             changes: Mutex::new(Changes::new(alloc)),
             names: Mutex::new(Names::new(alloc)),
+            takers: Mutex::new(Takers::new(alloc)),
+            round: Mutex::new(OpenRound::unknown()),
+            handing_over_since: AtomicU64::new(0),
         }
     }
 
@@ -144,6 +158,16 @@ impl ServiceState {
         self.is_hanging.store(is_hanging, Ordering::SeqCst);
     }
 
+    /// Lists are served in order from now on, or are not.
+    pub fn set_ordered(&self, is_ordered: bool) {
+        self.is_ordered.store(is_ordered, Ordering::SeqCst);
+    }
+
+    /// Whether lists are served in order: each leaves out what another one still has.
+    pub fn is_ordered(&self) -> bool {
+        self.is_ordered.load(Ordering::SeqCst)
+    }
+
     /// A source was tried for the first time, and what it lists was entered.
     pub fn count_tried(&self) {
         self.untried.fetch_sub(1, Ordering::SeqCst);
@@ -209,16 +233,64 @@ impl ServiceState {
         self.failed_accepts.load(Ordering::SeqCst)
     }
 
-    /// A live collector has this name. What finds no memory is not noted.
-    pub fn note_live(&self, rt: &impl Wait, name: &str) {
-        let _ = self.names.lock(rt).note_live(name);
+    /// The live collector of this number has this name. What finds no memory is not noted.
+    pub fn note_live(&self, rt: &impl Wait, name: &str, id: CollectorId) {
+        let _ = self.names.lock(rt).note_live(name, id);
     }
 
-    /// Somebody asks under a name that no live collector has. Whether one had it.
-    pub fn was_live(&self, rt: &impl Wait, name: &str) -> bool {
+    /// Somebody asks under a name that no live collector has. Gives the number that the last one had it under, where one had it.
+    pub fn number_of(&self, rt: &impl Wait, name: &str) -> Option<CollectorId> {
         let mut names = self.names.lock(rt);
         let _ = names.note_absent(name);
-        names.was_live(name)
+        names.number_of(name)
+    }
+
+    /// The names that live collectors have or had, with their last numbers. The one that was live first stands first.
+    pub fn names(
+        &self,
+        rt: &impl Wait,
+        alloc: Global,
+    ) -> Result<Vec<(Text, CollectorId)>, AllocError> {
+        self.names.lock(rt).all(alloc)
+    }
+
+    /// Whether a live collector has this name, or had it.
+    pub fn was_live(&self, rt: &impl Wait, name: &str) -> bool {
+        self.names.lock(rt).was_live(name)
+    }
+
+    /// The number that a collector had before this one, where it joined anew under its name.
+    pub fn earlier(&self, rt: &impl Wait, name: &str, id: CollectorId) -> Option<CollectorId> {
+        self.names.lock(rt).earlier(name, id)
+    }
+
+    /// A live collector asks for a list. What finds no memory is not noted.
+    pub fn note_taker(&self, rt: &impl Wait, id: CollectorId) {
+        let _ = self.takers.lock(rt).note(id);
+    }
+
+    /// The live collectors that asked for a list, since this was asked.
+    pub fn take_takers(&self, rt: &impl Wait) -> Vec<CollectorId> {
+        self.takers.lock(rt).take()
+    }
+
+    /// A round was opened then, and is to be open for so long.
+    pub fn note_round(&self, rt: &impl Wait, opened: Instant, length: Duration) {
+        *self.round.lock(rt) = OpenRound::of(opened, length);
+    }
+
+    /// How long the open round is open, and how long it is to be.
+    pub fn round_times<R: Wait + Clock>(&self, rt: &R) -> RoundTimes {
+        self.round.lock(rt).times(rt)
+    }
+
+    /// Since then the target is handed over that is so for longest, in seconds since 1970; 0 where none is.
+    pub fn note_handing_over(&self, since: u64) {
+        self.handing_over_since.store(since, Ordering::SeqCst);
+    }
+
+    pub(crate) fn handing_over_since(&self) -> u64 {
+        self.handing_over_since.load(Ordering::SeqCst)
     }
 
     /// The names under which somebody asked and that no live collector had, since this was asked.
