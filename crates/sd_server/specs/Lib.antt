@@ -3,3 +3,4 @@ pub mod Entries
 pub mod Says
 pub mod Listing
 pub mod Texts
+pub mod Looks

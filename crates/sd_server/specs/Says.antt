@@ -1,11 +1,12 @@
 -- What a request is told.
-use Rattle.std.specs.Prelude.{◌≡◌, ◌⊎◌, ℕ, List, Option, Some, None, Result, Ok, Err, codes}
+use Rattle.std.specs.Prelude.{◌≡◌, ◌⊎◌, ℕ, List, Option, Some, None, Result, Ok, Err, codes, length, if◌then◌else◌}
 use Rattle.fleet.specs.Fleet.{id_named}
 use Rattle.fleet_events.specs.declared.event.Event.{Event}
-use Rattle.fleet_events.specs.declared.event.Event.TheVariants.{Take}
+use Rattle.fleet_events.specs.declared.event.Event.TheVariants.{Take, Serve}
 use Rattle.fleet_events.specs.declared.answer.Answer.{Answer}
-use Rattle.fleet_events.specs.declared.answer.Answer.TheVariants.{Taken as HasTaken, Not}
+use Rattle.fleet_events.specs.declared.answer.Answer.TheVariants.{Taken as HasTaken, Served as HasServed, Not}
 use Rattle.fleet_events.specs.declared.refusal.Refusal.TheVariants.{UnknownJob, UnknownCollector}
+use Rattle.allocation_core.specs.Idle.{IsIdle}
 use Rattle.allocation_core.specs.State.{State}
 use Rattle.alloc_desk.specs.Counts.{Counts}
 use Rattle.alloc_desk.specs.History.{History}
@@ -17,12 +18,15 @@ use Rattle.sd_routes.specs.Events.{event_said}
 use Rattle.sd_routes.specs.Pages.{uncovered_data}
 use Rattle.sd_routes.specs.declared.ask.Ask.{Ask}
 use Rattle.sd_routes.specs.declared.ask.Ask.TheVariants as ask
+use Rattle.sd_routes.specs.declared.list_head.ListHead.{ListHead}
 use Rattle.sd_routes.specs.declared.notice.Notice.TheVariants.{Healthy, Broken, Ready, NotReady, Quitting, NoLifecycle}
 use Rattle.sd_routes.specs.declared.request_error.RequestError.{RequestError}
 use Rattle.sd_routes.specs.declared.request_error.RequestError.TheVariants.{Shape, JournalFull, NotKept, Memory}
 use Rattle.sd_routes.specs.declared.responding.Said.{Said}
-use Rattle.sd_routes.specs.declared.responding.Said.TheVariants.{Answer as Answered, Page, Taken, Refused, Misshapen, Notice as Noticed, Metrics, Document, Reloaded, NotReloaded}
+use Rattle.sd_routes.specs.declared.responding.Said.TheVariants.{Answer as Answered, Page, List as ListOf, Refused, Misshapen, Notice as Noticed, Metrics, Document, Reloaded, NotReloaded}
 use Rattle.service_state.specs.Jobs.{place_of}
+use Rattle.sd_server.specs.Looks.{HeadIs, IsLook}
+use Rattle.sd_server.specs.declared.look.Look.{Look}
 use Rattle.sd_server.specs.Texts.{certificate_text, groups_text, job_text}
 use Rattle.service_state.specs.declared.config_pages.ConfigPages.{ConfigPages}
 
@@ -42,38 +46,75 @@ SaysNot opening NotKept = Unit {0}
 SaysNot opening Memory = Unit {0}
 SaysNot opening _ = ⊥
 
+-- An answer to an event: that of an event that was entered, or that at a moment at which the event would change nothing.
+abbrev pub IsAnswered : State → Event → Answer → Type 0
+IsAnswered opening event answer = ((receipt : Receipt) × IsEntered opening event receipt × (answer ≡ receipt.answer)) ⊎ OfSome opening (λ h. IsIdle h.state event (Some answer))
+
 -- the machine's answer to an event
 abbrev pub SaysEvent : State → Event → Said → Type 0
 SaysEvent opening event (Answered answer) = (receipt : Receipt) × IsEntered opening event receipt × (answer ≡ receipt.answer)
 SaysEvent opening event (Refused error) = SaysNot opening error
 SaysEvent opening event _ = ⊥
 
--- what the answer to a Take is told as, with what the collector holds of a job; unless memory ran out
-abbrev pub SaysListed : State → ℕ → Answer → Said → Type 0
-SaysListed opening place answer (Taken allocation round groups) =
-    (held : List ℕ) × (answer ≡ HasTaken allocation round held) × OfSome opening (λ h. groups ≡ groups_text place held h)
-SaysListed opening place answer (Answered told) = told ≡ answer
-SaysListed opening place answer (Refused error) = error ≡ Memory
-SaysListed opening place answer _ = ⊥
+-- the answer to an event of a collector has these targets, and the head of a list tells the rest of it
+abbrev pub IsTold : ℕ → Answer → ListHead → List ℕ → Type 0
+IsTold id (HasTaken allocation round held) head targets = HeadIs id allocation round None head × (targets ≡ held)
+IsTold id (HasServed allocation round listed others) head targets = HeadIs id allocation round (Some (length others)) head × (targets ≡ listed)
+IsTold id _ head targets = ⊥
 
--- what a collector that takes the allocation is told of a job
-abbrev pub SaysTake : State → ℕ → ℕ → Said → Type 0
-SaysTake opening place id said = ((receipt : Receipt) × IsEntered opening (Take id) receipt × SaysListed opening place receipt.answer said)
-    ⊎ ((error : RequestError) × SaysNot opening error × (said ≡ Refused error))
+-- a list with this head and the groups of those of these targets that are of a job; unless memory ran out
+abbrev pub SaysGroups : State → ℕ → ListHead → List ℕ → Said → Type 0
+SaysGroups opening place head targets (ListOf told groups) = (told ≡ head) × OfSome opening (λ h. groups ≡ groups_text place targets h)
+SaysGroups opening place head targets (Refused error) = error ≡ Memory
+SaysGroups opening place head targets _ = ⊥
+
+-- what the answer to a Take or a Serve of a collector is told as: the groups of a job's targets; unless memory ran out
+abbrev pub SaysTold : State → ℕ → ℕ → Answer → Said → Type 0
+SaysTold opening place id answer (ListOf head groups) =
+    (targets : List ℕ) × IsTold id answer head targets × OfSome opening (λ h. groups ≡ groups_text place targets h)
+SaysTold opening place id answer (Answered told) = told ≡ answer
+SaysTold opening place id answer (Refused error) = error ≡ Memory
+SaysTold opening place id answer _ = ⊥
+
+-- there is no answer to an event
+abbrev pub SaysNoAnswer : State → Said → Type 0
+SaysNoAnswer opening said = (error : RequestError) × SaysNot opening error × (said ≡ Refused error)
+
+-- what a collector is told of a job by the answer to an event
+abbrev pub SaysGiven : State → ℕ → ℕ → Event → Said → Type 0
+SaysGiven opening place id event said = ((answer : Answer) × IsAnswered opening event answer × SaysTold opening place id answer said) ⊎ SaysNoAnswer opening said
+
+-- what a look is told as: the groups of a job's targets; unless memory ran out
+abbrev pub SaysLookOf : State → ℕ → ℕ → Look → Said → Type 0
+SaysLookOf opening place id look (ListOf head groups) =
+    HeadIs id look.allocation look.round look.left_out head × OfSome opening (λ h. groups ≡ groups_text place look.targets h)
+SaysLookOf opening place id look (Refused error) = error ≡ Memory
+SaysLookOf opening place id look _ = ⊥
+
+-- what is shown to who only looks: what a look finds; unless memory ran out
+abbrev pub SaysLook : State → ℕ → List ℕ → ℕ → Said → Type 0
+SaysLook opening place job id said =
+    ((look : Look) × OfSome opening (λ h. IsLook h.state job id look) × SaysLookOf opening place id look said) ⊎ (said ≡ Refused Memory)
 
 -- a text that does not change, unless memory ran out
 abbrev pub SaysCopy : List ℕ → Said → Type 0
 SaysCopy text said = (said ≡ Page text) ⊎ (said ≡ Refused Memory)
 
--- what is told under a name that nobody has: nothing is to be scraped by a collector that had it, unless memory ran out, and no other is known
-abbrev pub SaysGone : Said → Type 0
-SaysGone said = (said ≡ Answered (Not UnknownCollector)) ⊎ SaysCopy (codes "[]") said
+-- what is told under a name that nobody has: nothing is to be scraped by a collector that had it, unless its lists could not be let go
+-- or memory ran out, and no other is known
+abbrev pub SaysGone : State → Said → Type 0
+SaysGone opening said = (said ≡ Answered (Not UnknownCollector)) ⊎ (SaysCopy (codes "[]") said ⊎ SaysNoAnswer opening said)
 
--- nobody has the name, or its collector takes
-abbrev pub SaysHeld : State → ℕ → List ℕ → Said → Type 0
-SaysHeld opening place name said =
-    (OfSome opening (λ h. id_named h.state.fleet.collectors name ≡ None) × SaysGone said)
-    ⊎ ((id : ℕ) × OfSome opening (λ h. id_named h.state.fleet.collectors name ≡ Some id) × SaysTake opening place id said)
+-- what a collector is told of a job: it takes, or is served, or looks
+abbrev pub SaysList : State → ℕ → List ℕ → ℕ → Said → Type 0
+SaysList opening place job id said =
+    SaysGiven opening place id (Take id) said ⊎ (SaysGiven opening place id (Serve id job) said ⊎ SaysLook opening place job id said)
+
+-- nobody has the name, or its collector has a list
+unfoldable pub SaysHeld : State → ℕ → List ℕ → List ℕ → Said → Type 0
+SaysHeld opening place job name said =
+    (OfSome opening (λ h. id_named h.state.fleet.collectors name ≡ None) × SaysGone opening said)
+    ⊎ ((id : ℕ) × OfSome opening (λ h. id_named h.state.fleet.collectors name ≡ Some id) × SaysList opening place job id said)
 
 -- a page, unless memory ran out
 abbrev pub SaysText : State → (History → List ℕ) → Said → Type 0
@@ -86,9 +127,9 @@ abbrev pub SaysJob : State → List ℕ → Option ℕ → Said → Type 0
 SaysJob opening job None said = said ≡ Answered (Not UnknownJob)
 SaysJob opening job (Some place) said = SaysText opening (job_text job place) said
 
-abbrev pub SaysCollector : State → List ℕ → Option ℕ → Said → Type 0
-SaysCollector opening name None said = said ≡ Answered (Not UnknownJob)
-SaysCollector opening name (Some place) said = SaysHeld opening place name said
+abbrev pub SaysCollector : State → List ℕ → List ℕ → Option ℕ → Said → Type 0
+SaysCollector opening job name None said = said ≡ Answered (Not UnknownJob)
+SaysCollector opening job name (Some place) said = SaysHeld opening place job name said
 
 abbrev pub SaysLive : Said → Type 0
 SaysLive said = (said ≡ Noticed Healthy) ⊎ (said ≡ Noticed Broken)
@@ -119,9 +160,11 @@ SaysDocument (Document text) = Unit {0}
 SaysDocument (Refused error) = error ≡ Memory
 SaysDocument _ = ⊥
 
--- the page of some targets that nobody holds: those that some collector reaches, and those that none does
+-- the page of some targets that no list has: those that nobody holds and some collector reaches, those that are handed over, and those
+-- that nobody reaches
 abbrev pub IsUncoveredText : List ℕ → Type 0
-IsUncoveredText text = (full : List NumberedTarget) × (unreached : List NumberedTarget) × (text ≡ compact_text (uncovered_data full unreached))
+IsUncoveredText text =
+    (full : List NumberedTarget) × (waiting : List NumberedTarget) × (unreached : List NumberedTarget) × (text ≡ compact_text (uncovered_data full waiting unreached))
 
 abbrev pub SaysUncoveredText : Said → Type 0
 SaysUncoveredText (Page page) = IsUncoveredText page
@@ -135,7 +178,7 @@ SaysUncovered (Some place) said = SaysUncoveredText said
 
 -- what is told without an event of the body's
 abbrev pub SaysPage : State → ConfigPages → Ask → Said → Type 0
-SaysPage opening pages ask.ScrapeConfigs said = SaysCopy pages.scrape_configs said
+SaysPage opening pages (ask.ScrapeConfigs rules) said = SaysCopy (if rules then pages.as_read else pages.scrape_configs) said
 SaysPage opening pages ask.Jobs said = SaysCopy pages.jobs said
 SaysPage opening pages ask.Certificate said = SaysText opening certificate_text said
 SaysPage opening pages ask.Healthy said = said ≡ Noticed Healthy
@@ -147,13 +190,13 @@ SaysPage opening pages ask.Quit said = SaysQuit said
 SaysPage opening pages ask.Status said = SaysDocument said
 SaysPage opening pages (ask.Uncovered job) said = SaysUncovered (place_of job pages.names) said
 SaysPage opening pages (ask.JobTargets job) said = SaysJob opening job (place_of job pages.names) said
-SaysPage opening pages (ask.CollectorTargets job name) said = SaysCollector opening name (place_of job pages.names) said
+SaysPage opening pages (ask.CollectorTargets job name takes) said = SaysCollector opening job name (place_of job pages.names) said
 SaysPage opening pages _ said = Unit {0}
 
 -- what is asked waits for nothing
 abbrev pub IsAtOnce : Ask → Type 0
 IsAtOnce ask.Reload = ⊥
-IsAtOnce (ask.CollectorTargets job name) = ⊥
+IsAtOnce (ask.CollectorTargets job name takes) = ⊥
 IsAtOnce _ = Unit {0}
 
 -- some member is told at which a body is not of the documented shape
@@ -170,6 +213,10 @@ SaysBy opening pages asked (Ok (Some event)) said = SaysEvent opening event said
 SaysBy opening pages asked (Ok None) said = SaysPage opening pages asked said
 SaysBy opening pages asked (Err error) said = SaysRefused error said
 
--- what is told to a request with this body
+-- what is told in an epoch to a request with this body: a report of another epoch is refused
+unfoldable pub SaysIn : State → ConfigPages → Ask → ℕ → List ℕ → Said → Type 0
+SaysIn opening pages asked epoch body said = SaysBy opening pages asked (event_said asked epoch body) said ⊎ (said ≡ Refused Memory)
+
+-- what is told to a request with this body, in the epoch that it is
 abbrev pub Says : State → ConfigPages → Ask → List ℕ → Said → Type 0
-Says opening pages asked body said = SaysBy opening pages asked (event_said asked body) said ⊎ (said ≡ Refused Memory)
+Says opening pages asked body said = (epoch : ℕ) × SaysIn opening pages asked epoch body said

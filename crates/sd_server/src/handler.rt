@@ -1,32 +1,26 @@
 //! What a request is handled with.
-ghost use Rattle.std.specs.Prelude.{◌≡◌, IfOk, IfErr};
+ghost use Rattle.std.specs.Prelude.{◌≡◌, Some, IfOk, IfErr};
 ghost use Rattle.std.specs.Arc.{arc_value};
-ghost use Rattle.fleet.specs.Fleet.{id_named};
-ghost use Rattle.alloc_desk.specs.Views.{numbered_of, shares_of};
+ghost use Rattle.alloc_desk.specs.Views.{shares_of};
 ghost use Rattle.service_state.specs.Jobs.{place_of};
 ghost use Rattle.sd_server.specs.Texts.{certificate_text, job_text};
-ghost use Rattle.sd_server.specs.Listing.{IsGroups};
 ghost use Rattle.sd_server.specs.Entries.{Leads, OnceKept};
-ghost use Rattle.sd_server.specs.Says.{IsAtOnce, IsEntered, IsUncoveredText, OfSome, Says, SaysCollector, SaysCopy, SaysDocument, SaysEvent, SaysGone, SaysHeld, SaysJob, SaysListed, SaysLive, SaysMetrics, SaysNot, SaysPage, SaysQuit, SaysReady, SaysRefused, SaysReload, SaysTake, SaysText, SaysUncovered};
+ghost use Rattle.sd_server.specs.Says.{IsAtOnce, IsEntered, IsUncoveredText, OfSome, Says, SaysCopy, SaysDocument, SaysEvent, SaysIn, SaysJob, SaysLive, SaysMetrics, SaysNot, SaysPage, SaysQuit, SaysReady, SaysRefused, SaysReload, SaysText, SaysUncovered};
 
 use crate::certificate_page::certificate_page;
 use crate::counter::Counter;
 use crate::entry::{Entry, Later, Reload};
-use crate::list_text::ListText;
 use crate::list_texts::ListTexts;
 use crate::uncovered::{Uncovered, uncovered_of};
 use admission::Admission;
-use alloc_desk::{Desk, DeskName, EnterError, NumberedTarget, Pass, Receipt, Share};
+use alloc_desk::{Desk, DeskName, EnterError, Pass, Receipt, Share};
 use allocation_core::{Answer, Event, Refusal};
-use bytes::Bytes;
 use event_loops::Gate;
-use fleet_events::{AllocationNumber, CollectorId, TargetId};
+use fleet_events::CollectorId;
 use lists::{List, Plain, Text};
 use price_certificate::{Instance, Plan};
-use reach_rules::CollectorName;
 use sd_routes::{
-    Ask, Notice, RequestError, Said, event_of, job_page, misshapen_member, targets_page,
-    uncovered_page,
+    Ask, Notice, RequestError, Said, event_of, job_page, misshapen_member, uncovered_page,
 };
 use service_state::{
     Asked, ChangeNote, ConfigPages, EventKind, Figures, Kept, LONGEST_WAIT_MILLIS, Route,
@@ -51,6 +45,8 @@ pub struct Handler<R, L: Ledger, B: Ledger, N: DeskName> {
     pub state: Arc<ServiceState>,
     /// How much of the journal is kept, where it is to be kept before an answer is given.
     pub kept: Option<Arc<Kept>>,
+    /// What changes with each renewal and each new journal. A report that names another one is refused.
+    pub epoch: u64,
     /// The texts of the lists that were taken.
     pub texts: Arc<ListTexts<N>>,
     /// Who may ask for what.
@@ -76,6 +72,7 @@ impl<R: Wait + Clock + Copy, L: Ledger, B: Ledger, N: DeskName> Handler<R, L, B,
             pages: Arc::try_clone(&self.pages)?,
             state: Arc::try_clone(&self.state)?,
             kept: Kept::shared(&self.kept)?,
+            epoch: self.epoch,
             texts: Arc::try_clone(&self.texts)?,
             doors: Arc::try_clone(&self.doors)?,
             peer: self.peer,
@@ -126,7 +123,14 @@ impl<R: Wait + Clock + Copy, L: Ledger, B: Ledger, N: DeskName> Handler<R, L, B,
     pub fn entry(&self, ask: &Ask, body: &[u8]) -> Entry
         ensures { Leads (Says N.opening (arc_value self.now.pages) ask.now body.now) result }
     {
-        match event_of(self.alloc, ask, body) {
+        self.entry_now(ask, body)
+    }
+
+    #[tactic(auto, unfolding(crate::specs::Says::SaysIn))]
+    fn entry_now(&self, ask: &Ask, body: &[u8]) -> Entry
+        ensures { Leads (SaysIn N.opening (arc_value self.now.pages) ask.now self.now.epoch body.now) result }
+    {
+        match event_of(self.alloc, ask, body, self.epoch) {
             Ok(Some(event)) => self.entered(event),
             Ok(None) => self.shown(ask),
             Err(error) => Entry::Now(self.refused(ask, body, error)),
@@ -153,7 +157,8 @@ impl<R: Wait + Clock + Copy, L: Ledger, B: Ledger, N: DeskName> Handler<R, L, B,
         match self.submitted(event) {
             Ok(receipt) => {
                 self.note_change(change, &receipt.answer);
-                self.once_kept(receipt.position, Said::Answer(receipt.answer))
+                let rests = receipt.position.saturating_add(1);
+                self.once_kept(rests, Said::Answer(receipt.answer))
             }
             Err(error) => Entry::Now(Said::Refused(error)),
         }
@@ -164,7 +169,9 @@ impl<R: Wait + Clock + Copy, L: Ledger, B: Ledger, N: DeskName> Handler<R, L, B,
         let collector = match event {
             Event::Join { name, .. } => Text::from_str(self.alloc, name.as_str()),
             Event::Leave(id) | Event::Drain(id) => self.number_text(*id),
-            Event::SetLimits { collector, .. } => self.number_text(*collector),
+            Event::SetLimits { collector, .. } | Event::Release { collector, .. } => {
+                self.number_text(*collector)
+            }
             _ => return None,
         };
         Some((EventKind::of(event), collector.ok()?))
@@ -198,7 +205,7 @@ impl<R: Wait + Clock + Copy, L: Ledger, B: Ledger, N: DeskName> Handler<R, L, B,
     {
         match ask {
             Ask::Reload => self.reload(),
-            Ask::CollectorTargets { job, name } => self.collector(job, name),
+            Ask::CollectorTargets { job, name, takes } => self.collector(job, name, *takes),
             _ => Entry::Now(self.page(ask)),
         }
     }
@@ -208,7 +215,8 @@ impl<R: Wait + Clock + Copy, L: Ledger, B: Ledger, N: DeskName> Handler<R, L, B,
         ensures { IsAtOnce ask.now → SaysPage N.opening (arc_value self.now.pages) ask.now result }
     {
         match ask {
-            Ask::ScrapeConfigs => copied(&self.pages.scrape_configs),
+            Ask::ScrapeConfigs { rules: true } => copied(&self.pages.as_read),
+            Ask::ScrapeConfigs { rules: false } => copied(&self.pages.scrape_configs),
             Ask::Jobs => copied(&self.pages.jobs),
             Ask::Certificate => self.certificate(),
             Ask::Healthy => Said::Notice(Notice::Healthy),
@@ -224,6 +232,7 @@ impl<R: Wait + Clock + Copy, L: Ledger, B: Ledger, N: DeskName> Handler<R, L, B,
             | Ask::Join
             | Ask::Leave(_)
             | Ask::Drain(_)
+            | Ask::Release(_)
             | Ask::SetLimits(_)
             | Ask::Report => Said::Refused(RequestError::Memory),
         }
@@ -379,8 +388,14 @@ impl<R: Wait + Clock + Copy, L: Ledger, B: Ledger, N: DeskName> Handler<R, L, B,
     {
         let uncovered = self.uncovered_at(place)?;
         let full = self.numbered(place, uncovered.full.as_slice())?;
+        let waiting = self.numbered(place, uncovered.handing_over.as_slice())?;
         let unreached = self.numbered(place, uncovered.unreached.as_slice())?;
-        uncovered_page(self.alloc, full.as_slice(), unreached.as_slice())
+        uncovered_page(
+            self.alloc,
+            full.as_slice(),
+            waiting.as_slice(),
+            unreached.as_slice(),
+        )
     }
 
     fn uncovered_at(&self, place: usize) -> Result<Uncovered, AllocError> {
@@ -392,132 +407,8 @@ impl<R: Wait + Clock + Copy, L: Ledger, B: Ledger, N: DeskName> Handler<R, L, B,
         )
     }
 
-    fn collector(&self, job: &Text, name: &CollectorName) -> Entry
-        ensures { Leads (SaysCollector N.opening name.now (place_of job.now (arc_value self.now.pages).names)) result }
-    {
-        let Some(place) = self.pages.place(job.as_str()) else {
-            return Entry::Now(Said::Answer(Answer::Not(Refusal::UnknownJob)));
-        };
-        self.held(place, name.as_str())
-    }
-
-    fn held(&self, place: usize, name: &str) -> Entry
-        ensures { Leads (SaysHeld N.opening place name.now) result }
-    {
-        match self.named(name) {
-            Some(collector) => {
-                self.state.note_live(&self.rt, name);
-                self.taken(place, collector)
-            }
-            None => Entry::Now(self.gone(name)),
-        }
-    }
-
-    /// What is told under a name that no live collector has: who had it is to let go of what it scrapes.
-    fn gone(&self, name: &str) -> Said
-        ensures { SaysGone result }
-    {
-        if !self.state.was_live(&self.rt, name) {
-            return Said::Answer(Answer::Not(Refusal::UnknownCollector));
-        }
-        match Text::from_str(self.alloc, "[]") {
-            Ok(nothing) => Said::Page(nothing),
-            Err(_) => Said::Refused(RequestError::Memory),
-        }
-    }
-
-    fn named(&self, name: &str) -> Option<CollectorId>
-        ensures { OfSome N.opening (λ h. result ≡ id_named h.state.fleet.collectors name.now) }
-    {
-        let mut pass = self.pass.lock(&self.rt);
-        self.desk.named(&self.rt, &mut *pass, name)
-    }
-
-    fn taken(&self, place: usize, collector: CollectorId) -> Entry
-        ensures { Leads (SaysTake N.opening place collector) result }
-    {
-        match self.submitted(Event::Take(collector)) {
-            Ok(receipt) => {
-                let position = receipt.position;
-                let listed = self.listed(place, collector, receipt.answer);
-                self.once_kept(position, listed)
-            }
-            Err(error) => Entry::Now(Said::Refused(error)),
-        }
-    }
-
-    fn listed(&self, place: usize, collector: CollectorId, answer: Answer) -> Said
-        ensures { SaysListed N.opening place answer result }
-    {
-        match answer {
-            Answer::Taken {
-                allocation,
-                round,
-                held,
-            } => match self.groups(place, collector, allocation, held.as_slice()) {
-                Ok(groups) => Said::Taken {
-                    allocation,
-                    round,
-                    groups,
-                },
-                Err(_) => Said::Refused(RequestError::Memory),
-            },
-            other => Said::Answer(other),
-        }
-    }
-
-    /// The text of what a collector holds of a job in an allocation.
-    fn groups(
-        &self,
-        place: usize,
-        collector: CollectorId,
-        allocation: AllocationNumber,
-        held: &[TargetId],
-    ) -> Result<Bytes, AllocError>
-        ensures { IfOk result (IsGroups N.opening place held.now) }
-    {
-        if let Some(text) = self.texts.text(&self.rt, collector, place, held)? {
-            return Ok(text);
-        }
-        let text = self.new_groups(place, held)?;
-        if let Ok(kept) = self.kept_text(place, held, &text) {
-            let _ = self
-                .texts
-                .keep(&self.rt, allocation, collector, place, kept);
-        }
-        Ok(text)
-    }
-
-    /// A text, to be kept.
-    fn kept_text(
-        &self,
-        place: usize,
-        held: &[TargetId],
-        text: &Bytes,
-    ) -> Result<Arc<ListText<N>>, AllocError>
-        requires { IsGroups N.opening place held.now text.now }
-    {
-        let text = ListText::new(self.alloc, place, held, text.clone()?)?;
-        Ok(Arc::new(self.alloc, text)?)
-    }
-
-    fn new_groups(&self, place: usize, held: &[TargetId]) -> Result<Bytes, AllocError>
-        ensures { IfOk result (IsGroups N.opening place held.now) }
-    {
-        let targets = self.numbered(place, held)?;
-        Bytes::from_string(targets_page(self.alloc, targets.as_slice())?.into_string())
-    }
-
-    fn numbered(&self, place: usize, held: &[TargetId]) -> Result<List<NumberedTarget>, AllocError>
-        ensures { IfOk result (λ l. OfSome N.opening (λ h. l ≡ numbered_of h.state place held.now)) }
-    {
-        let mut pass = self.pass.lock(&self.rt);
-        self.desk
-            .numbered(&self.rt, self.alloc, &mut *pass, place, held)
-    }
-
     /// The receipt of an event that was entered.
-    fn submitted(&self, event: Event) -> Result<Receipt, RequestError>
+    pub(crate) fn submitted(&self, event: Event) -> Result<Receipt, RequestError>
         ensures receipt { IfOk result (IsEntered N.opening event) }
         ensures not { IfErr result (SaysNot N.opening) }
     {
@@ -531,18 +422,18 @@ impl<R: Wait + Clock + Copy, L: Ledger, B: Ledger, N: DeskName> Handler<R, L, B,
     }
 
     /// Whether what is submitted cannot be kept.
-    fn is_broken(&self) -> bool {
+    pub(crate) fn is_broken(&self) -> bool {
         match &self.kept {
             Some(kept) => kept.is_broken(&self.rt),
             None => false,
         }
     }
 
-    /// What is said once the entry at a position is kept, where it is to be.
-    fn once_kept(&self, position: u64, said: Said) -> Entry
+    /// What is said once so many entries of the journal are kept, where they are to be.
+    pub(crate) fn once_kept(&self, entries: u64, said: Said) -> Entry
         ensures { Leads (OnceKept said) result }
     {
-        let Some(kept) = &self.kept else {
+        let (Some(kept), Some(position)) = (&self.kept, entries.checked_sub(1)) else {
             return Entry::Now(said);
         };
         match kept.ask(&self.rt, position) {

@@ -7,11 +7,13 @@
 
 mod by_loops;
 mod certificate_page;
+mod collector_lists;
 mod counter;
 mod entry;
 mod handler;
 mod list_text;
 mod list_texts;
+mod look;
 mod one_by_one;
 mod reply;
 mod service;

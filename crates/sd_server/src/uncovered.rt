@@ -1,13 +1,16 @@
-//! The live targets that nobody holds, and why.
+//! The live targets that no list has, and why.
 use allocation_core::Core;
 use fleet_events::{CollectorId, TargetId};
+use service_state::targets_handing_over;
 use std::alloc::{AllocError, Global};
 
-/// The live targets of a job that nobody holds in the current allocation, in order of number.
+/// The live targets of a job that nobody holds in the current allocation, or that are handed over, in order of number.
 #[derive(Debug, Drop)]
 pub(crate) struct Uncovered {
     /// Those that a collector reaches which is not draining: all such ones are full, or a reallocation is due.
     pub(crate) full: Vec<TargetId>,
+    /// Those that the list of their collector leaves out, since another list has them.
+    pub(crate) handing_over: Vec<TargetId>,
     /// Those that no such collector reaches.
     pub(crate) unreached: Vec<TargetId>,
 }
@@ -21,6 +24,7 @@ pub(crate) fn uncovered_of(
     let marks = uncovered_marks(core)?;
     let mut found = Uncovered {
         full: Vec::new(alloc),
+        handing_over: Vec::new(alloc),
         unreached: Vec::new(alloc),
     };
     let known = core.fleet().known().iter().zip(marks.iter());
@@ -36,7 +40,19 @@ pub(crate) fn uncovered_of(
             }
         }
     }
+    for one in targets_handing_over(alloc, core)?.iter() {
+        if is_of(core, one.target, place) {
+            found.handing_over.push(one.target)?;
+        }
+    }
     Ok(found)
+}
+
+fn is_of(core: &Core, target: TargetId, place: usize) -> bool {
+    match core.fleet().known().get(target as usize) {
+        Some(known) => known.job == place,
+        None => false,
+    }
 }
 
 /// Which of the known targets are live and held by nobody. A collector that has left holds nothing.

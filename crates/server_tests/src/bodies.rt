@@ -23,7 +23,7 @@ fn leaves_and_drains_have_no_body(rt: HostRuntime) -> Result<(), Fail> {
 }
 
 fn is_told(alloc: Global, ask: &Ask, wanted: &str) -> bool {
-    match event_of(alloc, ask, NO_TEXT) {
+    match event_of(alloc, ask, NO_TEXT, 0) {
         Ok(Some(event)) => match event.to_json(alloc) {
             Ok(line) => line.as_str() == wanted,
             Err(_) => false,

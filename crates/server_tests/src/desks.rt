@@ -6,7 +6,7 @@ use alloc_desk::{Desk, DeskName, Pass};
 use allocation_core::{Answer, Core, JobSpec};
 use fleet_events::read_event;
 use lists::Text;
-use sd_documents::read_config;
+use sd_documents::{Config, read_config, scrape_configs_text};
 use sd_server::{Handler, ListTexts};
 use service_state::{ConfigPages, ServiceState};
 use std::alloc::{AllocError, Global};
@@ -127,6 +127,7 @@ fn with_pages<R: Copy, L: Ledger, B: Ledger, N: DeskName>(
             kept: None,
             texts,
             doors,
+            epoch: 0,
             peer: None,
             time: None,
             gate: None,
@@ -137,7 +138,14 @@ fn with_pages<R: Copy, L: Ledger, B: Ledger, N: DeskName>(
 
 fn pages_of(alloc: Global) -> Option<Arc<ConfigPages>> {
     match read_config(alloc, CONFIG.as_bytes()) {
-        Ok(config) => shared(alloc, ConfigPages::of(alloc, &config).ok()),
+        Ok(config) => pages_by(alloc, &config),
+        Err(_) => None,
+    }
+}
+
+fn pages_by(alloc: Global, config: &Config) -> Option<Arc<ConfigPages>> {
+    match scrape_configs_text(alloc, config) {
+        Ok(scrape_configs) => shared(alloc, ConfigPages::of(alloc, config, scrape_configs).ok()),
         Err(_) => None,
     }
 }

@@ -1,7 +1,7 @@
 //! The rows: requests, and how their answers begin and end.
 use crate::client::Row;
 
-pub(crate) const ROWS: [Row; 16] = [
+pub(crate) const ROWS: [Row; 20] = [
     Row {
         request: "GET /x HTTP/1.1\r\nhost: h\r\n\r\n",
         begins: "HTTP/1.1 404 Not Found\r\n",
@@ -53,6 +53,26 @@ pub(crate) const ROWS: [Row; 16] = [
         ends: "\r\n\r\n{\"answer\":\"Draining\"}",
     },
     Row {
+        request: "POST /collectors/1/release HTTP/1.1\r\nhost: h\r\ncontent-length: 0\r\n\r\n",
+        begins: "HTTP/1.1 200 OK\r\n",
+        ends: "\r\n\r\n{\"answer\":\"Released 0\"}",
+    },
+    Row {
+        request: "POST /collectors/2/release HTTP/1.1\r\nhost: h\r\ncontent-length: 0\r\n\r\n",
+        begins: "HTTP/1.1 404 Not Found\r\n",
+        ends: "\r\n\r\n{\"refused\":\"UnknownCollector\"}",
+    },
+    Row {
+        request: "GET /collectors/1/release HTTP/1.1\r\nhost: h\r\n\r\n",
+        begins: "HTTP/1.1 405 Method Not Allowed\r\ncontent-type: application/json\r\nx-content-type-options: nosniff\r\nallow: POST\r\n",
+        ends: "\r\n\r\n{\"refused\":\"Method\"}",
+    },
+    Row {
+        request: "POST /collectors/z/release HTTP/1.1\r\nhost: h\r\ncontent-length: 0\r\n\r\n",
+        begins: "HTTP/1.1 400 Bad Request\r\n",
+        ends: "\r\n\r\n{\"refused\":\"Shape\"}",
+    },
+    Row {
         request: "GET /jobs HTTP/1.1\r\nhost: h\r\n\r\n",
         begins: "HTTP/1.1 200 OK\r\n",
         ends: "\r\n\r\n{\"j\":{\"_link\":\"/jobs/j/targets\"}}",
@@ -65,7 +85,7 @@ pub(crate) const ROWS: [Row; 16] = [
     Row {
         request: "GET /jobs/j/uncovered HTTP/1.1\r\nhost: h\r\n\r\n",
         begins: "HTTP/1.1 200 OK\r\ncontent-type: application/json\r\nx-content-type-options: nosniff\r\n",
-        ends: "\r\n\r\n{\"full\":[],\"unreached\":[]}",
+        ends: "\r\n\r\n{\"full\":[],\"handing_over\":[],\"unreached\":[]}",
     },
     Row {
         request: "GET /jobs/k/uncovered HTTP/1.1\r\nhost: h\r\n\r\n",
