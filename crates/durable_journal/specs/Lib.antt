@@ -8,3 +8,4 @@ pub mod Files
 pub mod Beginnings
 pub mod Pieces
 pub mod ByHand
+pub mod Epochs

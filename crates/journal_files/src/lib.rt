@@ -5,10 +5,12 @@
 mod fault;
 mod guarding;
 mod journals;
+mod names;
 mod opening;
 mod reading;
 
 pub use fault::Fault;
 pub use guarding::is_same_file;
 pub use journals::Journals;
+pub use names::{NamedCollector, with_names};
 pub use opening::{Opened, open_allocator};

@@ -1,9 +1,10 @@
 //! The file of the journal, and the allocator to begin with.
 use crate::fault::Fault;
 use crate::journals::{Journals, end_renewal, lock_file, open_journal, sync_folder};
-use crate::reading::{Journal, Next, Start, configured, read_journal};
+use crate::names::NamedCollector;
+use crate::reading::{Journal, Next, Past, Start, Wanted, configured, read_journal};
 use allocation_core::Core;
-use durable_journal::{Begun, FirstLine};
+use durable_journal::{Begun, FirstLine, next_epoch};
 use log::{info, warn};
 use logfmt::Logfmt;
 use sd_documents::Job;
@@ -18,6 +19,10 @@ use std::{fs, io};
 #[derive(Drop)]
 pub struct Opened<F> {
     pub core: Core,
+    /// The epoch in which its numbers mean what they mean.
+    pub epoch: u64,
+    /// The names that its collectors have or had. Only of those of its journal it is known.
+    pub names: Vec<NamedCollector>,
     pub file: Option<F>,
     /// How many bytes its journal has.
     pub bytes: u64,
@@ -40,10 +45,13 @@ pub fn open_allocator<R: Files<File = File> + AllocGlobal + Clock + Eprint + Cop
     line: &str,
     jobs: &[Job],
 ) -> Result<Opened<File>, Fault> {
+    let epoch = next_epoch(&journals.rt, 0);
     match journals.path() {
-        Some(path) => open_at(journals, path, line, jobs),
+        Some(path) => open_at(journals, path, Wanted { line, jobs, epoch }),
         None => Ok(Opened {
-            core: configured(journals.alloc, line)?,
+            core: configured(journals.alloc, line.as_bytes())?,
+            epoch,
+            names: Vec::new(journals.alloc),
             file: None,
             bytes: 0,
             chain: None,
@@ -54,11 +62,10 @@ pub fn open_allocator<R: Files<File = File> + AllocGlobal + Clock + Eprint + Cop
 fn open_at<R: Files<File = File> + AllocGlobal + Clock + Eprint + Copy + Drop>(
     journals: &Journals<R>,
     path: &str,
-    line: &str,
-    jobs: &[Job],
+    wanted: Wanted<'_>,
 ) -> Result<Opened<File>, Fault> {
     let mut file = own_journal(&journals.rt, journals.alloc, path)?;
-    match read_journal(journals.alloc, path, &mut file, line, jobs) {
+    match read_journal(journals.alloc, path, &mut file, wanted) {
         Ok(start) => begin(journals, path, file, start),
         Err(fault) => Err(fault),
     }
@@ -92,14 +99,25 @@ fn begin<R: Files<File = File> + AllocGlobal + Clock + Eprint + Copy + Drop>(
     file: File,
     start: Start,
 ) -> Result<Opened<File>, Fault> {
-    match next_file(journals, path, file, &start.journal) {
-        Ok(written) => Ok(Opened {
-            core: start.core,
-            file: Some(written.file),
-            bytes: written.bytes,
-            chain: written.chain,
-        }),
+    let Start {
+        core,
+        past,
+        journal,
+    } = start;
+    match next_file(journals, path, file, &journal) {
+        Ok(written) => Ok(opened_with(core, past, written)),
         Err(error) => Err(Fault::Machine(error)),
+    }
+}
+
+fn opened_with(core: Core, past: Past, written: Written) -> Opened<File> {
+    Opened {
+        core,
+        epoch: past.epoch,
+        names: past.names,
+        file: Some(written.file),
+        bytes: written.bytes,
+        chain: written.chain,
     }
 }
 

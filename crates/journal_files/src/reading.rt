@@ -1,12 +1,13 @@
 //! The allocator that a journal leads to, under the jobs of a configuration.
 use crate::fault::Fault;
 use crate::guarding::{altered, no_journal, too_long};
+use crate::names::{NamedCollector, names_in, with_names};
 use allocation_core::{Core, JobSpec, NotRenewed, RenewalError};
-use durable_journal::{FirstLine, Recovered, are_jobs_of, recover};
+use durable_journal::{FirstLine, Recovered, are_jobs_of, epoch_of, recover, with_epoch};
 use lists::copies;
 use replay_lines::{Damage, Resumption, resume};
 use sd_documents::Job;
-use sealed_lines::Chain;
+use sealed_lines::{Chain, first_line};
 use std::alloc::{AllocError, Global};
 use std::io;
 use std::io::Read;
@@ -15,6 +16,7 @@ use std::io::Read;
 #[derive(Drop)]
 pub(crate) struct Start {
     pub(crate) core: Core,
+    pub(crate) past: Past,
     pub(crate) journal: Journal,
 }
 
@@ -41,13 +43,38 @@ pub(crate) enum Next {
     IsReplaced(FirstLine),
 }
 
+/// What a journal is to go on with.
+#[derive(Clone, Copy)]
+pub(crate) struct Wanted<'a> {
+    /// The document of the configuration, as one line.
+    pub(crate) line: &'a str,
+    pub(crate) jobs: &'a [Job],
+    /// The epoch of a journal that begins now, unless that before it is later.
+    pub(crate) epoch: u64,
+}
+
+/// What a journal tells beside its allocator.
+#[derive(Drop)]
+pub(crate) struct Past {
+    pub(crate) epoch: u64,
+    /// The names that its collectors have or had.
+    pub(crate) names: Vec<NamedCollector>,
+}
+
+/// An allocator, what its journal tells beside it, and what is to become of that journal.
+#[derive(Drop)]
+struct Begun {
+    core: Core,
+    past: Past,
+    next: Next,
+}
+
 /// Reads the journal at a path to its end, and changes nothing of it.
 pub(crate) fn read_journal<F: Read>(
     alloc: Global,
     path: &str,
     file: &mut F,
-    line: &str,
-    jobs: &[Job],
+    wanted: Wanted<'_>,
 ) -> Result<Start, Fault> {
     match recover(alloc, file)? {
         Recovered::Found {
@@ -55,73 +82,150 @@ pub(crate) fn read_journal<F: Read>(
             chain,
             whole,
             torn,
-        } => {
-            let (core, next) = start_over(alloc, path, lines.as_slice(), line, jobs)?;
-            let whole = whole as u64;
-            Ok(Start {
-                core,
-                journal: Journal {
-                    whole,
-                    chain,
-                    torn,
-                    next,
-                },
-            })
-        }
+        } => match start_over(alloc, path, lines.as_slice(), wanted) {
+            Ok(begun) => Ok(start_of(begun, chain, whole as u64, torn)),
+            Err(fault) => Err(fault),
+        },
         Recovered::Altered { line } => Err(altered(alloc, path, line)),
         Recovered::Other => Err(no_journal(alloc, path)),
         Recovered::TooLong => Err(too_long(alloc, path)),
     }
 }
 
+/// What begins of a journal of so many whole bytes.
+fn start_of(begun: Begun, chain: Option<Chain>, whole: u64, torn: usize) -> Start {
+    let Begun { core, past, next } = begun;
+    Start {
+        core,
+        past,
+        journal: Journal {
+            whole,
+            chain,
+            torn,
+            next,
+        },
+    }
+}
+
 /// The allocator that the lines of the journal at a path lead to, under the jobs of a configuration. Where there are no lines it is that of
 /// the configuration's line; where it has other jobs it is renewed.
-fn start_over(
+fn start_over(alloc: Global, path: &str, lines: &[u8], wanted: Wanted<'_>) -> Result<Begun, Fault> {
+    if lines.is_empty() {
+        return start_anew(alloc, wanted);
+    }
+    match resumed(alloc, lines, path) {
+        Ok(Resumption { core, events }) => go_on(alloc, path, lines, wanted, core, events),
+        Err(fault) => Err(fault),
+    }
+}
+
+/// The allocator that lines with so many events lead to, under the jobs of a configuration.
+fn go_on(
     alloc: Global,
     path: &str,
     lines: &[u8],
-    line: &str,
-    jobs: &[Job],
-) -> Result<(Core, Next), Fault> {
-    if lines.is_empty() {
-        return start_anew(alloc, line);
+    wanted: Wanted<'_>,
+    core: Core,
+    events: u64,
+) -> Result<Begun, Fault> {
+    match past_of(alloc, lines, &core) {
+        Ok(past) => {
+            if are_jobs_of(core.fleet().jobs(), wanted.jobs) {
+                let next = Next::GoesOn(events);
+                Ok(Begun { core, past, next })
+            } else {
+                start_renewed(alloc, path, wanted, core, past)
+            }
+        }
+        Err(error) => Err(error.into()),
     }
-    let Resumption { core, events } = resumed(alloc, lines, path)?;
-    if are_jobs_of(core.fleet().jobs(), jobs) {
-        return Ok((core, Next::GoesOn(events)));
-    }
-    start_renewed(alloc, path, line, core)
+}
+
+/// What the lines of a journal tell beside their allocator.
+fn past_of(alloc: Global, lines: &[u8], core: &Core) -> Result<Past, AllocError> {
+    let epoch = last_epoch(alloc, lines)?;
+    let names = names_in(alloc, lines, core)?;
+    Ok(Past { epoch, names })
+}
+
+/// The epoch of the journal of these lines: 0 where it has none.
+fn last_epoch(alloc: Global, lines: &[u8]) -> Result<u64, AllocError> {
+    let (line, _others) = first_line(lines);
+    Ok(epoch_of(alloc, line)?.unwrap_or(0))
 }
 
 /// The allocator of a configuration's line.
-pub(crate) fn configured(alloc: Global, line: &str) -> Result<Core, Fault> {
-    Ok(resumed(alloc, line.as_bytes(), "the configuration")?.core)
+pub(crate) fn configured(alloc: Global, line: &[u8]) -> Result<Core, Fault> {
+    Ok(resumed(alloc, line, "the configuration")?.core)
 }
 
-fn start_anew(alloc: Global, line: &str) -> Result<(Core, Next), Fault> {
-    let first = given(FirstLine::configured(alloc, line.as_bytes())?)?;
-    let core = configured(alloc, line)?;
-    Ok((core, Next::Begins(first)))
+fn start_anew(alloc: Global, wanted: Wanted<'_>) -> Result<Begun, Fault> {
+    let line = with_epoch(alloc, wanted.line.as_bytes(), wanted.epoch)?;
+    let first = given(FirstLine::configured(alloc, line.as_slice())?)?;
+    match configured(alloc, line.as_slice()) {
+        Ok(core) => Ok(begun_anew(alloc, wanted.epoch, first, core)),
+        Err(fault) => Err(fault),
+    }
+}
+
+fn begun_anew(alloc: Global, epoch: u64, first: FirstLine, core: Core) -> Begun {
+    let names = Vec::new(alloc);
+    Begun {
+        core,
+        past: Past { epoch, names },
+        next: Next::Begins(first),
+    }
 }
 
 /// The allocator renewed under the jobs of a configuration's line.
-fn start_renewed(alloc: Global, path: &str, line: &str, core: Core) -> Result<(Core, Next), Fault> {
-    let jobs = jobs_in(alloc, line)?;
-    match core.renew(jobs) {
-        Ok(renewed) => replaced(alloc, line, renewed),
-        Err(NotRenewed { core: _, why }) => Err(not_renewed(alloc, path, why)),
+fn start_renewed(
+    alloc: Global,
+    path: &str,
+    wanted: Wanted<'_>,
+    core: Core,
+    past: Past,
+) -> Result<Begun, Fault> {
+    match jobs_in(alloc, wanted.line) {
+        Ok(jobs) => match core.renew(jobs) {
+            Ok(renewed) => replaced(alloc, wanted, past, renewed),
+            Err(NotRenewed { core: _, why }) => Err(not_renewed(alloc, path, why)),
+        },
+        Err(fault) => Err(fault),
     }
 }
 
 /// The jobs of a configuration's line, as an allocator has them.
 fn jobs_in(alloc: Global, line: &str) -> Result<Vec<JobSpec>, Fault> {
-    let core = configured(alloc, line)?;
+    let core = configured(alloc, line.as_bytes())?;
     Ok(copies(alloc, core.fleet().jobs())?)
 }
 
-fn replaced(alloc: Global, line: &str, core: Core) -> Result<(Core, Next), Fault> {
-    let first = given(FirstLine::renewed(alloc, line.as_bytes(), &core)?)?;
-    Ok((core, Next::IsReplaced(first)))
+fn replaced(alloc: Global, wanted: Wanted<'_>, past: Past, core: Core) -> Result<Begun, Fault> {
+    let epoch = wanted.epoch.max(past.epoch.saturating_add(1));
+    match renewed_line(alloc, wanted.line, epoch, past.names.as_slice(), &core) {
+        Ok(first) => Ok(Begun {
+            core,
+            past: Past {
+                epoch,
+                names: past.names,
+            },
+            next: Next::IsReplaced(first),
+        }),
+        Err(fault) => Err(fault),
+    }
+}
+
+/// The first line of the journal of a renewed allocator.
+fn renewed_line(
+    alloc: Global,
+    line: &str,
+    epoch: u64,
+    names: &[NamedCollector],
+    core: &Core,
+) -> Result<FirstLine, Fault> {
+    let line = with_epoch(alloc, line.as_bytes(), epoch)?;
+    let line = with_names(alloc, line.as_slice(), names)?;
+    given(FirstLine::renewed(alloc, line.as_slice(), core)?)
 }
 
 /// The first line, if a document has one, as that of a configuration has.
