@@ -55,7 +55,7 @@ where
             listener,
             schedule,
             watch,
-            file,
+            journal,
             ..
         } = office;
         let Crew {
@@ -63,6 +63,7 @@ where
             keeper,
             refresher,
         } = crew;
+        let file = &mut journal.file;
         let is_last = AtomicBool::new(false);
         let ((), served) = thread::join(
             &self.rt,

@@ -7,7 +7,7 @@ use allocation_core::Core;
 use durable_journal::Archive;
 use http_get::Scrape;
 use scrape_client::HyperScrape;
-use service_tasks::{Configuration, Ending, JournalFile, Office, Service, continued};
+use service_tasks::{Configuration, Ending, Journal, Office, Service, continued};
 use std::alloc::{AllocGlobal, Global};
 use std::fs::OpenFile;
 use std::io;
@@ -20,14 +20,14 @@ use std::sync::ledger::Blank;
 use std::thread::Threads;
 use std::time::Clock;
 
-/// Serves over an allocator until the service is to end, and gives the allocator back as it is then. The file, where there is one, is
-/// that of its journal, and the archive begins the journals after it. The configuration is read again when a request asks for it.
+/// Serves over an allocator with its journal until the service is to end, and gives the allocator back as it is then. The archive
+/// begins the journals after it. The configuration is read again when a request asks for it.
 pub fn serve<R, F, A, C>(
     rt: &R,
     alloc: Global,
     service: Service,
     listener: TcpListener,
-    file: Option<JournalFile<F>>,
+    journal: Journal<F>,
     archive: &mut A,
     configuration: C,
     core: Core,
@@ -51,7 +51,15 @@ where
 {
     let limit = service.fetch_timeout();
     let scrape = HyperScrape::new(*rt, limit);
-    match Office::open(rt, alloc, &service, listener, file, scrape, configuration) {
+    match Office::open(
+        rt,
+        alloc,
+        &service,
+        listener,
+        journal,
+        scrape,
+        configuration,
+    ) {
         Ok(mut office) => {
             let mut service = service;
             serve_desks(rt, alloc, &mut service, &mut office, archive, core)
@@ -94,6 +102,7 @@ where
         if ending == Ending::Quit {
             return Ok(later);
         }
+        office.remember_names(rt, alloc);
         core = continued(rt, alloc, service, office, archive, later)?;
     }
     unreachable!()

@@ -18,6 +18,9 @@ use std::rt::Files;
 /// The most bytes of a configuration: 64 MiB.
 const LONGEST_CONFIGURATION: u64 = 67_108_864;
 
+/// What stands in the rules of an operator's configuration for the number of the shard, of which there is one here.
+const SHARD: &str = "$(SHARD)";
+
 /// What is told of a configuration without jobs.
 const NO_JOBS: &str =
     "scrape_configs: no job: all targets would be dropped; set allocator.allow_no_jobs to true where that is meant";
@@ -58,7 +61,8 @@ pub(crate) fn service_of_parts(
     }
 }
 
-/// A document without its secrets: nobody is shown them, no journal has them, and nothing that is read here is another.
+/// A document without its secrets, and with 0 for the number of the shard: nobody is shown a secret, no journal has it, and nothing that is
+/// read here is another.
 fn shown_text(alloc: Global, path: &str, document: &[u8]) -> Result<Text, Fault> {
     match parse(alloc, document)? {
         Some(value) => Ok(shown_text_of(alloc, &value)?),
@@ -68,7 +72,8 @@ fn shown_text(alloc: Global, path: &str, document: &[u8]) -> Result<Text, Fault>
 
 fn shown_text_of(alloc: Global, value: &Value) -> Result<Text, AllocError> {
     let shown = without_secrets(alloc, value)?;
-    text_of(alloc, &shown)
+    let text = text_of(alloc, &shown)?;
+    Ok(Text::from_string(text.as_str().replace(alloc, SHARD, "0")?))
 }
 
 /// The service of a document without secrets.

@@ -4,7 +4,7 @@ use allocation_core::Core;
 use journal_files::{Fault, Journals, Opened, open_allocator};
 use log::{error, info, warn};
 use logfmt::{Logfmt, Quoted};
-use service_tasks::{JournalFile, Service};
+use service_tasks::{Journal, JournalFile, Service};
 use std::alloc::{AllocError, AllocGlobal, Global};
 use std::fs::File;
 use std::io;
@@ -73,7 +73,7 @@ fn tell_what_is_kept<R: Clock + Eprint + Copy>(rt: &R, journal: &Option<String>)
 /// Tells where nobody notices that a collector is dead.
 fn tell_who_is_missed<R: Clock + Eprint + Copy>(rt: &R, service: &Service) {
     if !service.notices_absence() {
-        warn!(Logfmt(*rt); "collector_timeout is not set: nobody notices a collector that is dead, and its targets stay with it");
+        warn!(Logfmt(*rt); "collector_timeout is never: nobody notices a collector that is dead, and its targets stay with it");
     }
 }
 
@@ -143,10 +143,13 @@ where
 {
     let Opened {
         core,
+        epoch,
+        names,
         file,
         bytes,
         chain,
     } = opened;
+    let file = file.map(|file| JournalFile::new(file, bytes, chain));
     if let Ok(here) = listener.local_addr() {
         log_address(rt, here);
     }
@@ -155,7 +158,7 @@ where
         alloc,
         service,
         listener,
-        file.map(|file| JournalFile::new(file, bytes, chain)),
+        Journal { file, epoch, names },
         journals,
         configuration,
         core,

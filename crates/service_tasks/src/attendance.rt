@@ -1,9 +1,13 @@
-//! Collectors that take nothing for long: they are drained, and then they leave.
+//! Collectors that ask for nothing for long: their lists are let go, they are drained, and then they leave.
 use crate::logging::log_warning;
+use crate::patience::Patience;
 use crate::scheduling::Schedule;
 use crate::shared::Shared;
-use alloc_desk::{DeskName, Entry, Pass, Record};
+use crate::sighting::Sighting;
+use alloc_desk::{DeskName, Pass};
+use allocation_core::Core;
 use fleet_events::{Answer, CollectorId, Event};
+use lists::Text;
 use log::warn;
 use logfmt::Logfmt;
 use std::alloc::{AllocError, Global};
@@ -11,33 +15,31 @@ use std::sync::Wait;
 use std::sync::ledger::Ledger;
 use std::time::{Clock, Duration, Instant};
 
-/// When the live collectors were last seen.
+/// How many collectors that left are waited for at most. The one that left first is forgotten for a further one.
+const MOST_LEFT: usize = 4_096;
+
+/// When collectors were last seen.
 #[derive(Drop)]
 pub(crate) struct Attendance {
-    /// How many entries of the desk's journal were looked at.
-    read: usize,
-    /// In order of the collectors' ids.
-    sightings: Vec<Sighting>,
+    /// Of the live ones, in order of their ids.
+    live: Vec<Sighting>,
+    /// Of those that left: their lists may still have targets, and they may come back under another number.
+    left: Vec<Sighting>,
     /// Those that are drained since they were absent.
     drained: Vec<CollectorId>,
+    /// Whether those were looked for that left before anybody looked.
+    is_begun: bool,
 }
 
-/// A collector, and when it was last seen: when it took what it holds, or else when it was first found among the live ones.
-#[derive(Clone, Copy, Drop)]
-struct Sighting {
-    collector: CollectorId,
-    at: Instant,
-}
-
-/// What a desk says of its collectors since the last look.
+/// What a desk says of its collectors.
 #[derive(Drop)]
 struct Roll {
     /// In order of their ids.
     live: Vec<Member>,
-    /// Those that took something.
-    takers: Vec<CollectorId>,
-    /// How long the journal is.
-    read: usize,
+    /// Those that left before anybody looked, and whose lists still have targets.
+    left: Vec<CollectorId>,
+    /// The live ones that were not seen yet, with their names.
+    newcomers: Vec<(CollectorId, Text)>,
 }
 
 /// A live collector.
@@ -51,42 +53,114 @@ impl Attendance {
     /// With nobody seen yet.
     pub(crate) fn new(alloc: Global) -> Attendance {
         Attendance {
-            read: 0,
-            sightings: Vec::new(alloc),
+            live: Vec::new(alloc),
+            left: Vec::new(alloc),
             drained: Vec::new(alloc),
+            is_begun: false,
         }
     }
 
-    /// Another desk is looked at from now on, whose journal is empty.
-    pub(crate) fn begin_desk(&mut self) {
-        self.read = 0;
-    }
-
-    /// Notes who is live, and who took something.
-    fn note(&mut self, alloc: Global, roll: &Roll, now: Instant) -> Result<(), AllocError> {
-        let mut sightings = Vec::with_capacity(alloc, roll.live.len())?;
-        for member in roll.live.iter() {
-            let collector = member.collector;
-            let at = self.last_seen(collector).unwrap_or(now);
-            sightings.push(Sighting { collector, at })?;
-        }
-        self.sightings = sightings;
-        for taker in roll.takers.iter() {
-            self.see(*taker, now);
-        }
-        self.read = roll.read;
+    /// Notes who is live, who left, who asked, and who joined anew: their numbers, each beside the number before. Where memory is wanted,
+    /// who left is waited for no more.
+    fn note(
+        &mut self,
+        alloc: Global,
+        roll: &Roll,
+        heirs: &[(CollectorId, CollectorId)],
+        takers: &[CollectorId],
+        now: Instant,
+    ) -> Result<(), AllocError> {
+        self.see_all(takers, now);
+        let live = self.live_now(alloc, roll, heirs, now)?;
+        self.note_left(roll, now);
+        self.live = live;
+        self.is_begun = true;
+        self.see_all(takers, now);
         Ok(())
     }
 
-    fn last_seen(&self, collector: CollectorId) -> Option<Instant> {
-        let place = self.place_of(collector)?;
-        Some(self.sightings.get(place)?.at)
+    fn live_now(
+        &self,
+        alloc: Global,
+        roll: &Roll,
+        heirs: &[(CollectorId, CollectorId)],
+        now: Instant,
+    ) -> Result<Vec<Sighting>, AllocError> {
+        let mut live = Vec::with_capacity(alloc, roll.live.len())?;
+        for member in roll.live.iter() {
+            live.push(self.sighting_now(member.collector, heirs, now))?;
+        }
+        Ok(live)
+    }
+
+    /// A live collector's sighting, which may be its first one.
+    fn sighting_now(
+        &self,
+        collector: CollectorId,
+        heirs: &[(CollectorId, CollectorId)],
+        now: Instant,
+    ) -> Sighting {
+        if let Some(seen) = self.sighting(collector) {
+            return seen;
+        }
+        match self.sighting_before(collector, heirs) {
+            Some(seen) => seen.of_heir(collector, now),
+            None => Sighting::first(collector, now),
+        }
+    }
+
+    /// The sighting of the number that a collector had before.
+    fn sighting_before(
+        &self,
+        collector: CollectorId,
+        heirs: &[(CollectorId, CollectorId)],
+    ) -> Option<Sighting> {
+        let (_, before) = heirs.iter().find(|(heir, _)| *heir == collector)?;
+        let mut seen = self.live.iter().chain(self.left.iter());
+        Some(*seen.find(|sighting| sighting.collector == *before)?)
+    }
+
+    /// Waits for those that are live no more.
+    fn note_left(&mut self, roll: &Roll, now: Instant) {
+        for sighting in self.live.iter() {
+            if !is_member(roll.live.as_slice(), sighting.collector) {
+                let _ = self.left.push(*sighting);
+            }
+        }
+        for collector in roll.left.iter() {
+            let _ = self.left.push(Sighting::first(*collector, now));
+        }
+        for _ in 0..self.left.len().saturating_sub(MOST_LEFT) {
+            self.forget_first();
+        }
+    }
+
+    /// Forgets the one that left first, where there are too many.
+    fn forget_first(&mut self) {
+        if self.left.len() > MOST_LEFT {
+            self.left.remove(0);
+        }
+    }
+
+    fn see_all(&mut self, takers: &[CollectorId], now: Instant) {
+        for taker in takers {
+            self.see(*taker, now);
+        }
     }
 
     fn see(&mut self, collector: CollectorId, now: Instant) {
-        if let Some(place) = self.place_of(collector) {
-            if let Some(sighting) = self.sightings.get_mut(place) {
-                sighting.at = now;
+        match self.place_of(collector) {
+            Some(place) => {
+                if let Some(sighting) = self.live.get_mut(place) {
+                    sighting.see(now);
+                }
+            }
+            None => {
+                for sighting in &mut self.left {
+                    if sighting.collector == collector {
+                        sighting.see(now);
+                    }
+                }
             }
         }
     }
@@ -104,16 +178,27 @@ impl Attendance {
         self.drained.len() < before
     }
 
+    fn sighting(&self, collector: CollectorId) -> Option<Sighting> {
+        let place = self.place_of(collector)?;
+        Some(*self.live.get(place)?)
+    }
+
     fn place_of(&self, collector: CollectorId) -> Option<usize> {
-        self.sightings
+        self.live
             .binary_search_by_key(&collector, |sighting| sighting.collector)
             .ok()
     }
 }
 
-/// What a desk says of its collectors, where so many entries of its journal are known.
-fn roll_of(alloc: Global, record: &Record, known: usize) -> Result<Roll, AllocError> {
-    let collectors = record.core().fleet().collectors();
+fn is_member(members: &[Member], collector: CollectorId) -> bool {
+    members
+        .binary_search_by_key(&collector, |member| member.collector)
+        .is_ok()
+}
+
+/// What a desk says of its collectors. Those that left are looked for once.
+fn roll_of(alloc: Global, core: &Core, attendance: &Attendance) -> Result<Roll, AllocError> {
+    let collectors = core.fleet().collectors();
     let mut live = Vec::with_capacity(alloc, collectors.len())?;
     for collector in collectors {
         live.push(Member {
@@ -121,34 +206,45 @@ fn roll_of(alloc: Global, record: &Record, known: usize) -> Result<Roll, AllocEr
             draining: collector.draining,
         })?;
     }
-    let journal = record.journal();
-    let takers = takers_in(alloc, journal.get(known..).unwrap_or(&[]))?;
+    let mut left = Vec::new(alloc);
+    if !attendance.is_begun {
+        add_left(&mut left, core)?;
+    }
+    let newcomers = newcomers_of(alloc, core, attendance)?;
     Ok(Roll {
         live,
-        takers,
-        read: journal.len(),
+        left,
+        newcomers,
     })
 }
 
-fn takers_in(alloc: Global, entries: &[Entry]) -> Result<Vec<CollectorId>, AllocError> {
-    let mut takers = Vec::new(alloc);
-    for entry in entries {
-        if let Some(collector) = taker_in(&entry.event) {
-            takers.push(collector)?;
+/// The live collectors that were not seen yet, with their names.
+fn newcomers_of(
+    alloc: Global,
+    core: &Core,
+    attendance: &Attendance,
+) -> Result<Vec<(CollectorId, Text)>, AllocError> {
+    let mut newcomers = Vec::new(alloc);
+    for collector in core.fleet().collectors() {
+        if attendance.sighting(collector.id).is_none() {
+            let name = Text::from_str(alloc, collector.name.as_str())?;
+            newcomers.push((collector.id, name))?;
         }
     }
-    Ok(takers)
+    Ok(newcomers)
 }
 
-/// Who took, or was served, a list by an event.
-fn taker_in(event: &Event) -> Option<CollectorId> {
-    match event {
-        Event::Take(collector) | Event::Serve { collector, job: _ } => Some(*collector),
-        _ => None,
+/// The collectors that are not live and whose lists still have targets, each once.
+fn add_left(left: &mut Vec<CollectorId>, core: &Core) -> Result<(), AllocError> {
+    for collector in core.slots() {
+        if *collector != 0 && !left.contains(collector) && !core.fleet().is_joined(*collector) {
+            left.push(*collector)?;
+        }
     }
+    Ok(())
 }
 
-/// What is entered of a collector that took nothing for so long.
+/// What is entered of a collector that asked for nothing for so long.
 fn due(member: Member, absent: Duration, limit: Duration) -> Option<Event> {
     if absent >= limit.saturating_mul(2) {
         return Some(Event::Leave(member.collector));
@@ -159,45 +255,113 @@ fn due(member: Member, absent: Duration, limit: Duration) -> Option<Event> {
     None
 }
 
+/// Whether the lists of a collector are to be let go.
+fn is_to_let_go(patience: Patience, sighting: &Sighting, now: Instant) -> bool {
+    match patience.release(sighting.gap) {
+        Some(limit) => !sighting.is_let_go && sighting.absence(now) >= limit,
+        None => false,
+    }
+}
+
 impl<R: Wait + Clock + Eprint + Copy, L: Ledger, B: Ledger, N: DeskName> Shared<R, L, B, N> {
-    /// Drains collectors that took nothing for as long as the limit says, and has those leave that took nothing for twice as long.
+    /// Lets the lists go of collectors that asked for nothing for long, live ones and those that left; drains live ones that asked for
+    /// nothing for as long as their timeout, and has those leave that asked for nothing for twice as long.
     pub(crate) fn dismiss_absent<C>(
         &self,
         pass: &mut Pass<L, B, N>,
         schedule: &mut Schedule<C>,
         now: Instant,
     ) {
-        let Some(limit) = self.absence else {
-            return;
-        };
-        if self
-            .dismiss_after(pass, &mut schedule.attendance, limit, now)
-            .is_err()
-        {
+        let attendance = &mut schedule.attendance;
+        if self.call_roll(pass, attendance, now).is_err() {
             log_warning(&self.rt, "no memory to see which collectors are absent");
         }
     }
 
-    fn dismiss_after(
+    fn call_roll(
         &self,
         pass: &mut Pass<L, B, N>,
         attendance: &mut Attendance,
-        limit: Duration,
         now: Instant,
     ) -> Result<(), AllocError> {
-        let known = attendance.read;
         let alloc = self.alloc;
-        let roll = self
-            .desk
-            .read(&self.rt, pass, |record| roll_of(alloc, record, known))?;
-        attendance.note(alloc, &roll, now)?;
+        let seen = &*attendance;
+        let roll = self.desk.read(&self.rt, pass, |record| roll_of(alloc, record.core(), seen))?;
+        let heirs = self.heirs_of(roll.newcomers.as_slice())?;
+        let takers = self.state.take_takers(&self.rt);
+        attendance.note(alloc, &roll, heirs.as_slice(), takers.as_slice(), now)?;
+        self.let_go_of_absent(pass, attendance, now);
+        self.tell_short_timeouts(attendance);
         for member in roll.live.iter() {
-            if let Some(seen) = attendance.last_seen(member.collector) {
-                let absent = now.saturating_duration_since(seen);
-                self.follow_member(pass, attendance, *member, absent, limit);
-            }
+            self.follow_member(pass, attendance, *member, now);
         }
         Ok(())
+    }
+
+    fn let_go_of_absent(
+        &self,
+        pass: &mut Pass<L, B, N>,
+        attendance: &mut Attendance,
+        now: Instant,
+    ) {
+        for sighting in &mut attendance.live {
+            if is_to_let_go(self.patience, sighting, now) {
+                self.let_go(pass, sighting);
+            }
+        }
+        for sighting in &mut attendance.left {
+            if is_to_let_go(self.patience, sighting, now) {
+                self.let_go(pass, sighting);
+            }
+        }
+    }
+
+    /// Those of the newcomers that joined anew, each beside the number that its name had before.
+    fn heirs_of(
+        &self,
+        newcomers: &[(CollectorId, Text)],
+    ) -> Result<Vec<(CollectorId, CollectorId)>, AllocError> {
+        let mut heirs = Vec::new(self.alloc);
+        for (collector, name) in newcomers {
+            self.state.note_live(&self.rt, name.as_str(), *collector);
+            if let Some(before) = self.state.earlier(&self.rt, name.as_str(), *collector) {
+                heirs.push((*collector, before))?;
+            }
+        }
+        Ok(heirs)
+    }
+
+    /// Lets the lists of an absent collector go, where they have targets.
+    fn let_go(&self, pass: &mut Pass<L, B, N>, sighting: &mut Sighting) {
+        let collector = sighting.collector;
+        sighting.is_let_go = true;
+        let has_targets = self.desk.read(
+            &self.rt,
+            pass,
+            |record| record.core().slots().contains(&collector),
+        );
+        if has_targets {
+            self.release(pass, collector);
+        }
+    }
+
+    fn release(&self, pass: &mut Pass<L, B, N>, collector: CollectorId) {
+        let job = None;
+        if let Some(answer) = self.enter(pass, Event::Release { collector, job }) {
+            warn!(Logfmt(self.rt); collector; "a collector asked for nothing for long: its lists count as let go");
+            self.log_answer("an absent collector", &answer);
+        }
+    }
+
+    /// Warns of collectors whose timeout is shorter than two of their gaps between lists, once of each.
+    fn tell_short_timeouts(&self, attendance: &mut Attendance) {
+        for sighting in &mut attendance.live {
+            if !sighting.is_told && self.patience.is_short(sighting.gap) {
+                sighting.is_told = true;
+                let collector = sighting.collector;
+                warn!(Logfmt(self.rt); collector; "collector_timeout is shorter than two refreshes of a collector: one that comes late is drained");
+            }
+        }
     }
 
     /// What is due of a collector that took nothing for so long, or takes again.
@@ -206,9 +370,15 @@ impl<R: Wait + Clock + Eprint + Copy, L: Ledger, B: Ledger, N: DeskName> Shared<
         pass: &mut Pass<L, B, N>,
         attendance: &mut Attendance,
         member: Member,
-        absent: Duration,
-        limit: Duration,
+        now: Instant,
     ) {
+        let Some(sighting) = attendance.sighting(member.collector) else {
+            return;
+        };
+        let Some(limit) = self.patience.timeout(sighting.gap) else {
+            return;
+        };
+        let absent = sighting.absence(now);
         match due(member, absent, limit) {
             Some(event) => self.enter_dismissal(pass, attendance, member.collector, event),
             None if absent < limit && attendance.forget_drained(member.collector) => {

@@ -9,6 +9,7 @@ use label_sets::Target;
 use lists::{List, Plain};
 use relabel::{Found, Rules};
 use sd_documents::Job;
+use service_settings::Handover;
 use std::alloc::{AllocError, Global};
 use std::sync::ledger::Ledger;
 use std::sync::{Arc, Wait};
@@ -23,9 +24,17 @@ impl<R: Wait + Clock + Eprint + Copy, L: Ledger, B: Ledger, N: DeskName> Shared<
         service: &Service,
         office: &mut Office<S, F, C>,
     ) -> Result<(), AllocError> {
+        let was_ordered = self.state.is_ordered();
+        let is_ordered = service.settings.handover == Handover::Ordered;
+        self.state.set_ordered(is_ordered);
         if self.is_broken() {
             self.state.break_down();
-        } else if office.is_new {
+            return Ok(());
+        }
+        if !is_ordered && (was_ordered || office.is_new) {
+            self.let_all_go(pass)?;
+        }
+        if office.is_new {
             self.state.forget_sources(&self.rt);
             self.enter_static_groups(pass, service.jobs())?;
             let schedule = &mut office.schedule;

@@ -1,6 +1,6 @@
 //! What a service keeps from one desk to the next.
 use crate::configuration::Configuration;
-use crate::journal_file::JournalFile;
+use crate::journal::Journal;
 use crate::logging::{log_error, log_warning};
 use crate::refreshing::Watch;
 use crate::scheduling::Schedule;
@@ -28,24 +28,23 @@ pub struct Office<S, F, C> {
     pub state: Arc<ServiceState>,
     pub schedule: Schedule<C>,
     pub watch: Watch<S>,
-    /// The journal's file.
-    pub file: Option<JournalFile<F>>,
+    pub journal: Journal<F>,
     /// Whether no desk was opened yet for the configuration.
     pub(crate) is_new: bool,
 }
 
 impl<S: Scrape + Drop, F: Drop, C: Configuration + Drop> Office<S, F, C> {
     /// The office of a service that begins.
-    pub fn open<R: Clock>(
+    pub fn open<R: Clock + Wait>(
         rt: &R,
         alloc: Global,
         service: &Service,
         listener: TcpListener,
-        file: Option<JournalFile<F>>,
+        journal: Journal<F>,
         scrape: S,
         configuration: C,
     ) -> io::Result<Office<S, F, C>> {
-        match Parts::of(rt, alloc, service) {
+        match Parts::of(rt, alloc, service, &journal) {
             Ok(parts) => Ok(Office {
                 listener,
                 connections: service.connections,
@@ -58,7 +57,7 @@ impl<S: Scrape + Drop, F: Drop, C: Configuration + Drop> Office<S, F, C> {
                     scrape,
                     sources: parts.sources,
                 },
-                file,
+                journal,
                 is_new: true,
             }),
             Err(error) => Err(error),
@@ -71,9 +70,16 @@ impl<S: Scrape + Drop, F: Drop, C: Configuration + Drop> Office<S, F, C> {
         self.state.set_reloaded(false);
     }
 
+    /// Remembers for the next journal the names that collectors have or had. Where there is no memory for them those from before stay.
+    pub fn remember_names(&mut self, rt: &impl Wait, alloc: Global) {
+        if let Ok(names) = self.state.names(rt, alloc) {
+            self.journal.names = names;
+        }
+    }
+
     /// Whether there is a journal's file, and nothing can be kept in it any more.
     pub(crate) fn is_broken(&self) -> bool {
-        match &self.file {
+        match &self.journal.file {
             Some(file) => file.is_broken,
             None => false,
         }
@@ -121,10 +127,19 @@ struct Parts {
 }
 
 impl Parts {
-    fn of<R: Clock>(rt: &R, alloc: Global, service: &Service) -> io::Result<Parts> {
+    fn of<R: Clock + Wait, F>(
+        rt: &R,
+        alloc: Global,
+        service: &Service,
+        journal: &Journal<F>,
+    ) -> io::Result<Parts> {
         let pages = Arc::try_clone(&service.pages)?;
         let doors = Arc::try_clone(&service.doors)?;
-        let state = Arc::new(alloc, state_of(rt, alloc, service)?)?;
+        let state = state_of(rt, alloc, service)?;
+        for (name, id) in journal.names.iter() {
+            state.note_live(rt, name.as_str(), *id);
+        }
+        let state = Arc::new(alloc, state)?;
         let now = Instant::now(rt)?;
         let job_texts = Arc::try_clone(&service.job_texts)?;
         let jobs = Arc::try_clone(&service.jobs)?;
@@ -164,7 +179,7 @@ fn state_of<R: Clock>(
 impl<S, F, C> Office<S, F, C> {
     /// Whether there is a journal's file, and another one is to begin.
     pub(crate) fn is_long(&self) -> bool {
-        match &self.file {
+        match &self.journal.file {
             Some(file) => file.is_long(),
             None => false,
         }
@@ -172,7 +187,7 @@ impl<S, F, C> Office<S, F, C> {
 
     /// What tells how much of the journal is kept, where there is a file for it.
     pub fn kept(&self, rt: &impl Wait, alloc: Global) -> Result<Option<Arc<Kept>>, AllocError> {
-        let Some(file) = &self.file else {
+        let Some(file) = &self.journal.file else {
             return Ok(None);
         };
         let kept = Arc::new(alloc, Kept::new(alloc))?;

@@ -9,8 +9,9 @@ use fleet_events::{CollectorId, Event};
 use lists::Plain;
 use log::info;
 use logfmt::{Logfmt, Quoted};
-use service_settings::Collector;
-use std::alloc::AllocError;
+use reach_rules::CollectorName;
+use service_settings::{Collector, JoiningPattern};
+use std::alloc::{AllocError, Global};
 use std::sync::Wait;
 use std::sync::ledger::Ledger;
 use std::time::Clock;
@@ -20,21 +21,39 @@ impl<R: Wait + Clock + Eprint + Copy, L: Ledger, B: Ledger, N: DeskName> Shared<
     pub(crate) fn remember_names(&self, pass: &mut Pass<L, B, N>) {
         self.desk.read(&self.rt, pass, |record| {
             for collector in record.core().fleet().collectors() {
-                self.state.note_live(&self.rt, collector.name.as_str());
+                self.state
+                    .note_live(&self.rt, collector.name.as_str(), collector.id);
             }
         });
     }
 
-    /// Has those collectors of the configuration join whose list was asked for, and that are not live.
+    /// Has those collectors join whose list was asked for, and that are not live: those of the configuration, and those that match a
+    /// pattern of it.
     pub(crate) fn let_rejoin(&self, pass: &mut Pass<L, B, N>, roster: &Roster) {
         let names = self.state.take_absent(&self.rt);
-        if !self.rejoin {
-            return;
-        }
         for name in names.iter() {
-            if let Some(collector) = collector_named(roster.listed(), name.as_str()) {
+            self.let_join(pass, roster, name.as_str());
+        }
+    }
+
+    fn let_join(&self, pass: &mut Pass<L, B, N>, roster: &Roster, name: &str) {
+        if let Some(collector) = collector_named(roster.listed(), name) {
+            if self.rejoin {
                 self.join_anew(pass, collector);
             }
+        } else if let Some(pattern) = pattern_of(roster.patterns(), name) {
+            self.join_by_pattern(pass, name, pattern);
+        }
+    }
+
+    fn join_by_pattern(&self, pass: &mut Pass<L, B, N>, name: &str, pattern: &JoiningPattern) {
+        match joining_by(self.alloc, name, pattern) {
+            Ok(Some(event)) => {
+                self.log_asking_by_pattern(name);
+                self.enter_told(pass, name, event);
+            }
+            Ok(None) => {}
+            Err(_) => log_warning(&self.rt, "no memory to have a collector join, tried again"),
         }
     }
 
@@ -68,10 +87,38 @@ impl<R: Wait + Clock + Eprint + Copy, L: Ledger, B: Ledger, N: DeskName> Shared<
         }
     }
 
+    fn log_asking_by_pattern(&self, name: &str) {
+        let name = Quoted(name);
+        info!(Logfmt(self.rt); collector:% = name; "a collector that matches a pattern asks for its list: it joins");
+    }
+
     fn log_asking(&self, name: &str) {
         let name = Quoted(name);
         info!(Logfmt(self.rt); collector:% = name; "a collector of the configuration asks for its list: it joins");
     }
+}
+
+/// The first pattern that a name matches.
+fn pattern_of<'a>(patterns: &'a [JoiningPattern], name: &str) -> Option<&'a JoiningPattern> {
+    patterns.iter().find(|pattern| pattern.matches(name))
+}
+
+/// The join of a collector of this name by a pattern.
+fn joining_by(
+    alloc: Global,
+    name: &str,
+    pattern: &JoiningPattern,
+) -> Result<Option<Event>, AllocError> {
+    let Ok(name) = CollectorName::read(alloc, name) else {
+        return Ok(None);
+    };
+    let reach = pattern.reach.copy()?;
+    let limits = pattern.limits.copy()?;
+    Ok(Some(Event::Join {
+        name,
+        reach,
+        limits,
+    }))
 }
 
 /// The join of a live collector, once it has left.

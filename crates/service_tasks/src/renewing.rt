@@ -3,14 +3,16 @@ ghost use Rattle.std.specs.Prelude.{◌≡◌, IfOk};
 ghost use Rattle.service_tasks.specs.Later.{IsLater};
 
 use crate::configuration::Configuration;
+use crate::journal::Journal;
 use crate::journal_file::JournalFile;
 use crate::logging::{log_error_of, log_info, log_warning, log_warning_of};
 use crate::office::{Office, sources_of};
 use crate::service::Service;
 use crate::source::Source;
 use allocation_core::{Core, JobSpec, NotRenewed};
-use durable_journal::{Archive, FirstLine, are_jobs_of};
+use durable_journal::{Archive, FirstLine, are_jobs_of, next_epoch, with_epoch};
 use http_get::Scrape;
+use journal_files::with_names;
 use lists::copies;
 use replay_lines::resume;
 use std::alloc::{AllocError, Global};
@@ -39,7 +41,7 @@ where
         return Ok(core);
     }
     if !office.schedule.is_read {
-        return renewed(rt, alloc, service, archive, &mut office.file, core);
+        return renewed(rt, alloc, service, archive, &mut office.journal, core);
     }
     office.schedule.is_read = false;
     match office.schedule.configuration.service() {
@@ -74,7 +76,7 @@ where
         office.refuse(rt);
         return Ok(core);
     };
-    let (core, is_under) = under(rt, alloc, &next, archive, &mut office.file, jobs, core)?;
+    let (core, is_under) = under(rt, alloc, &next, archive, &mut office.journal, jobs, core)?;
     if is_under {
         office.follow(&next, sources)?;
         *service = next;
@@ -109,7 +111,7 @@ fn under<R: Clock + Eprint + Copy, F: Drop, A: Archive<F>>(
     alloc: Global,
     service: &Service,
     archive: &mut A,
-    file: &mut Option<JournalFile<F>>,
+    journal: &mut Journal<F>,
     jobs: Vec<JobSpec>,
     core: Core,
 ) -> io::Result<(Core, bool)>
@@ -118,7 +120,7 @@ fn under<R: Clock + Eprint + Copy, F: Drop, A: Archive<F>>(
     if are_jobs_of(core.fleet().jobs(), service.jobs()) {
         return Ok((core, true));
     }
-    renewed_under(rt, alloc, service, archive, file, jobs, core)
+    renewed_under(rt, alloc, service, archive, journal, jobs, core)
 }
 
 /// The allocator renewed under its own jobs.
@@ -128,7 +130,7 @@ fn renewed<R: Clock + Eprint + Copy, F: Drop, A: Archive<F>>(
     alloc: Global,
     service: &Service,
     archive: &mut A,
-    file: &mut Option<JournalFile<F>>,
+    journal: &mut Journal<F>,
     core: Core,
 ) -> io::Result<Core>
     ensures { IfOk result (IsLater core) }
@@ -137,7 +139,7 @@ fn renewed<R: Clock + Eprint + Copy, F: Drop, A: Archive<F>>(
         log_warning(rt, "no memory to renew the allocator");
         return Ok(core);
     };
-    let (core, _) = renewed_under(rt, alloc, service, archive, file, jobs, core)?;
+    let (core, _) = renewed_under(rt, alloc, service, archive, journal, jobs, core)?;
     Ok(core)
 }
 
@@ -149,7 +151,7 @@ fn renewed_under<R: Clock + Eprint + Copy, F: Drop, A: Archive<F>>(
     alloc: Global,
     service: &Service,
     archive: &mut A,
-    file: &mut Option<JournalFile<F>>,
+    journal: &mut Journal<F>,
     jobs: Vec<JobSpec>,
     core: Core,
 ) -> io::Result<(Core, bool)>
@@ -157,7 +159,8 @@ fn renewed_under<R: Clock + Eprint + Copy, F: Drop, A: Archive<F>>(
 {
     match core.renew(jobs) {
         Ok(renewed) => {
-            begin_journal(rt, alloc, service, archive, file, &renewed)?;
+            journal.epoch = next_epoch(rt, journal.epoch);
+            begin_journal(rt, alloc, service, archive, journal, &renewed)?;
             log_info(rt, "the allocator is renewed");
             Ok((renewed, true))
         }
@@ -174,13 +177,15 @@ fn begin_journal<R: Clock + Eprint + Copy, F: Drop, A: Archive<F>>(
     alloc: Global,
     service: &Service,
     archive: &mut A,
-    file: &mut Option<JournalFile<F>>,
+    journal: &mut Journal<F>,
     core: &Core,
 ) -> io::Result<()> {
-    let Some(file) = file else {
+    let Some(file) = &mut journal.file else {
         return Ok(());
     };
-    let Some(first) = FirstLine::renewed(alloc, service.line().as_bytes(), core)? else {
+    let line = with_epoch(alloc, service.line().as_bytes(), journal.epoch)?;
+    let line = with_names(alloc, line.as_slice(), journal.names.as_slice())?;
+    let Some(first) = FirstLine::renewed(alloc, line.as_slice(), core)? else {
         return Err(io::ErrorKind::InvalidData.into());
     };
     match archive.begin(&first) {

@@ -8,7 +8,7 @@ use fleet_events::{AllocationNumber, CollectorId, Event};
 use lists::{List, Plain};
 use log::info;
 use logfmt::{Logfmt, Quoted};
-use service_settings::{Collector, ReachChanges, Settings};
+use service_settings::{Collector, JoiningPattern, ReachChanges, Settings};
 use std::alloc::{AllocError, Global};
 use std::sync::Wait;
 use std::sync::ledger::Ledger;
@@ -22,6 +22,8 @@ const PATIENCE: u32 = 2;
 pub(crate) struct Roster {
     /// As the configuration that is followed has them. None before the first.
     listed: List<Collector>,
+    /// By which others join.
+    patterns: List<JoiningPattern>,
     departures: Vec<Departure>,
 }
 
@@ -56,12 +58,22 @@ struct Holding {
     current: AllocationNumber,
     /// The number of the allocation that it took last, 0 where it took none.
     taken: AllocationNumber,
+    /// Whether lists that it was served still have targets.
+    has_lists: bool,
+}
+
+impl Holding {
+    /// Whether it was told that it holds nothing since an allocation in which that is so, or was never told of anything.
+    fn is_told(&self, number: AllocationNumber) -> bool {
+        !self.has_lists && (self.taken == 0 || self.taken >= number)
+    }
 }
 
 impl Roster {
     pub(crate) fn new(alloc: Global) -> Roster {
         Roster {
             listed: List::new(alloc),
+            patterns: List::new(alloc),
             departures: Vec::new(alloc),
         }
     }
@@ -69,6 +81,11 @@ impl Roster {
     /// The collectors of the configuration that is followed.
     pub(crate) fn listed(&self) -> &[Collector] {
         self.listed.as_slice()
+    }
+
+    /// By which collectors join that the configuration does not name.
+    pub(crate) fn patterns(&self) -> &[JoiningPattern] {
+        self.patterns.as_slice()
     }
 
     fn is_departing(&self, name: &str) -> bool {
@@ -118,9 +135,7 @@ impl Departure {
         }
         let (number, since) = self.emptied.unwrap_or((holding.current, now));
         self.emptied = Some((number, since));
-        holding.taken == 0
-            || holding.taken >= number
-            || now.saturating_duration_since(since) >= patience
+        holding.is_told(number) || now.saturating_duration_since(since) >= patience
     }
 }
 
@@ -139,6 +154,7 @@ impl<R: Wait + Clock + Eprint + Copy, L: Ledger, B: Ledger, N: DeskName> Shared<
         for collector in next {
             self.follow_collector(pass, settings.reach_changes, roster, collector)?;
         }
+        roster.patterns = patterns_copied(self.alloc, settings.join_by_asking.as_slice())?;
         roster.listed = all_copied(self.alloc, next)?;
         Ok(())
     }
@@ -369,6 +385,7 @@ fn holding_of(core: &Core, name: &str) -> Option<Holding> {
                 is_empty: core.allocation().iter().all(|pair| pair.1 != live.id),
                 current: core.current(),
                 taken: core.taken(live.id),
+                has_lists: core.slots().contains(&live.id),
             });
         }
     }
@@ -396,6 +413,17 @@ fn copied(collector: &Collector) -> Result<Collector, AllocError> {
         reach,
         limits,
     })
+}
+
+fn patterns_copied(
+    alloc: Global,
+    patterns: &[JoiningPattern],
+) -> Result<List<JoiningPattern>, AllocError> {
+    let mut copies = List::new(alloc);
+    for pattern in patterns {
+        copies.push(pattern.copy()?)?;
+    }
+    Ok(copies)
 }
 
 fn all_copied(alloc: Global, collectors: &[Collector]) -> Result<List<Collector>, AllocError> {

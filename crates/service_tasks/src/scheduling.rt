@@ -3,13 +3,14 @@ use crate::attendance::Attendance;
 use crate::configuration::Configuration;
 use crate::control::Ending;
 use crate::failed_accepts::FailedAccepts;
+use crate::handovers::Handovers;
 use crate::logging::{log_error, log_info, log_warning};
 use crate::roster::Roster;
 use crate::service::JobText;
 use crate::shared::Shared;
 use alloc_desk::{DeskName, MOST_ENTRIES, Pass, ReallocateError, Reallocated};
 use fleet::MOST_KNOWN_TARGETS;
-use fleet_events::{Answer, CollectorId, Event, TargetId};
+use fleet_events::{Answer, CollectorId, Event, Round, TargetId};
 use lists::List;
 use log::info;
 use logfmt::Logfmt;
@@ -39,9 +40,12 @@ const TRIES: u32 = 4;
 pub struct Schedule<C> {
     /// When the open round was opened.
     opened: Instant,
+    /// The round that was open at the last look.
+    round: Round,
     /// Since when something is changed.
     changed: Option<Instant>,
     pub(crate) attendance: Attendance,
+    pub(crate) handovers: Handovers,
     pub(crate) configuration: C,
     /// Whether the configuration was read again, and is to be followed.
     pub(crate) is_read: bool,
@@ -67,8 +71,10 @@ impl<C> Schedule<C> {
     ) -> Schedule<C> {
         Schedule {
             opened: now,
+            round: 0,
             changed: None,
             attendance: Attendance::new(alloc),
+            handovers: Handovers::new(alloc),
             configuration,
             is_read: false,
             jobs,
@@ -95,10 +101,10 @@ impl<R: Wait + Clock + Eprint + Copy, L: Ledger, B: Ledger, N: DeskName> Shared<
     }
 
     fn take_turns<C: Configuration>(&self, pass: &mut Pass<L, B, N>, schedule: &mut Schedule<C>) {
-        schedule.attendance.begin_desk();
         schedule.held.clear();
         self.remember_held(pass, schedule);
         self.remember_names(pass);
+        schedule.handovers.look_anew();
         for _ in self.rt.forever() {
             if self
                 .control
@@ -128,6 +134,7 @@ impl<R: Wait + Clock + Eprint + Copy, L: Ledger, B: Ledger, N: DeskName> Shared<
             self.let_rejoin(pass, &schedule.roster);
             self.dismiss_absent(pass, schedule, now);
             self.reallocate_when_settled(pass, schedule, now);
+            self.watch_handovers(pass, schedule);
             self.follow_departures(pass, &mut schedule.roster, now);
         }
         self.close_when_full(pass);
@@ -139,6 +146,7 @@ impl<R: Wait + Clock + Eprint + Copy, L: Ledger, B: Ledger, N: DeskName> Shared<
         schedule: &mut Schedule<C>,
         now: Instant,
     ) {
+        self.note_round(pass, schedule, now);
         let open = now.saturating_duration_since(schedule.opened);
         if open < self.round {
             return;
@@ -151,9 +159,26 @@ impl<R: Wait + Clock + Eprint + Copy, L: Ledger, B: Ledger, N: DeskName> Shared<
             Some(next) if open < self.round.saturating_mul(2) => next,
             _ => now,
         };
+        schedule.round = self.round_now(pass);
+        self.state.note_round(&self.rt, schedule.opened, self.round);
         if matches!(answer, Answer::Not(_)) {
             self.log_answer("the next round", &answer);
         }
+    }
+
+    /// Where another round is open than at the last look, which a start or a renewal has opened, it begins now.
+    fn note_round<C>(&self, pass: &mut Pass<L, B, N>, schedule: &mut Schedule<C>, now: Instant) {
+        let round = self.round_now(pass);
+        if round != schedule.round {
+            schedule.round = round;
+            schedule.opened = now;
+            self.state.note_round(&self.rt, now, self.round);
+        }
+    }
+
+    fn round_now(&self, pass: &mut Pass<L, B, N>) -> Round {
+        self.desk
+            .read(&self.rt, pass, |record| record.core().round())
     }
 
     fn reallocate_when_settled<C>(

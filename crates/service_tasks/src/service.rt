@@ -1,9 +1,11 @@
 //! What a service is to do.
 use admission::Admission;
+use json_values::{parse, text_of};
 use lists::{List, Plain, Text};
 use relabel::{Rules, RulesError};
+use scrape_pages::collectors_configs;
 use sd_documents::{Config, Job};
-use service_settings::{Address, Doors, Settings};
+use service_settings::{Address, CollectorTimeout, Doors, Settings};
 use service_state::ConfigPages;
 use std::alloc::{AllocError, Global};
 use std::sync::Arc;
@@ -70,7 +72,7 @@ impl Service {
         config: Config,
         settings: Settings,
     ) -> Result<Service, ServiceError> {
-        match parts_of(alloc, &config, &settings) {
+        match parts_of(alloc, line.as_str(), &config, &settings) {
             Ok((pages, sources)) => {
                 let job_texts = shared(alloc, job_texts_of(alloc, &config)?)?;
                 let jobs = shared(alloc, config.jobs)?;
@@ -137,7 +139,7 @@ impl Service {
 
     /// Whether a collector that asks for nothing is drained, and leaves.
     pub fn notices_absence(&self) -> bool {
-        self.settings.collector_timeout.is_some()
+        !matches!(self.settings.collector_timeout, CollectorTimeout::Never)
     }
 
     /// How long a source may take to answer.
@@ -162,14 +164,24 @@ impl Service {
 /// The pages of a configuration whose rules can be read, and its sources.
 fn parts_of(
     alloc: Global,
+    line: &str,
     config: &Config,
     settings: &Settings,
 ) -> Result<(Arc<ConfigPages>, Vec<SourceSettings>), ServiceError> {
     check_rules(alloc, config.jobs.as_slice())?;
     let sources = sources_of(alloc, settings)?;
-    let pages = ConfigPages::of(alloc, config)?;
+    let scrape_configs = collectors_text(alloc, line)?;
+    let pages = ConfigPages::of(alloc, config, scrape_configs)?;
     let pages = shared(alloc, pages)?;
     Ok((pages, sources))
+}
+
+/// The text of the scrape configs of a document as its collectors are to use them.
+fn collectors_text(alloc: Global, line: &str) -> Result<Text, AllocError> {
+    match parse(alloc, line.as_bytes())? {
+        Some(document) => text_of(alloc, &collectors_configs(alloc, &document)?),
+        None => Text::from_str(alloc, "{}"),
+    }
 }
 
 fn job_texts_of(alloc: Global, config: &Config) -> Result<List<JobText>, AllocError> {

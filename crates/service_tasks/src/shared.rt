@@ -1,6 +1,7 @@
 //! What the threads of a desk share.
 use crate::control::{Control, Ending};
 use crate::office::Office;
+use crate::patience::Patience;
 use crate::service::Service;
 use alloc_desk::{Desk, DeskName};
 use service_state::{Kept, ServiceState};
@@ -20,8 +21,8 @@ pub struct Shared<R, L: Ledger, B: Ledger, N: DeskName> {
     pub(crate) round: Duration,
     /// How long changes are gathered before a reallocation.
     pub(crate) settle: Duration,
-    /// After how long a collector that takes nothing is drained, if ever.
-    pub(crate) absence: Option<Duration>,
+    /// How long a collector may ask for nothing.
+    pub(crate) patience: Patience,
     /// Whether a collector of the configuration that is not live joins where its list is asked for.
     pub(crate) rejoin: bool,
     /// How long after its journal broke the service ends.
@@ -54,7 +55,7 @@ impl<R: Wait + Copy, L: Ledger, B: Ledger, N: DeskName> Shared<R, L, B, N> {
             desk,
             round: Duration::from_millis(settings.scrape_interval),
             settle: Duration::from_millis(settings.settle),
-            absence: settings.collector_timeout.map(Duration::from_millis),
+            patience: Patience::of(settings),
             rejoin: settings.rejoin,
             give_up: Duration::from_millis(settings.give_up),
             control: Control::new(),

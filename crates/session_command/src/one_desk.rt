@@ -11,6 +11,7 @@ use alloc_desk::{Desk, DeskName, Pass};
 use allocation_core::Core;
 use collector_pool::Open;
 use lists::Text;
+use sd_documents::scrape_configs_text;
 use sd_server::{Handler, ListTexts, serve_one_by_one};
 use service_state::{ConfigPages, ServiceState};
 use session::{Session, total_line};
@@ -153,6 +154,7 @@ fn handler_of<R: Copy, L: Ledger, B: Ledger, N: DeskName>(
         kept: None,
         texts,
         doors,
+        epoch: 0,
         peer: None,
         time: None,
         gate: None,
@@ -160,7 +162,8 @@ fn handler_of<R: Copy, L: Ledger, B: Ledger, N: DeskName>(
 }
 
 fn pages_of(alloc: Global, session: &Session) -> Result<Arc<ConfigPages>, AllocError> {
-    let pages = ConfigPages::of(alloc, &session.config)?;
+    let scrape_configs = scrape_configs_text(alloc, &session.config)?;
+    let pages = ConfigPages::of(alloc, &session.config, scrape_configs)?;
     shared(alloc, pages)
 }
 
@@ -356,6 +359,7 @@ fn closed<R: Drop, L: Ledger, B: Ledger, N: DeskName>(
         kept: _,
         texts: _,
         doors: _,
+        epoch: _,
         peer: _,
         time: _,
         gate: _,
