@@ -153,7 +153,7 @@ COUNTED = {
     'allocd_events_total{event="join",answer="Joined"}': 2,
     'allocd_events_total{event="join",answer="AlreadyJoined"}': 1,
     'allocd_events_refused_total{event="join"}': 1,
-    'allocd_events_total{event="take",answer="Taken"}': 3,
+    'allocd_events_total{event="serve",answer="Served"}': 1,
     'allocd_events_total{event="report",answer="Booked"}': 1,
     'allocd_events_total{event="report",answer="AlreadyBooked"}': 1,
     'allocd_http_requests_total{route="POST /reports",status="200"}': 1,
@@ -227,6 +227,11 @@ TALKS = [
      b'8\r\n{"name":\r\nf\r\n"a","reach":[]}\r\n0\r\n\r\n', "reads", b"HTTP/1.1 200 OK\r\n", b'\r\n\r\n{"answer":"Joined 1"}'),
     ("a drain", post(b"/collectors/1/drain", b""), "reads", b"HTTP/1.1 200 OK\r\n", b'\r\n\r\n{"answer":"Draining"}'),
     ("drained twice", post(b"/collectors/1/drain", b""), "reads", b"HTTP/1.1 409 Conflict\r\n", b'\r\n\r\n{"refused":"AlreadyDraining"}'),
+    ("a release", post(b"/collectors/1/release", b""), "reads", b"HTTP/1.1 200 OK\r\n", b'\r\n\r\n{"answer":"Released 0"}'),
+    ("a release of a collector that is not there", post(b"/collectors/9/release", b""), "reads", b"HTTP/1.1 404 Not Found\r\n", b'\r\n\r\n{"refused":"UnknownCollector"}'),
+    ("a release by another method", post(b"/collectors/1/release", b"", method=b"GET"), "reads",
+     b"HTTP/1.1 405 Method Not Allowed\r\ncontent-type: application/json\r\nx-content-type-options: nosniff\r\nallow: POST\r\n", b'\r\n\r\n{"refused":"Method"}'),
+    ("a release of what is no number", post(b"/collectors/z/release", b""), "reads", b"HTTP/1.1 400 Bad Request\r\n", b'\r\n\r\n{"refused":"Shape"}'),
     ("limits that are all of its own", post(b"/collectors/1/limits", b'{"limits":{}}', method=b"PUT"), "reads", b"HTTP/1.1 200 OK\r\n", b'\r\n\r\n{"answer":"LimitsSet"}'),
 ]
 

@@ -46,8 +46,10 @@ def said(port, words):
     return head + text.rstrip("\n").split("\n")
 
 
-def without_date(lines):
-    return [re.sub(r"^date: \w{3}, \d\d \w{3} \d{4} \d\d:\d\d:\d\d GMT$", "date", line) for line in lines]
+def without_times(lines):
+    # What is another one at each time.
+    times = re.compile(r"^(date: \w{3}, \d\d \w{3} \d{4} \d\d:\d\d:\d\d GMT|x-allocator-epoch: \d+|x-scrape-round-age: \d+)$")
+    return [line.partition(":")[0] if times.match(line) else line for line in lines]
 
 
 def transcript(folder):
@@ -57,7 +59,7 @@ def transcript(folder):
         # what was posted before may lead to another allocation
         time.sleep(0.5)
         found = said(service.port, shlex.split(line))
-        right = without_date(found) == without_date(wanted)
+        right = without_times(found) == without_times(wanted)
         tell(f"curl {line}", right, "" if right else f"{found}, and not {wanted}")
     tell("it ends with status 0", service.ended() == 0)
 

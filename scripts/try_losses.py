@@ -796,10 +796,16 @@ def few_descriptors(folder):
         return comes(lambda: re.search("descriptor|RLIMIT_NOFILE|ulimit -n|open files", it.said()), 2), it.said()
 
 
-@row("without collector_timeout it says that nobody notices a dead collector")
+@row("where collector_timeout is never it says that nobody notices a dead collector")
 def no_timeout(folder):
+    with served(folder, settings(collector_timeout="never")) as it:
+        return re.search("level=warn.*collector_timeout is never", it.said()), it.said()
+
+
+@row("where nothing is said it does not: who asks for nothing is missed")
+def usual_timeout(folder):
     with served(folder) as it:
-        return re.search("level=warn.*collector_timeout", it.said()), it.said()
+        return "collector_timeout" not in it.said(), it.said()
 
 
 if __name__ == "__main__":

@@ -23,7 +23,7 @@ import tempfile
 import threading
 import time
 
-from allocd_service import PROGRAM, ROOT, events_in, free_port, hears_signals, supervisor_can_ask
+from allocd_service import PROGRAM, ROOT, events_in, free_port, hears_signals, line_of, lines_of, supervisor_can_ask
 from parts import run_parts, tell
 
 WORDS = sys.argv[1:]
@@ -410,6 +410,100 @@ def returns(folder):
     time.sleep(2.6)
     seen = lists_of(service.port, "a", is_filled, 1)
     tell("with rejoin false it stays away", set(seen) == {(200, "[]")}, seen[0])
+    seen = lists_of(service.port, "h", is_filled, 0.2)
+    tell("who left is known after a start, too", set(seen) == {(200, "[]")}, seen[0])
+    config["scrape_configs"].append({"job_name": "one more"})
+    with open(service.config, "w") as it:
+        json.dump(config, it)
+    ask(service.port, "POST", "/-/reload")
+    comes(lambda: ask(service.port, "GET", "/jobs")[2].count("one more") > 0, 5)
+    service.quit()
+    service = Service(folder, journal, config)
+    service.is_up()
+    seen = lists_of(service.port, "h", is_filled, 0.2)
+    tell("and after a renewal and a start", set(seen) == {(200, "[]")}, seen[0])
+    service.quit()
+
+
+def list_of(port, name, more=""):
+    """A collector's list of the job `node`: the status, the headers, the targets."""
+    it = http.client.HTTPConnection("127.0.0.1", port, timeout=60)
+    try:
+        it.request("GET", f"/jobs/node/targets?collector_id={name}{more}")
+        said = it.getresponse()
+        groups = json.loads(said.read())
+        return said.status, said.headers, {one for group in groups for one in group["targets"]} if said.status == 200 else set()
+    finally:
+        it.close()
+
+
+def figure(port, name):
+    """A figure of the service's."""
+    return next((float(line.split()[-1]) for line in ask(port, "GET", "/metrics")[2].split("\n") if line.startswith(f"{name} ")), None)
+
+
+def handing_over(port):
+    """How many targets of the job are handed over."""
+    return len(json.loads(ask(port, "GET", "/jobs/node/uncovered")[2])["handing_over"])
+
+
+def hand_overs(folder):
+    """Lists are given in order: no target is in two of them until the first of the two has asked again, or is let go."""
+    config = json.loads(json.dumps(CONFIG))
+    reach = [{"allow": True, "test": "any"}]
+    config["allocator"]["join_by_asking"] = [{"pattern": "pod-*", "reach": reach, "limits": {"node": 3}}]
+    journal = f"{folder}/journal"
+    service = Service(folder, journal, config)
+    service.is_up()
+    port = service.port
+    waits_for(port, "allocd_allocation 1")
+    status, head, all_of_a = list_of(port, "a")
+    names = ("x-allocation-number", "x-scrape-round", "x-left-out", "x-collector", "x-allocator-epoch", "x-scrape-round-age", "x-scrape-round-length")
+    numbers = [int(head.get(name, "-1")) for name in names]
+    tell("a list has its head", status == 200 and len(all_of_a) == 20 and min(numbers) >= 0 and numbers[2:4] == [0, 1] and numbers[6] == 1000, numbers)
+    epoch = numbers[4]
+    entries = figure(port, "allocd_journal_entries")
+    list_of(port, "a", "&take=false")
+    list_of(port, "a")
+    tell("a look and a list that is the same are no events", [event["event"] for event in events_in(lines_of(journal))].count("serve") == 1, entries)
+    ask(port, "PUT", "/collectors/1/limits", {"limits": {"node": 12}})
+    ask(port, "POST", "/collectors", {"name": "b", "reach": reach})
+    waits_for(port, "allocd_allocation 2")
+    _, head, early = list_of(port, "b")
+    waiting = handing_over(port)
+    tell("the list of who gets targets leaves out what the other list still has", (early, head["x-left-out"], waiting) == (set(), "8", 8), (len(early), head["x-left-out"], waiting))
+    tell("the figures say so", (figure(port, 'allocd_collector_waited_for{collector="a"}'), figure(port, 'allocd_targets_handing_over{job="node"}')) == (8, 8))
+    fewer = list_of(port, "a")[2]
+    later = list_of(port, "b")[2]
+    tell("it has them once the other has asked again", len(fewer) == 12 and len(later) == 8 and fewer | later == all_of_a, (len(fewer), len(later)))
+    report = {"collector": 1, "number": 2, "target": 0, "round": 1, "up": True, "samples": 5}
+    other = ask(port, "POST", "/reports", dict(report, epoch=epoch + 1))
+    tell("a report of another epoch is refused", (other[0], line_of(other[2])) == (409, "OtherEpoch"), other[2])
+    tell("one of this epoch is read", line_of(ask(port, "POST", "/reports", dict(report, epoch=epoch))[2]) != "OtherEpoch")
+    ask(port, "PUT", "/collectors/2/limits", {"limits": {"node": 20}})
+    ask(port, "DELETE", "/collectors/1")
+    waits_for(port, "allocd_allocation 3")
+    kept = list_of(port, "b")
+    tell("what a collector that left was given last waits for it", len(kept[2]) == 8 and kept[1]["x-left-out"] == "12", kept[1]["x-left-out"])
+    released = line_of(ask(port, "POST", "/collectors/1/release")[2])
+    tell("until its lists are let go by hand", released == "Released 12" and len(list_of(port, "b")[2]) == 20, released)
+    first = ask(port, "GET", "/jobs/node/targets?collector_id=pod-7")[0]
+    joined = comes(lambda: list_of(port, "pod-7")[0] == 200, 5)
+    tell("who asks under a name that matches a pattern joins", first == 404 and joined)
+    tell("under another name nobody does", ask(port, "GET", "/jobs/node/targets?collector_id=pot-7")[0] == 404)
+    service.quit()
+    status, events, answers = replayed(journal)
+    served = [answer for event, answer in zip(events, answers) if event["event"] == "serve"]
+    tell("the journal has each list that was another one, and replays", status == 0 and len(served) >= 6 and all(one.startswith("Served") for one in served), len(served))
+    service = Service(folder, journal, config)
+    service.is_up()
+    tell("the epoch is the journal's", int(list_of(service.port, "b")[1]["x-allocator-epoch"]) == epoch)
+    config["scrape_configs"].append({"job_name": "one more"})
+    with open(service.config, "w") as it:
+        json.dump(config, it)
+    ask(service.port, "POST", "/-/reload")
+    comes(lambda: ask(service.port, "GET", "/jobs")[2].count("one more") > 0, 5)
+    tell("and another one once the allocator is renewed", int(list_of(service.port, "b")[1]["x-allocator-epoch"]) > epoch)
     service.quit()
 
 
@@ -821,8 +915,8 @@ def strangers(folder):
     tell("resets end their own connections alone", ask(port, "GET", "/-/healthy")[0] == 200)
     tell("ends", service.quit() == (200, 0))
     status, events, answers = replayed(journal)
-    takes = sum(event["event"] == "take" for event in events)
-    tell("the journal has each list that was taken, and nothing of the others", status == 0 and takes == MANY, f"{takes} takes, {len(events)} events")
+    takes = sum(event["event"] in ("take", "serve") for event in events)
+    tell("the journal has the list that was given, and nothing of the others", status == 0 and 0 < takes <= MANY, f"{takes} takes, {len(events)} events")
 
 
 def most_connections(port):
@@ -1134,7 +1228,7 @@ def long_journals(folder):
 
 
 PARTS = (
-    words_and_configurations, faults, members_of_prometheus, failures, routes, reloads, signals, absences, returns, journals, kills, kills_while_reloading, restarts,
+    words_and_configurations, faults, members_of_prometheus, failures, routes, reloads, signals, absences, returns, hand_overs, journals, kills, kills_while_reloading, restarts,
     kills_of_restarts, starts_at_once, renewals, long_journals, strangers, idle_clients, newcomers_at_the_end, slow_source, silent_source,
     full_disk, full_renewal,
 )
