@@ -637,10 +637,11 @@ def kinds_of_secrets(folder):
     document = {"scrape_configs": [one], "allocator": {"settle": "0", "collectors": [{"name": "a", "reach": ANY, "limits": {"password": 7}}]}}
     with served(folder, document) as it:
         it.published()
-        text = it.ask("GET", "/scrape_configs")[1]
+        text, read = (it.ask("GET", f"/scrape_configs{query}")[1] for query in ("", "?rules=true"))
         first = lines_of(it.journal).split(b"\n")[0].decode()
-    found = [(shown.count("hunter2"), shown.count("<secret>"), shown.count("shown")) for shown in (text, first)]
-    return found == [(0, 6, 2)] * 2 and '"password":7' in first, f"{found}, {text}"
+    found = [(shown.count("hunter2"), shown.count("<secret>"), shown.count("shown")) for shown in (text, read, first)]
+    # Collectors are not given how the targets are found.
+    return found == [(0, 5, 1), (0, 6, 2), (0, 6, 2)] and '"password":7' in first, f"{found}, {text}"
 
 
 row("transfer-encoding other than chunked: 501", method="POST", path="/collectors", body=GHOST, status=(501,), headers={"transfer_encoding": "gzip, chunked"})(strange)
