@@ -15,3 +15,4 @@ pub mod Verdicts
 pub mod LeastFault
 pub mod Marking
 pub mod InstanceLemmas
+pub mod DerivedLemmas

@@ -6,3 +6,4 @@ pub mod Faults
 pub mod Lines
 pub mod Plan
 pub mod Instances
+pub mod Derived

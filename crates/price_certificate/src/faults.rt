@@ -103,7 +103,11 @@ pub(crate) fn find_over_limit(
 }
 
 /// How many pairs each bin has.
-fn count_bins(alloc: Global, bins: usize, pairs: &[(u32, u32)]) -> Result<Vec<usize>, AllocError>
+pub fn count_bins(
+    alloc: Global,
+    bins: usize,
+    pairs: &[(u32, u32)],
+) -> Result<Vec<usize>, AllocError>
     ensures { IfOk result (λ v. IsCounted bins pairs.now v.items) }
 {
     let mut counts = no_counts(alloc, bins)?;

@@ -3,6 +3,8 @@ ghost use Rattle.std.specs.Prelude.{◌≡◌, ◌↔◌, ◌<◌, ◌≤◌, Is
 ghost use Rattle.price_certificate.specs.Problem.{Problem, IsProblem, IsShaped, IsProblemOf, items_of, bins_of, drains, row_of, before_of, before_count, capacity_by, capacity_of, cover_worth, steady_worth, was_in, weight_of, top_weight};
 ghost use Rattle.price_certificate.specs.declared.version.Version.TheVariants.{One, Two};
 
+mod derived;
+
 use crate::shape::{InstanceError, MOST_BINS, MOST_ITEMS, has_reach, is_row, marks, places};
 use crate::version::Version;
 use lists::{List, Plain};

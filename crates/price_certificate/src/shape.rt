@@ -113,7 +113,7 @@ pub(crate) fn places(
 }
 
 /// No bin for any item.
-fn nowhere(alloc: Global, items: usize) -> Result<Vec<Option<u32>>, AllocError>
+pub(crate) fn nowhere(alloc: Global, items: usize) -> Result<Vec<Option<u32>>, AllocError>
     ensures { IfOk result (λ v. v.items ≡ replicate items None) }
 {
     vec![in alloc; None; items]
