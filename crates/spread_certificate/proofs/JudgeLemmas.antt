@@ -1,0 +1,56 @@
+-- What a spread without a fault is.
+use Rattle.std.proofs.Common.{◌≡◌, ◌<◌, ℕ, cond, eqb, Bool, true, false, List, Option, Some, None, length, get_or, refl, ap, ◌∙◌}
+use Rattle.std.specs.Option.{option_map}
+use Rattle.std.proofs.lemmas.Bool.{eq-eqb, eqb-true, leb-true, lt-leb}
+use Rattle.price_certificate.specs.Problem.{Problem, IsProblem, bins_of, capacity_of}
+use Rattle.price_certificate.specs.Assignment.{IsOptimal}
+use Rattle.price_certificate.specs.Derived.{bare, capped}
+use Rattle.price_certificate.specs.Faults.{first_below}
+use Rattle.price_certificate.specs.declared.verdict.Fault.{Fault}
+use Rattle.price_certificate.proofs.First.{first_found, none_below, or_else_none}
+use Rattle.price_certificate.proofs.Optimal.{optimal}
+use Rattle.price_certificate.proofs.Verdicts.{fault_none}
+use Rattle.price_certificate.proofs.DerivedLemmas.{bare_problem, capped_problem}
+use Rattle.spread_certificate.specs.Within.{AreCaps, IsBestWithin}
+use Rattle.spread_certificate.specs.Judged.{cap_fault, cap_fault_at, spread_fault}
+use Rattle.spread_certificate.specs.declared.verdict.SpreadFault.{SpreadFault}
+use Rattle.spread_certificate.specs.declared.verdict.SpreadFault.TheVariants.{WrongCaps, CapTooHigh, Free, Within}
+use Rattle.spread_certificate.specs.declared.spread.Spread.{Spread}
+use Rattle.spread_certificate.proofs.WithinLemmas.{both_are_best_within}
+
+pub cap_found : (p : Problem) (caps : List ℕ) (bin : ℕ) → bin < bins_of p → length caps ≡ bins_of p → first_below (cap_fault_at p caps) bin ≡ None → capacity_of p bin < get_or caps bin 0 → cap_fault p caps ≡ Some (CapTooHigh bin)
+unfolding cap_fault
+cap_found p caps bin l each none high =
+    ap (λ (b : Bool). cond b (first_below (cap_fault_at p caps) (bins_of p)) (Some WrongCaps)) (eq-eqb (length caps) (bins_of p) each)
+    ∙ first_found (cap_fault_at p caps) (bins_of p) bin (CapTooHigh bin) l none (ap (λ (b : Bool). cond b None (Some (CapTooHigh bin))) (lt-leb _ _ high))
+
+not_high : (b : Bool) (fault : SpreadFault) → cond b None (Some fault) ≡ None → b ≡ true
+not_high true fault e = refl
+not_high false fault e = cc
+
+caps_by : (p : Problem) (caps : List ℕ) (b : Bool) → eqb (length caps) (bins_of p) ≡ b → cond b (first_below (cap_fault_at p caps) (bins_of p)) (Some WrongCaps) ≡ None → AreCaps p caps
+caps_by p caps true t e = record { bins = eqb-true _ _ t; most = λ bin l. leb-true _ _ (not_high _ (CapTooHigh bin) (none_below (cap_fault_at p caps) (bins_of p) e bin l)) }
+caps_by p caps false t e = cc
+
+pub caps_fine : (p : Problem) (caps : List ℕ) → cap_fault p caps ≡ None → AreCaps p caps
+unfolding cap_fault
+caps_fine p caps e = caps_by p caps _ refl e
+
+no_fault : (f : Fault → SpreadFault) (o : Option Fault) → option_map f o ≡ None → o ≡ None
+no_fault f None e = refl
+no_fault f (Some fault) e = cc
+
+pub spread_fine : (p : Problem) (spread : Spread) → IsProblem p → spread_fault p spread ≡ None → IsBestWithin spread.caps p spread.plan.pairs
+unfolding spread_fault
+spread_fine p spread valid e =
+    let caps = spread.caps in
+    let plan = spread.plan in
+    let us = spread.free_item_prices in
+    let vs = spread.free_bin_prices in
+    let first = or_else_none _ _ e in
+    let rest = or_else_none _ _ first.1 in
+    let are = caps_fine p caps first.0 in
+    let free : IsOptimal (bare p) plan.pairs = optimal (bare p) plan.pairs us vs (bare_problem p valid) (fault_none (bare p) plan.pairs us vs (bare_problem p valid) (no_fault Free _ rest.0)) in
+    let valid_capped = capped_problem caps p are.bins valid in
+    let within : IsOptimal (capped caps p) plan.pairs = optimal (capped caps p) plan.pairs plan.item_prices plan.bin_prices valid_capped (fault_none (capped caps p) plan.pairs plan.item_prices plan.bin_prices valid_capped (no_fault Within _ rest.1)) in
+    both_are_best_within p caps plan.pairs valid are free within

@@ -1,0 +1,6 @@
+use Rattle.std.proofs.Common.{sym, ◌∙◌}
+use Rattle.spread_certificate.proofs.JudgeLemmas.{spread_fine}
+use Rattle.spread_certificate.proofs.judge.check_spread.Goals as goal
+
+pub returns-clause-best : goal.returns-clause-best
+returns-clause-best c = λ e. spread_fine c.args.instance.now c.args.spread.now c.is_problem.ensures (sym c.in_ok-fault.ensures ∙ e)

@@ -1,0 +1,27 @@
+-- The first fault of a spread: its caps are looked at first, then its plan where nothing was before, then its plan within the caps.
+use Rattle.std.specs.Prelude.{ℕ, ◌==◌, List, Option, Some, None, nat_le, length, slice_index, if◌then◌else◌}
+use Rattle.std.specs.Option.{option_map}
+use Rattle.price_certificate.specs.Problem.{Problem, bins_of, capacity_of}
+use Rattle.price_certificate.specs.Faults.{fault_of, first_below, or_else}
+use Rattle.price_certificate.specs.Derived.{bare, capped}
+use Rattle.spread_certificate.specs.declared.spread.Spread.{Spread}
+use Rattle.spread_certificate.specs.declared.verdict.SpreadFault.{SpreadFault}
+use Rattle.spread_certificate.specs.declared.verdict.SpreadFault.TheVariants.{WrongCaps, CapTooHigh, Free, Within}
+
+-- the bin of this place has a cap above its capacity
+abbrev pub cap_fault_at : Problem → List ℕ → ℕ → Option SpreadFault
+cap_fault_at p caps bin = if nat_le (slice_index caps bin) (capacity_of p bin) then None else Some (CapTooHigh bin)
+
+unfoldable pub cap_fault : Problem → List ℕ → Option SpreadFault
+cap_fault p caps = if length caps == bins_of p then first_below (cap_fault_at p caps) (bins_of p) else Some WrongCaps
+
+-- the first fault where nothing was before and there are no caps
+abbrev pub free_fault : Problem → Spread → Option SpreadFault
+free_fault p spread = option_map Free (fault_of (bare p) spread.plan.pairs spread.free_item_prices spread.free_bin_prices)
+
+-- the first fault within the caps
+abbrev pub within_fault : Problem → Spread → Option SpreadFault
+within_fault p spread = option_map Within (fault_of (capped spread.caps p) spread.plan.pairs spread.plan.item_prices spread.plan.bin_prices)
+
+unfoldable pub spread_fault : Problem → Spread → Option SpreadFault
+spread_fault p spread = or_else (cap_fault p spread.caps) (or_else (free_fault p spread) (within_fault p spread))
