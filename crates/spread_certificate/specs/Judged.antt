@@ -1,12 +1,14 @@
--- The first fault of a spread: its caps are looked at first, then its plan where nothing was before, then its plan within the caps.
-use Rattle.std.specs.Prelude.{ℕ, ◌==◌, List, Option, Some, None, nat_le, length, slice_index, if◌then◌else◌}
-use Rattle.std.specs.Option.{option_map}
+-- The first fault of a spread: its caps are looked at first, then its plan where nothing was before, then its plan within the caps,
+-- and at last how even it is, where it tells that.
+use Rattle.std.specs.Prelude.{ℕ, ◌==◌, List, Option, Some, None, option_map, nat_le, length, slice_index, if◌then◌else◌}
 use Rattle.price_certificate.specs.Problem.{Problem, bins_of, capacity_of}
 use Rattle.price_certificate.specs.Faults.{fault_of, first_below, or_else}
 use Rattle.price_certificate.specs.Derived.{bare, capped}
+use Rattle.spread_certificate.specs.EvenFaults.{even_fault}
+use Rattle.spread_certificate.specs.declared.even.Even.{Even as EvenPlan}
 use Rattle.spread_certificate.specs.declared.spread.Spread.{Spread}
 use Rattle.spread_certificate.specs.declared.verdict.SpreadFault.{SpreadFault}
-use Rattle.spread_certificate.specs.declared.verdict.SpreadFault.TheVariants.{WrongCaps, CapTooHigh, Free, Within}
+use Rattle.spread_certificate.specs.declared.verdict.SpreadFault.TheVariants.{WrongCaps, CapTooHigh, Free, Within, Even}
 
 -- the bin of this place has a cap above its capacity
 abbrev pub cap_fault_at : Problem → List ℕ → ℕ → Option SpreadFault
@@ -23,5 +25,13 @@ free_fault p spread = option_map Free (fault_of (bare p) spread.plan.pairs sprea
 abbrev pub within_fault : Problem → Spread → Option SpreadFault
 within_fault p spread = option_map Within (fault_of (capped spread.caps p) spread.plan.pairs spread.plan.item_prices spread.plan.bin_prices)
 
+-- no caps that cost coverage, and none moves fewer within them
+unfoldable pub best_fault : Problem → Spread → Option SpreadFault
+best_fault p spread = or_else (cap_fault p spread.caps) (or_else (free_fault p spread) (within_fault p spread))
+
+abbrev pub told_fault : Problem → Spread → Option EvenPlan → Option SpreadFault
+told_fault p spread None = None
+told_fault p spread (Some even) = option_map Even (even_fault p spread even)
+
 unfoldable pub spread_fault : Problem → Spread → Option SpreadFault
-spread_fault p spread = or_else (cap_fault p spread.caps) (or_else (free_fault p spread) (within_fault p spread))
+spread_fault p spread = or_else (best_fault p spread) (told_fault p spread spread.even)

@@ -1,4 +1,5 @@
 //! Laws above the definitions.
+ghost use Rattle.spread_certificate.specs.Even.{NoSlackIsEvenest};
 ghost use Rattle.spread_certificate.specs.Loads.{LevelledIsEvenest};
 ghost use Rattle.spread_certificate.specs.Within.{BestIsBare, BothAreBestWithin, CapsCostNothing, PricesCarryOver};
 
@@ -25,4 +26,9 @@ pub fn best_is_bare()
 /// Levels and prices prove an assignment the most even of those that cover and leave as many.
 pub fn levelled_is_evenest()
     ensures { LevelledIsEvenest }
+{}
+
+/// A plan whose collectors have no more than in a witness that is as even as any is as even too.
+pub fn no_slack_is_evenest()
+    ensures { NoSlackIsEvenest }
 {}
