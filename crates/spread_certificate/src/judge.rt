@@ -1,21 +1,51 @@
 //! Whether a spread is what it says: one check of each of its two plans and of its levels, and nobody needs to trust who made it.
 ghost use Rattle.std.specs.Prelude.{◌≡◌, Some, None, IfOk, IfSome};
-ghost use Rattle.price_certificate.specs.Assignment.{IsFeasible, left};
+ghost use Rattle.price_certificate.specs.Assignment.{IsFeasible, kept, left, moved};
 ghost use Rattle.price_certificate.specs.Derived.{bare};
 ghost use Rattle.price_certificate.specs.Faults.{fault_of};
 ghost use Rattle.spread_certificate.specs.Even.{owner_of, owners_of, IsEvenWithin};
 ghost use Rattle.spread_certificate.specs.EvenFaults.{count_fault, witness_fault, witness_of, even_fault};
-ghost use Rattle.spread_certificate.specs.Judged.{cap_fault, best_fault, spread_fault};
+ghost use Rattle.spread_certificate.specs.Judged.{cap_fault, best_fault, slack_of, spread_verdict, told_fault, spread_fault};
 ghost use Rattle.spread_certificate.specs.Loads.{IsEvenest};
 ghost use Rattle.spread_certificate.specs.Within.{IsBestWithin};
 
 use crate::even::Even;
 use crate::levels::{find_bad_levels, find_bad_shape};
 use crate::spread::Spread;
-use crate::verdict::{EvenFault, SpreadFault};
+use crate::verdict::{EvenFault, SpreadFault, SpreadVerdict};
 use lists::{List, Plain};
 use price_certificate::{Fault, Instance, Plan, Verdict, check};
 use std::alloc::{AllocError, Global};
+
+/// Whether a spread is the best within its caps, and as even as it tells, or its first fault. It is linear in the allowed pairs.
+pub fn judge_spread(
+    alloc: Global,
+    instance: &Instance,
+    spread: &Spread,
+) -> Result<SpreadVerdict, AllocError>
+    ensures { IfOk result (λ v. v ≡ spread_verdict instance.now spread.now) }
+{
+    let pairs = spread.plan.pairs.as_slice();
+    match check_spread(alloc, instance, spread)? {
+        Some(fault) => Ok(SpreadVerdict::Refused(fault)),
+        None => Ok(SpreadVerdict::Best {
+            covered: pairs.len() as u64,
+            left: count_left(instance, pairs),
+            moved: count_moved(instance, pairs),
+            slack: slack_of(spread),
+        }),
+    }
+}
+
+/// Within which slack the plan is even, if the spread tells that.
+fn slack_of(spread: &Spread) -> Option<u32>
+    ensures { result ≡ slack_of spread.now.even }
+{
+    match &spread.even {
+        Some(even) => Some(even.slack),
+        None => None,
+    }
+}
 
 /// The first fault of a spread. Where there is none its plan is the best within its caps, and they cost no coverage; and where it
 /// tells how even it is, it is so even.
@@ -47,6 +77,19 @@ fn first_fault(
     if let Some(fault) = find_not_best(alloc, instance, spread)? {
         return Ok(Some(fault));
     }
+    check_even(alloc, instance, spread)
+}
+
+/// The first fault of what a spread tells of how even it is, if it tells that: the last part of `check_spread`, for a plan that is
+/// known to be feasible.
+pub fn check_even(
+    alloc: Global,
+    instance: &Instance,
+    spread: &Spread,
+) -> Result<Option<SpreadFault>, AllocError>
+    requires { IsFeasible instance.now spread.now.plan.pairs }
+    ensures { IfOk result (λ f. f ≡ told_fault instance.now spread.now spread.now.even) }
+{
     let Some(even) = &spread.even else {
         return Ok(None);
     };
@@ -209,5 +252,22 @@ fn count_left(instance: &Instance, pairs: &[(u32, u32)]) -> u64
     pairs
         .iter()
         .filter(|pair| instance.drains(pair.1 as usize))
+        .count() as u64
+}
+
+/// How many pairs of the preceding assignment are lost.
+fn count_moved(instance: &Instance, pairs: &[(u32, u32)]) -> u64
+    ensures { result ≡ moved instance.now pairs.now }
+{
+    (instance.before_count() as u64).saturating_sub(count_kept(instance, pairs))
+}
+
+/// How many pairs of the preceding assignment are kept.
+fn count_kept(instance: &Instance, pairs: &[(u32, u32)]) -> u64
+    ensures { result ≡ kept instance.now pairs.now }
+{
+    pairs
+        .iter()
+        .filter(|pair| instance.before(pair.0 as usize) == Some(pair.1))
         .count() as u64
 }

@@ -17,10 +17,10 @@ pub use document::{
     one_certificate, plan_documents_stay, read_spread_document, write_spread_document,
 };
 pub use even::{Even, MOST_SLACK};
-pub use judge::check_spread;
+pub use judge::{check_even, check_spread, judge_spread};
 pub use laws::{
     best_is_bare, both_are_best_within, caps_cost_nothing, levelled_is_evenest,
-    no_slack_is_evenest, prices_carry_over,
+    no_best_fault_is_certified, no_slack_is_evenest, prices_carry_over,
 };
 pub use spread::Spread;
-pub use verdict::{EvenFault, SpreadFault};
+pub use verdict::{EvenFault, SpreadFault, SpreadVerdict};

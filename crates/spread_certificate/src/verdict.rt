@@ -1,9 +1,24 @@
-//! What is wrong with a spread, and the texts of faults.
+//! What the judge says of a spread, and the texts of faults.
 ghost use Rattle.std.specs.Prelude.{◌≡◌, IfOk, string_bytes};
 ghost use Rattle.spread_certificate.specs.Lines.{even_line, spread_line};
 
 use price_certificate::Fault;
 use std::alloc::{AllocError, Global};
+
+/// What the judge says of a spread.
+#[derive(Clone, Copy, Debug, PartialEq, Eq)]
+pub enum SpreadVerdict {
+    /// The plan is the best within its caps, and they cost no coverage: how many items it covers, how many of them it leaves at
+    /// draining bins, how many pairs of the preceding assignment it loses, and within which slack it is even, if it tells that.
+    Best {
+        covered: u64,
+        left: u64,
+        moved: u64,
+        slack: Option<u32>,
+    },
+    /// The first fault.
+    Refused(SpreadFault),
+}
 
 /// What is wrong with a spread.
 #[derive(Clone, Copy, Debug, PartialEq, Eq)]
