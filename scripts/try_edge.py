@@ -2,7 +2,7 @@
 """Runs `allocd serve` over settings, sources and figures that scripts/try_serve.py does not look at, and tells of each thing whether it holds: try_edge.py [PART ..]
 
 Where it listens and keeps its journal, each job's own rules, reloads with more sources, other orders and too many jobs, who is uncovered,
-names as text, what is counted, what strangers send and don't send, rounds. It needs Linux and the program (ALLOCD_PROGRAM, or dist/allocd)."""
+names as text, what is counted, what strangers send and don't send, answers to the byte, rounds. It needs Linux and the program (ALLOCD_PROGRAM, or dist/allocd)."""
 
 import http.server
 import json
@@ -236,6 +236,45 @@ TALKS = [
 ]
 
 
+HTML = b"content-type: text/html; charset=utf-8\r\nx-content-type-options: nosniff\r\n"
+JSON = b"content-type: application/json\r\nx-content-type-options: nosniff\r\n"
+REPORT = b'{"collector":1,"number":1,"target":0,"round":1,"up":true,"samples":9}'
+GROUP = b'{"labels":{"__meta_allocator_target":"0","__metrics_path__":"/metrics","__scheme__":"http","instance":"e1:9100","job":"j","zone":"east"},"targets":["e1:9100"]}'
+# Requests in order, to a service of a job that nobody holds a target of: method, path, body, and how the answer begins, and its body, or its end.
+ROWS = [
+    ("GET", "/x", b"", b"404 Not Found\r\n", b'\r\n\r\n{"refused":"NoRoute"}'),
+    ("POST", "/jobs", b"", b"405 Method Not Allowed\r\n" + JSON + b"allow: GET\r\n", b'\r\n\r\n{"refused":"Method"}'),
+    ("DELETE", "/collectors/z", b"", b"400 Bad Request\r\n", b'\r\n\r\n{"refused":"Shape"}'),
+    ("GET", "/jobs/%FF/targets", b"", b"400 Bad Request\r\n", b'\r\n\r\n{"refused":"Shape"}'),
+    ("GET", "/jobs/k/targets?collector_id=a", b"", b"404 Not Found\r\n", b'\r\n\r\n{"refused":"UnknownJob"}'),
+    ("GET", "/jobs/j/targets?collector_id=a", b"", b"404 Not Found\r\n", b'\r\n\r\n{"refused":"UnknownCollector"}'),
+    ("POST", "/collectors", JOIN, b"200 OK\r\n", b'\r\n\r\n{"answer":"Joined 1"}'),
+    ("POST", "/collectors", JOIN, b"409 Conflict\r\n", b'\r\n\r\n{"refused":"AlreadyJoined 1"}'),
+    ("GET", "/jobs/j/targets?collector_id=a", b"", b"200 OK\r\n", b"\r\n\r\n[]"),
+    ("POST", "/collectors/1/drain", b"\xff{", b"200 OK\r\n", b'\r\n\r\n{"answer":"Draining"}'),
+    ("GET", "/jobs", b"", b"200 OK\r\n", b'\r\n\r\n{"j":{"_link":"/jobs/j/targets"}}'),
+    ("GET", "/certificate", b"", b"200 OK\r\n", b'"reach":[],"version":2}'),
+    ("GET", "/jobs/j/uncovered", b"", b"200 OK\r\n" + JSON, b'\r\n\r\n{"full":[],"handing_over":[],"unreached":[]}'),
+    ("GET", "/jobs/k/uncovered", b"", b"404 Not Found\r\n", b'\r\n\r\n{"refused":"UnknownJob"}'),
+    ("GET", "/", b"", b"200 OK\r\n" + HTML, b"</body>\n</html>\n"),
+    ("POST", "/-/reload", b"", b"403 Forbidden\r\ncontent-type: text/plain; charset=utf-8\r\nx-content-type-options: nosniff\r\n", b"\r\n\r\nThe lifecycle API is not enabled.\n"),
+    ("DELETE", "/collectors/1", b"\xff{", b"200 OK\r\n", b'\r\n\r\n{"answer":"Left"}'),
+]
+# To a service whose one target is held by its collector 1, `h`.
+HELD_ROWS = [
+    ("GET", "/jobs/j/targets?collector_id=h", b"", b"200 OK\r\n" + JSON + b"x-allocation-number: 1\r\nx-scrape-round: 1\r\n", b"\r\n\r\n[" + GROUP + b"]"),
+    ("GET", "/jobs/j/targets", b"", b"200 OK\r\n" + JSON,
+     b'\r\n\r\n{"h":{"_link":"/jobs/j/targets?collector_id=h","targets":[' + GROUP + b"]}}"),
+    ("GET", "/certificate", b"", b"200 OK\r\n" + JSON,
+     b'\r\n\r\n{"before":[],"bin_prices":[0],"bins":[1],"draining":[],"item_prices":[6],"pairs":[[0,0]],"reach":[[0]],"version":2}'),
+    ("POST", "/reports", REPORT, b"200 OK\r\n", b'\r\n\r\n{"answer":"Booked"}'),
+    ("POST", "/reports", REPORT, b"409 Conflict\r\n", b'\r\n\r\n{"refused":"AlreadyBooked"}'),
+    ("PUT", "/collectors/1/limits", b'{"limits":{"j":1}}', b"200 OK\r\n", b'\r\n\r\n{"answer":"LimitsSet"}'),
+    ("DELETE", "/collectors/1", b"", b"200 OK\r\n", b'\r\n\r\n{"answer":"Left"}'),
+    ("GET", "/jobs/j/targets?collector_id=h", b"", b"200 OK\r\n", b"\r\n\r\n[]"),
+]
+
+
 def goes(port, sent, then, begins, ends_with):
     """Whether a talk goes as it says."""
     it = socket.create_connection(("127.0.0.1", port), timeout=30)
@@ -267,6 +306,29 @@ def talks(folder):
     ends(service)
 
 
+def are_answered(port, rows):
+    """Each row over a connection of its own."""
+    for method, path, body, begins, ends_with in rows:
+        sent = post(path.encode(), body, method=method.encode())
+        tell(f"{method} {path}: {begins.decode().split(chr(13))[0]}", goes(port, sent, "reads", b"HTTP/1.1 " + begins, ends_with))
+
+
+def requests(folder):
+    service = Service(folder, config([{"job_name": "j", "target_limit": 1}], collectors=[], lifecycle=False), f"{folder}/journal")
+    service.is_up()
+    are_answered(service.port, ROWS)
+    service.it.kill()
+    service.it.wait(20)
+
+
+def held_rows(folder):
+    job = {"job_name": "j", "target_limit": 1, "static_configs": [{"targets": ["e1:9100"], "labels": {"zone": "east"}}]}
+    service = started(folder, [job], collectors=[{"name": "h", "reach": ANY}], rejoin=False)
+    has(service, "allocd_allocation", 1)
+    are_answered(service.port, HELD_ROWS)
+    ends(service)
+
+
 def stalls(folder):
     """A body that does not come holds no reload for longer than an exchange may go on once the server ends."""
     service = started(folder, [static("a", 3)])
@@ -293,4 +355,4 @@ def rounds(folder):
 SOURCE = http.server.ThreadingHTTPServer(("127.0.0.1", 0), Source)
 SOURCE.daemon_threads = True
 threading.Thread(target=SOURCE.serve_forever, daemon=True).start()
-run_parts((settings, relabels, reloads, uncovered, texts, figures, talks, stalls, rounds), sys.argv[1:])
+run_parts((settings, relabels, reloads, uncovered, texts, figures, talks, requests, held_rows, stalls, rounds), sys.argv[1:])

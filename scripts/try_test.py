@@ -26,6 +26,8 @@ ROWS = (
     ("serve/routes", b"allocd_targets", b"allocd_targett"),
     ("serve/unknown_members_come_in_order", b"unknown member", b"unknown membes"),
     ("edge/figures", b"allocd_events_total", b"allocd_events_totam"),
+    ("edge/requests", b"UnknownCollector", b"UnknownCollectos"),
+    ("fetches/nowhere", b" booked ", b" bookee "),
     ("supervise", b"allocd ends. Goodbye", b"allocd ends. Goodbyf"),
     ("wrong_uses", b"unknown member", b"unknown membes"),
     ("losses", b"another service has this journal", b"another service had this journal"),

@@ -1,13 +1,1 @@
-pub mod Reading
-pub mod Writing
-pub mod Unreadable
-pub mod Ending
-pub mod Answer
-pub mod Check
-pub mod Plan
-pub mod Replay
 pub mod Session
-pub mod Audit
-pub mod Seal
-pub mod Relabelling
-pub mod Commands

@@ -4,13 +4,13 @@ use Rattle.session_command.specs.declared.ended.Ended.{Ended}
 use Rattle.session_command.specs.declared.ended.Ended.TheVariants as ended
 use Rattle.session_command.specs.declared.ended.Fault.{Fault}
 use Rattle.session_command.specs.declared.ended.Fault.TheVariants as fault
-use Rattle.allocd.specs.Ending.{stop_line}
-use Rattle.allocd.specs.Unreadable.{unreadable_line}
-use Rattle.allocd.specs.declared.ending.Ending.{Ending}
-use Rattle.allocd.specs.declared.ending.Ending.TheVariants.{Answered, Stopped}
-use Rattle.allocd.specs.declared.ending.Status.TheVariants.{Done, Refused, Unreadable}
-use Rattle.allocd.specs.declared.ending.Stop.TheVariants.{Memory, Device}
-use Rattle.allocd.specs.declared.unreadable.Unreadable.TheVariants.{NotJson, Shape}
+use Rattle.offline_commands.specs.Ending.{stop_line}
+use Rattle.offline_commands.specs.Unreadable.{unreadable_line}
+use Rattle.offline_commands.specs.declared.ending.Ending.{Ending}
+use Rattle.offline_commands.specs.declared.ending.Ending.TheVariants.{Answered, Stopped}
+use Rattle.offline_commands.specs.declared.ending.Status.TheVariants.{Done, Refused, Unreadable}
+use Rattle.offline_commands.specs.declared.ending.Stop.TheVariants.{Memory, Device}
+use Rattle.offline_commands.specs.declared.unreadable.Unreadable.TheVariants.{NotJson, Shape}
 
 abbrev pub session_ending : Result Ended Fault → Ending
 session_ending (Ok ended.Done) = Answered Done

@@ -1,13 +1,12 @@
 //! The command `session`: it runs a whole fleet in one process.
 ghost use Rattle.std.specs.Prelude.{◌≡◌};
 ghost use Rattle.allocd.specs.Session.{session_ending, session_text};
-ghost use Rattle.allocd.specs.Writing.{IsWritten};
+ghost use Rattle.offline_commands.specs.Writing.{IsWritten};
 
-use crate::answer::Answer;
-use crate::ending::{Ending, Status, Stop};
-use crate::input::{Input, read_input};
-use crate::output::{write_answer, write_last, write_stop};
-use crate::unreadable::Unreadable;
+use offline_commands::{
+    Answer, Ending, Input, Status, Stop, Unreadable, read_input, write_answer, write_last,
+    write_stop,
+};
 use session_command::{Ended, Fault, session};
 use std::alloc::{AllocGlobal, Global};
 use std::io::{Read, Write};

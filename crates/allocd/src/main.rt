@@ -2,29 +2,12 @@
 //! audit or a seal; but for `session` and `serve`.
 #![tactic(auto)]
 
-mod answer;
-mod auditing;
-mod check;
-mod command;
-mod ending;
 mod fleet_session;
-mod input;
-mod output;
-mod plan;
-mod relabelling;
-mod replay;
-mod runner;
-mod sealing;
-mod unreadable;
 
-use auditing::audit_files;
-use command::run;
 use command_words::{Asked, read_words};
-use ending::{Ending, Status, Stop};
 use fleet_session::run_session;
 use log_queue::{Queued, start_log};
-use output::{write_last, write_stop};
-use sealing::seal_file;
+use offline_commands::{Ending, Status, Stop, audit_files, run, seal_file, write_last, write_stop};
 use serve_command::serve;
 use std::alloc::{AllocGlobal, Global};
 use std::env::Args;

@@ -1,4 +1,4 @@
-//! What the tests open a desk with, and what its devices answer.
+//! What the tests open a desk with, and what its device answers.
 use alloc_desk::{Desk, DeskName, Pass};
 use allocation_core::{Core, Event, JobSpec};
 use fleet_events::read_event;
@@ -39,10 +39,6 @@ pub(crate) fn config_of(alloc: Global) -> Option<Config> {
 /// Every target is reached.
 pub(crate) const JOIN_A: &str =
     r#"{"event":"join","name":"a","reach":[{"allow":true,"test":"any"}]}"#;
-
-/// The targets of one zone are reached.
-pub(crate) const JOIN_B_IN_ZONE: &str =
-    r#"{"event":"join","name":"b","reach":[{"allow":true,"label":"zone","test":"equals","value":"x"}]}"#;
 
 /// Submits the event of a line.
 pub(crate) fn submit_line<L: Ledger, B: Ledger, N: DeskName, R: Wait>(

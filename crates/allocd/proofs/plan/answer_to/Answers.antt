@@ -1,8 +1,0 @@
-use Rattle.std.proofs.Common.{refl}
-use Rattle.allocd.proofs.plan.answer_to.Goals as goal
-
-pub returns-in_ok-planned-in-Ok : goal.returns-in_ok-planned-in-Ok
-returns-in_ok-planned-in-Ok c = record { instance = record { problem = c.in-Ok.instance; document = c.in-Ok.ensures.ok }; plan = c.in_ok-planned-in-Ok.ensures; ends = refl }
-
-pub returns-in-Err-Shape : goal.returns-in-Err-Shape
-returns-in-Err-Shape c = (c.in-Err-Shape.ensures.is_json (cc), λ h. c.in-Err-Shape.ensures.shape (cc) h.problem h.document)

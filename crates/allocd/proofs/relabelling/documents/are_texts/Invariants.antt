@@ -1,7 +1,0 @@
-use Rattle.std.proofs.Common.{◌≡◌}
-use Rattle.serde_json.specs.View.{members_view}
-use Rattle.allocd.specs.Relabelling.{are_texts}
-use Rattle.allocd.proofs.relabelling.documents.are_texts.Given as goal
-
-abbrev pub invariant-loop-name : goal.invariant-loop-name
-invariant-loop-name l = are_texts (members_view l._name-iterator) ≡ are_texts (members_view l.members.entries)

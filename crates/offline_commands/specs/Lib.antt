@@ -1,0 +1,12 @@
+pub mod Reading
+pub mod Writing
+pub mod Unreadable
+pub mod Ending
+pub mod Answer
+pub mod Check
+pub mod Plan
+pub mod Replay
+pub mod Audit
+pub mod Seal
+pub mod Relabelling
+pub mod Commands
