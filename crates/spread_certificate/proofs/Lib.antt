@@ -1,3 +1,7 @@
 pub mod WithinLemmas
-pub mod JudgeLemmas
 pub mod Evenest
+pub mod EvenLemmas
+pub mod JudgeLemmas
+pub mod Counting
+pub mod Finding
+pub mod DocumentLemmas

@@ -1,7 +1,14 @@
 //! How even the loads of collectors can be, with the levels and prices that are to prove it.
+ghost use Rattle.spread_certificate.specs.Document.{even_in, even_data};
 
+use crate::document::optional;
+use json_values::{Spelled, member};
 use lists::{List, Plain};
-use std::alloc::AllocError;
+use serde_json::{Value, json};
+use std::alloc::{AllocError, Global};
+
+/// The most percent that a slack may be.
+pub const MOST_SLACK: u32 = 1000;
 
 /// A witness, which is an assignment that is as even as any that covers and leaves as many, with the levels and prices that
 /// are to prove it; and how far above its loads those of the plan may be. A collector has so many bins in a row, one for
@@ -49,5 +56,79 @@ impl Plain for Even {
             && self.item_prices.same(&other.item_prices)
             && self.bin_prices.same(&other.bin_prices)
             && self.witness.same(&other.witness)
+    }
+}
+
+impl Spelled for Even {
+    ghost spelled = { even_in };
+
+    #[tactic(auto, unfolding(crate::specs::Document::even_in))]
+    fn read(alloc: Global, value: &Value) -> Result<Option<Even>, AllocError> {
+        let Some(jobs) = member(alloc, value, "jobs")? else {
+            return Ok(None);
+        };
+        let Some(slack) = member(alloc, value, "slack")? else {
+            return Ok(None);
+        };
+        let Some(levels) = member(alloc, value, "levels")? else {
+            return Ok(None);
+        };
+        let Some(keep) = member(alloc, value, "keep")? else {
+            return Ok(None);
+        };
+        let Some(item_prices) = member(alloc, value, "item_prices")? else {
+            return Ok(None);
+        };
+        let Some(bin_prices) = member(alloc, value, "bin_prices")? else {
+            return Ok(None);
+        };
+        let Some(witness) = optional(alloc, value, "pairs")? else {
+            return Ok(None);
+        };
+        Ok(Some(Even {
+            jobs,
+            slack,
+            levels,
+            keep,
+            item_prices,
+            bin_prices,
+            witness,
+        }))
+    }
+
+    ghost spelling = { even_data };
+
+    #[tactic(auto, unfolding(crate::specs::Document::even_in))]
+    fn write(&self, alloc: Global) -> Result<Value, AllocError> {
+        let jobs = self.jobs.write(alloc)?;
+        let keep = self.keep.write(alloc)?;
+        let slack = self.slack.write(alloc)?;
+        let levels = self.levels.write(alloc)?;
+        let item_prices = self.item_prices.write(alloc)?;
+        let bin_prices = self.bin_prices.write(alloc)?;
+        match &self.witness {
+            Some(pairs) => {
+                let pairs = pairs.write(alloc)?;
+                json!(in alloc; {
+                    "bin_prices": bin_prices,
+                    "item_prices": item_prices,
+                    "jobs": jobs,
+                    "keep": keep,
+                    "levels": levels,
+                    "pairs": pairs,
+                    "slack": slack
+                })
+            }
+            None => {
+                json!(in alloc; {
+                    "bin_prices": bin_prices,
+                    "item_prices": item_prices,
+                    "jobs": jobs,
+                    "keep": keep,
+                    "levels": levels,
+                    "slack": slack
+                })
+            }
+        }
     }
 }

@@ -1,4 +1,6 @@
 //! Laws above the definitions.
+ghost use Rattle.spread_certificate.specs.Even.{NoSlackIsEvenest};
+ghost use Rattle.spread_certificate.specs.Judged.{NoBestFaultIsCertified};
 ghost use Rattle.spread_certificate.specs.Loads.{LevelledIsEvenest};
 ghost use Rattle.spread_certificate.specs.Within.{BestIsBare, BothAreBestWithin, CapsCostNothing, PricesCarryOver};
 
@@ -25,4 +27,14 @@ pub fn best_is_bare()
 /// Levels and prices prove an assignment the most even of those that cover and leave as many.
 pub fn levelled_is_evenest()
     ensures { LevelledIsEvenest }
+{}
+
+/// A plan whose collectors have no more than in a witness that is as even as any is as even too.
+pub fn no_slack_is_evenest()
+    ensures { NoSlackIsEvenest }
+{}
+
+/// A spread has no fault before its levels exactly where both of its prices certify its plan.
+pub fn no_best_fault_is_certified()
+    ensures { NoBestFaultIsCertified }
 {}

@@ -1,6 +1,24 @@
-//! What is wrong with a spread.
+//! What the judge says of a spread, and the texts of faults.
+ghost use Rattle.std.specs.Prelude.{◌≡◌, IfOk, string_bytes};
+ghost use Rattle.spread_certificate.specs.Lines.{even_line, spread_line};
 
 use price_certificate::Fault;
+use std::alloc::{AllocError, Global};
+
+/// What the judge says of a spread.
+#[derive(Clone, Copy, Debug, PartialEq, Eq)]
+pub enum SpreadVerdict {
+    /// The plan is the best within its caps, and they cost no coverage: how many items it covers, how many of them it leaves at
+    /// draining bins, how many pairs of the preceding assignment it loses, and within which slack it is even, if it tells that.
+    Best {
+        covered: u64,
+        left: u64,
+        moved: u64,
+        slack: Option<u32>,
+    },
+    /// The first fault.
+    Refused(SpreadFault),
+}
 
 /// What is wrong with a spread.
 #[derive(Clone, Copy, Debug, PartialEq, Eq)]
@@ -42,4 +60,58 @@ pub enum EvenFault {
     OffLevel(u32),
     /// The caps of the collector are together above its load in the witness and the slack.
     CapsTooHigh(u32),
+}
+
+impl SpreadFault {
+    /// The fault's name, and then its values in decimal after one space each, or the text of the fault that it has.
+    pub fn line(&self, alloc: Global) -> Result<String, AllocError>
+        ensures { IfOk result (λ s. string_bytes s ≡ spread_line self.now) }
+    {
+        match self {
+            SpreadFault::WrongCaps => String::from_str(alloc, "WrongCaps"),
+            SpreadFault::CapTooHigh(bin) => format!(in alloc; "CapTooHigh {bin}"),
+            SpreadFault::Free(fault) => {
+                let line = fault.line(alloc)?;
+                format!(in alloc; "Free {line}")
+            }
+            SpreadFault::Within(fault) => {
+                let line = fault.line(alloc)?;
+                format!(in alloc; "Within {line}")
+            }
+            SpreadFault::Even(fault) => {
+                let line = fault.line(alloc)?;
+                format!(in alloc; "Even {line}")
+            }
+        }
+    }
+}
+
+impl EvenFault {
+    /// The fault's name, and then its values in decimal after one space each, or the text of the fault that it has.
+    pub fn line(&self, alloc: Global) -> Result<String, AllocError>
+        ensures { IfOk result (λ s. string_bytes s ≡ even_line self.now) }
+    {
+        match self {
+            EvenFault::NoJobs => String::from_str(alloc, "NoJobs"),
+            EvenFault::SlackTooHigh(slack) => format!(in alloc; "SlackTooHigh {slack}"),
+            EvenFault::WrongLengths => String::from_str(alloc, "WrongLengths"),
+            EvenFault::CoversOther(witness, plan) => {
+                format!(in alloc; "CoversOther {witness} {plan}")
+            }
+            EvenFault::LeavesOther(witness, plan) => {
+                format!(in alloc; "LeavesOther {witness} {plan}")
+            }
+            EvenFault::Witness(fault) => {
+                let line = fault.line(alloc)?;
+                format!(in alloc; "Witness {line}")
+            }
+            EvenFault::LevelTooHigh(collector) => format!(in alloc; "LevelTooHigh {collector}"),
+            EvenFault::PriceTooLow(item, bin) => format!(in alloc; "PriceTooLow {item} {bin}"),
+            EvenFault::SumsDiffer(prices, worth) => {
+                format!(in alloc; "SumsDiffer {prices} {worth}")
+            }
+            EvenFault::OffLevel(collector) => format!(in alloc; "OffLevel {collector}"),
+            EvenFault::CapsTooHigh(collector) => format!(in alloc; "CapsTooHigh {collector}"),
+        }
+    }
 }

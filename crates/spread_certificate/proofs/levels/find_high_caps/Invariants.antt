@@ -1,0 +1,7 @@
+use Rattle.std.proofs.Common.{◌≡◌, None}
+use Rattle.price_certificate.specs.Faults.{first_below}
+use Rattle.spread_certificate.specs.EvenFaults.{room_fault_at}
+use Rattle.spread_certificate.proofs.levels.find_high_caps.Given as goal
+
+abbrev pub invariant-loop-collector : goal.invariant-loop-collector
+invariant-loop-collector l = first_below (room_fault_at l.instance l.even l.caps l.pairs) l.collector ≡ None

@@ -1,0 +1,7 @@
+use Rattle.std.proofs.Common.{◌≡◌, None}
+use Rattle.price_certificate.specs.Faults.{first_below}
+use Rattle.spread_certificate.specs.EvenFaults.{load_fault_at}
+use Rattle.spread_certificate.proofs.levels.find_off_level.Given as goal
+
+abbrev pub invariant-loop-collector : goal.invariant-loop-collector
+invariant-loop-collector l = first_below (load_fault_at l.instance l.even l.pairs) l.collector ≡ None
