@@ -221,10 +221,7 @@ fn replaced(alloc: Global, wanted: Wanted<'_>, past: Past, core: Core) -> Result
 /// The epoch behind another: when the open round began, or the next number where that is not later.
 fn epoch_behind(wanted: Wanted<'_>, last: u64) -> u64 {
     let age = round_age(last, wanted.epoch, wanted.round);
-    wanted
-        .epoch
-        .saturating_sub(age)
-        .max(last.saturating_add(1))
+    wanted.epoch.saturating_sub(age).max(last.saturating_add(1))
 }
 
 /// The first line of the journal of a renewed allocator.

@@ -48,9 +48,7 @@ impl Source {
             return None;
         }
         match self.began {
-            Some(began) => now
-                .saturating_duration_since(began)
-                .checked_sub(self.wait),
+            Some(began) => now.saturating_duration_since(began).checked_sub(self.wait),
             None => Some(Duration::MAX),
         }
     }
