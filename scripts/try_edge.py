@@ -2,8 +2,10 @@
 """Runs `allocd serve` over settings, sources and figures that scripts/try_serve.py does not look at, and tells of each thing whether it holds: try_edge.py [PART ..]
 
 Where it listens and keeps its journal, each job's own rules, reloads with more sources, other orders and too many jobs, who is uncovered,
-names as text, what is counted, what strangers send and don't send, answers to the byte, rounds. It needs Linux and the program (ALLOCD_PROGRAM, or dist/allocd)."""
+names as text, what is counted, what strangers send and don't send, answers to the byte, rounds over renewals and starts, sources that fall silent
+beside others, YAML. It needs Linux and the program (ALLOCD_PROGRAM, or dist/allocd)."""
 
+import http.client
 import http.server
 import json
 import os
@@ -19,11 +21,12 @@ ANY = [{"allow": True, "test": "any"}]
 
 
 class Source(http.server.BaseHTTPRequestHandler):
-    """Lists of targets by path."""
+    """Lists of targets by path, and when each was asked for."""
 
-    lists = {}
+    lists, asked = {}, {}
 
     def do_GET(self):
+        self.asked.setdefault(self.path, []).append(time.monotonic())
         body = json.dumps([{"targets": self.lists.get(self.path, [])}]).encode()
         self.send_response(200)
         self.send_header("content-type", "application/json")
@@ -35,9 +38,9 @@ class Source(http.server.BaseHTTPRequestHandler):
         pass
 
 
-def url(path):
-    """A URL of such a list, which is asked for twice a second."""
-    return {"url": f"http://127.0.0.1:{SOURCE.server_port}{path}", "refresh_interval": "500ms"}
+def url(path, every="500ms", port=None):
+    """A URL of such a list, or of a source at another port, which is asked for so often."""
+    return {"url": f"http://127.0.0.1:{port or SOURCE.server_port}{path}", "refresh_interval": every}
 
 
 def static(name, count, first=9000, **more):
@@ -352,7 +355,120 @@ def rounds(folder):
     ends(service)
 
 
+def changes_from(service, number):
+    """When another round is open than that of a number."""
+    comes(lambda: service.figure("allocd_round") not in (None, number), 20)
+    return time.monotonic()
+
+
+def opens_after(service, journal):
+    """When the round opens that follows the one which a renewal has opened."""
+    comes(lambda: os.path.exists(journal) and service.ask("GET", "/-/ready")[0] == 200, 20)
+    return changes_from(service, service.figure("allocd_round"))
+
+
+def headers_of(service, path, accept=None):
+    """The headers and the text of an answer."""
+    it = http.client.HTTPConnection("127.0.0.1", service.port, timeout=30)
+    it.request("GET", path, headers={"accept": accept} if accept else {})
+    answer = it.getresponse()
+    text = answer.read().decode()
+    it.close()
+    return answer.headers, text
+
+
+ROUND = 6
+
+
+def rounds_kept(folder):
+    """A round of 6 seconds ends when it would have, whatever comes in the midst of it."""
+    one, two, three = static("a", 1), static("b", 1), static("c", 1)
+    service = started(folder, [one], interval=f"{ROUND}s")
+    on_time = lambda opened, last: (abs(opened - last - ROUND) < 1, f"{opened - last:.2f} seconds after the one before")
+    last = changes_from(service, service.figure("allocd_round"))
+    time.sleep(2)
+    reloaded(service, config([one, two], interval=f"{ROUND}s"))
+    opened = opens_after(service, f"{folder}/journal.1")
+    tell("a renewal in the midst of a round", *on_time(opened, last))
+    last += ROUND
+    time.sleep(2)
+    service.quit()
+    service = started(folder, [one, two], interval=f"{ROUND}s")
+    number = service.figure("allocd_round")
+    has(service, "allocd_targets_covered{job=\"b\"}", 1)
+    age = int(headers_of(service, "/jobs/b/targets?collector_id=a")[0]["x-scrape-round-age"]) / 1000
+    passed = time.monotonic() - last
+    tell("after a start the open round has its age", abs(age - passed) < 1, f"{age:.2f} of {passed:.2f} seconds")
+    tell("a start in the midst of a round", *on_time(changes_from(service, number), last))
+    last += ROUND
+    time.sleep(2)
+    service.quit()
+    service = started(folder, [one, two, three], interval=f"{ROUND}s")
+    opened = opens_after(service, f"{folder}/journal.2")
+    tell("a start with another job in the midst of a round", *on_time(opened, last))
+    ends(service)
+
+
+LIMIT = 3
+
+
+def beside_silent(folder, silent):
+    """How long it took until a service was ready with three sources beside so many that take a connection and never answer, and how long at most
+    one of the three was left alone then."""
+    with socket.create_server(("127.0.0.1", 0)) as dumb:
+        port = dumb.getsockname()[1]
+        quick = [f"/quick{silent}/{i}" for i in range(3)]
+        found = [url(f"/dumb{i}", "1s", port) for i in range(silent)] + [url(path, "1s") for path in quick]
+        for i, path in enumerate(quick):
+            Source.lists[path] = [f"127.0.0.1:{7300 + i}"]
+        service = Service(folder, config([{"job_name": "n", "http_sd_configs": found}], fetch_timeout=f"{LIMIT}s"), f"{folder}/journal{silent}")
+        began = time.monotonic()
+        service.is_up()
+        comes(lambda: service.ask("GET", "/-/ready")[0] == 200, 60)
+        took = time.monotonic() - began
+        time.sleep(6)
+        figures = [service.figure(f'allocd_refresh_last_success_timestamp_seconds{{job="n",source="n/{i + 1}"}}') for i in range(silent + 3)]
+        now = time.monotonic()
+        service.it.kill()
+        service.ended()
+    # the second refresh of each comes after a part of its interval
+    gaps = [after - before for path in quick for before, after in zip(Source.asked[path][1:], [*Source.asked[path][2:], now])]
+    return took, max(gaps, default=60), figures
+
+
+def silences(folder):
+    for silent in (1, 6):
+        took, gap, figures = beside_silent(folder, silent)
+        who = "a source that never answers" if silent == 1 else f"{silent} sources that never answer"
+        tell(f"beside {who} others keep their second", gap < 1.6, f"{gap:.2f} seconds at most")
+        tell("the service is ready after one fetch_timeout, and not their sum", LIMIT - 0.5 < took < LIMIT + 1.5, f"after {took:.2f} seconds")
+        told = [figure is not None and abs(time.time() - figure) < 5 for figure in figures]
+        tell("it tells when each source last gave its list", told == [False] * silent + [True] * 3 and figures[0] == 0, figures)
+
+
+# What `accept` says, and whether the answer is YAML.
+ACCEPTS = [
+    (None, False), ("*/*", False), ("application/json", False), ("application/yaml", True), ("application/x-yaml", True), ("text/yaml", True),
+    ("text/html, Application/YAML; q=0.9, application/json", True), ("application/json, application/yaml", False), ("application/yamlish", False),
+]
+
+
+def yaml(folder):
+    service = started(folder, [static("n", 2)])
+    has(service, 'allocd_targets_covered{job="n"}', 2)
+    for path in ("/scrape_configs", "/jobs", "/jobs/n/targets", "/jobs/n/targets?collector_id=a"):
+        as_json = headers_of(service, path)[1]
+        said = [(headers_of(service, path, accept), accept, is_yaml) for accept, is_yaml in ACCEPTS]
+        media = lambda is_yaml: "application/yaml" if is_yaml else "application/json"
+        right = all(text == as_json and headers["content-type"] == media(is_yaml) for (headers, text), _, is_yaml in said)
+        tell(f"{path} is YAML for who asks for that, in the same bytes", right)
+    headers, text = headers_of(service, "/jobs/none/targets", "application/yaml")
+    tell("a refusal is JSON", (headers["content-type"], text) == ("application/json", '{"refused":"UnknownJob"}'))
+    ends(service)
+
+
 SOURCE = http.server.ThreadingHTTPServer(("127.0.0.1", 0), Source)
 SOURCE.daemon_threads = True
 threading.Thread(target=SOURCE.serve_forever, daemon=True).start()
-run_parts((settings, relabels, reloads, uncovered, texts, figures, talks, requests, held_rows, stalls, rounds), sys.argv[1:])
+PARTS = (settings, relabels, reloads, uncovered, texts, figures, talks, requests, held_rows, stalls, rounds, rounds_kept, silences, yaml)
+run_parts(PARTS, sys.argv[1:])

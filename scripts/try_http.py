@@ -35,6 +35,8 @@ def said(port, words):
     for option, value in zip(words, words[1:]):
         if option == "-X":
             method = value
+        elif option == "-H":
+            headers = dict([value.split(": ", 1)])
         elif option == "--json":
             method, body, headers = "POST" if method == "GET" else method, value, {"content-type": "application/json"}
     it = http.client.HTTPConnection("127.0.0.1", port, timeout=30)

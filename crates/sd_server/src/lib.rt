@@ -19,6 +19,7 @@ mod reply;
 mod service;
 mod spoken;
 mod uncovered;
+mod yaml;
 
 pub use by_loops::{DEFAULT_LOOPS, serve_by_loops};
 pub use entry::Entry;

@@ -333,6 +333,26 @@ fn write_sources(
         let said = name_of(alloc, source)?;
         page.labelled_sample(name, "source", said.as_str(), u128::from(source.failures))?;
     }
+    write_last_successes(page, alloc, sources)
+}
+
+fn write_last_successes(
+    page: &mut Exposition,
+    alloc: Global,
+    sources: &[SourceNote],
+) -> Result<(), AllocError> {
+    let name = "allocd_refresh_last_success_timestamp_seconds";
+    page.family(
+        name,
+        Kind::Gauge,
+        "When the discovery source last gave its list, in seconds since 1970, or 0.",
+    )?;
+    for source in sources {
+        let said = name_of(alloc, source)?;
+        let job = source.job.as_str();
+        let seconds = u128::from(source.succeeded);
+        page.twice_labelled_sample(name, "job", job, "source", said.as_str(), seconds)?;
+    }
     Ok(())
 }
 

@@ -14,7 +14,9 @@ pub struct SourceNote {
     pub number: u32,
     pub refreshes: u64,
     pub failures: u64,
-    /// When it was refreshed last, as a timestamp (RFC 3339).
+    /// When it last gave its list, in seconds since 1970. 0 where it gave none.
+    pub succeeded: u64,
+    /// When it was refreshed last, as a timestamp (RFC 3339). Empty where it was not.
     pub at: Text,
     /// Why the last refresh failed. Empty where it did not.
     pub fault: Text,
@@ -72,6 +74,7 @@ impl Notes {
             if note.number == refresh.number && note.job.same(&refresh.job) {
                 note.refreshes = note.refreshes.saturating_add(refresh.refreshes);
                 note.failures = note.failures.saturating_add(refresh.failures);
+                note.succeeded = note.succeeded.max(refresh.succeeded);
                 note.at = refresh.at;
                 note.fault = refresh.fault;
                 return Ok(());
@@ -109,6 +112,19 @@ fn copied_allocations(
 }
 
 impl SourceNote {
+    /// What is told of a source that was not asked yet.
+    pub fn unasked(alloc: Global, job: Text, number: u32) -> SourceNote {
+        SourceNote {
+            job,
+            number,
+            refreshes: 0,
+            failures: 0,
+            succeeded: 0,
+            at: Text::from_string(String::new(alloc)),
+            fault: Text::from_string(String::new(alloc)),
+        }
+    }
+
     fn copy(&self) -> Result<SourceNote, AllocError> {
         let job = self.job.copy()?;
         let at = self.at.copy()?;
@@ -118,6 +134,7 @@ impl SourceNote {
             number: self.number,
             refreshes: self.refreshes,
             failures: self.failures,
+            succeeded: self.succeeded,
             at,
             fault,
         })

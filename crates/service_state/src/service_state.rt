@@ -3,7 +3,7 @@ use crate::changes::{ChangeNote, Changes};
 use crate::counts::{EventKind, Route};
 use crate::names::Names;
 use crate::notes::{AllocationNote, Notes, SourceNote};
-use crate::open_round::{OpenRound, RoundTimes};
+use crate::open_round::{OpenRound, RoundStart, RoundTimes};
 use crate::reloading::Reloading;
 use crate::takers::Takers;
 use fleet_events::{Answer, CollectorId};
@@ -11,7 +11,7 @@ use lists::Text;
 use std::alloc::{AllocError, Global};
 use std::sync::atomic::{AtomicBool, AtomicU64, Ordering};
 use std::sync::{Arc, Mutex, Wait};
-use std::time::{Clock, Duration, Instant};
+use std::time::{Clock, Duration};
 
 /// What a service says of itself beside its desk. The threads of the service write it, and requests read it.
 #[derive(Drop)]
@@ -274,9 +274,9 @@ impl ServiceState {
         self.takers.lock(rt).take()
     }
 
-    /// A round was opened then, and is to be open for so long.
-    pub fn note_round(&self, rt: &impl Wait, opened: Instant, length: Duration) {
-        *self.round.lock(rt) = OpenRound::of(opened, length);
+    /// The round that was opened then is open, and is to be so for so long.
+    pub fn note_round(&self, rt: &impl Wait, start: RoundStart, length: Duration) {
+        *self.round.lock(rt) = OpenRound::of(start, length);
     }
 
     /// How long the open round is open, and how long it is to be.

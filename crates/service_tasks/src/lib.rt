@@ -33,6 +33,7 @@ mod service;
 mod shared;
 mod sighting;
 mod source;
+mod sources;
 
 pub use configuration::Configuration;
 pub use control::Ending;
@@ -45,3 +46,4 @@ pub use renewing::continued;
 pub use scheduling::Schedule;
 pub use service::{Service, ServiceError};
 pub use shared::Shared;
+pub use sources::Sources;

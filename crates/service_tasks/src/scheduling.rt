@@ -10,10 +10,11 @@ use crate::service::JobText;
 use crate::shared::Shared;
 use alloc_desk::{DeskName, MOST_ENTRIES, Pass, ReallocateError, Reallocated};
 use fleet::MOST_KNOWN_TARGETS;
-use fleet_events::{Answer, CollectorId, Event, Round, TargetId};
+use fleet_events::{Answer, CollectorId, Event, TargetId};
 use lists::List;
 use log::info;
 use logfmt::Logfmt;
+use service_state::RoundStart;
 use std::alloc::Global;
 use std::sync::atomic::Ordering;
 use std::sync::ledger::Ledger;
@@ -38,10 +39,8 @@ const TRIES: u32 = 4;
 /// When the thread did what.
 #[derive(Drop)]
 pub struct Schedule<C> {
-    /// When the open round was opened.
-    opened: Instant,
-    /// The round that was open at the last look.
-    round: Round,
+    /// When the open round was opened. A renewal opens another one, and leaves this as it is.
+    pub(crate) start: RoundStart,
     /// Since when something is changed.
     changed: Option<Instant>,
     pub(crate) attendance: Attendance,
@@ -62,16 +61,15 @@ pub struct Schedule<C> {
 }
 
 impl<C> Schedule<C> {
-    /// Of a service with these jobs that begins now.
+    /// Of a service with these jobs that begins, whose open round was opened then.
     pub(crate) fn new(
         alloc: Global,
-        now: Instant,
+        start: RoundStart,
         jobs: Arc<List<JobText>>,
         configuration: C,
     ) -> Schedule<C> {
         Schedule {
-            opened: now,
-            round: 0,
+            start,
             changed: None,
             attendance: Attendance::new(alloc),
             handovers: Handovers::new(alloc),
@@ -146,39 +144,33 @@ impl<R: Wait + Clock + Eprint + Copy, L: Ledger, B: Ledger, N: DeskName> Shared<
         schedule: &mut Schedule<C>,
         now: Instant,
     ) {
-        self.note_round(pass, schedule, now);
-        let open = now.saturating_duration_since(schedule.opened);
+        let open = schedule.start.age(now);
         if open < self.round {
             return;
         }
         let Some(answer) = self.enter(pass, Event::NextRound) else {
             return;
         };
-        // Where rounds were missed the next one begins now.
-        schedule.opened = match schedule.opened.checked_add(self.round) {
-            Some(next) if open < self.round.saturating_mul(2) => next,
-            _ => now,
-        };
-        schedule.round = self.round_now(pass);
-        self.state.note_round(&self.rt, schedule.opened, self.round);
+        schedule.start = RoundStart::open_for(now, self.age_of_next(open));
+        self.note_round(schedule);
         if matches!(answer, Answer::Not(_)) {
             self.log_answer("the next round", &answer);
         }
     }
 
-    /// Where another round is open than at the last look, which a start or a renewal has opened, it begins now.
-    fn note_round<C>(&self, pass: &mut Pass<L, B, N>, schedule: &mut Schedule<C>, now: Instant) {
-        let round = self.round_now(pass);
-        if round != schedule.round {
-            schedule.round = round;
-            schedule.opened = now;
-            self.state.note_round(&self.rt, now, self.round);
+    /// For how long the round is open that follows one which is open for so long. Where rounds were missed it begins now.
+    fn age_of_next(&self, open: Duration) -> Duration {
+        let late = open.saturating_sub(self.round);
+        if late < self.round {
+            late
+        } else {
+            Duration::ZERO
         }
     }
 
-    fn round_now(&self, pass: &mut Pass<L, B, N>) -> Round {
-        self.desk
-            .read(&self.rt, pass, |record| record.core().round())
+    /// Tells those who ask when the open round was opened.
+    pub(crate) fn note_round<C>(&self, schedule: &Schedule<C>) {
+        self.state.note_round(&self.rt, schedule.start, self.round);
     }
 
     fn reallocate_when_settled<C>(

@@ -147,6 +147,11 @@ impl Service {
         Duration::from_millis(self.settings.fetch_timeout)
     }
 
+    /// How long a round is, in milliseconds. Above 0.
+    pub fn scrape_interval(&self) -> u64 {
+        self.settings.scrape_interval
+    }
+
     /// How many old journals are kept.
     pub fn keep(&self) -> u32 {
         self.settings.keep
