@@ -4,3 +4,4 @@ pub mod Says
 pub mod Listing
 pub mod Texts
 pub mod Looks
+pub mod Keeping
