@@ -3,7 +3,7 @@
 
 Where it listens and keeps its journal, each job's own rules, reloads with more sources, other orders and too many jobs, who is uncovered,
 names as text, what is counted, what strangers send and don't send, answers to the byte, rounds over renewals and starts, sources that fall silent
-beside others, YAML. It needs Linux and the program (ALLOCD_PROGRAM, or dist/allocd)."""
+beside others, YAML, lists that are acknowledged. It needs Linux and the program (ALLOCD_PROGRAM, or dist/allocd)."""
 
 import http.client
 import http.server
@@ -13,6 +13,7 @@ import socket
 import sys
 import threading
 import time
+import urllib.parse
 
 from allocd_service import Service, comes, lines_of, run
 from parts import run_parts, tell
@@ -467,8 +468,59 @@ def yaml(folder):
     ends(service)
 
 
+def own_of(groups):
+    """The service's own target among a list's: what a Prometheus asks of it."""
+    [own] = [group for group in groups if group["labels"]["__metrics_path__"] == "/acknowledged"]
+    parameters = {label[len("__param_") :]: value for label, value in own["labels"].items() if label.startswith("__param_")}
+    return own["targets"][0], parameters, own["labels"]["__scheme__"]
+
+
+def acknowledge(folder):
+    job = 'node/"a b"&c=+é'
+    path = f"/jobs/{urllib.parse.quote(job, safe='')}/targets?collector_id="
+    both = [{"name": name, "reach": ANY} for name in "ab"]
+    more = {"rejoin": False, "collectors": both}
+    service = Service(folder, lambda port: config([static(job, 8)], listen=f"127.0.0.1:{port}", acknowledge=f"127.0.0.1:{port}", **more), f"{folder}/journal")
+    service.is_up()
+    has(service, "allocd_allocation", 1)
+    given = lambda name: json.loads(service.ask("GET", path + name)[1])
+    addresses = lambda groups: {group["targets"][0] for group in groups if group["labels"]["__metrics_path__"] != "/acknowledged"}
+    scrapes = lambda **parameters: service.ask("GET", f"/acknowledged?{urllib.parse.urlencode(parameters)}")
+    events = lambda: len(lines_of(f"{folder}/journal").split(b"\n"))
+    first, other = given("a"), given("b")
+    where, asked, scheme = own_of(first)
+    tell("each list has the service itself as one target more", (len(first), len(other), where, scheme) == (5, 5, f"127.0.0.1:{service.port}", "http"), first[0])
+    tell("its parameters name the list", (sorted(asked), asked["job"], asked["collector"], asked["list"]) == (["collector", "epoch", "job", "list"], job, "1", "1"), asked)
+    tell("who scrapes it gets an empty text of figures", scrapes(**asked) == (200, ""))
+    service.ask("PUT", "/collectors/1/limits", {"limits": {job: 2}})
+    has(service, "allocd_allocation", 2)
+    before, waiting = events(), given("a")
+    stay = addresses(waiting)
+    tell("a list that is to let targets go keeps those that stay, and has none that is new", len(stay) == 2 and stay < addresses(first), stay)
+    tell("with the number of the current allocation", own_of(waiting)[1]["list"] == "2")
+    served = given("b")
+    tell("what goes is in no other list meanwhile", addresses(served) == addresses(other))
+    now = own_of(waiting)[1]
+    wrong = [asked, {**now, "epoch": 1}, {**now, "list": 3}, {**now, "collector": 2}, {**now, "collector": 9}, {**now, "job": "node"}]
+    tell("another list, epoch, collector or job is told in vain", all(scrapes(**it) == (200, "") for it in wrong) and given("a") == waiting and addresses(given("b")) == addresses(other))
+    # the other collector's list of the second allocation is the one event
+    tell("lists that wait are no events", events() == before + 1, (before, events()))
+    tell("a scrape that is none is refused", (scrapes()[0], scrapes(**{**now, "list": "x"})[0]) == (400, 400))
+    scrapes(**now)
+    tell("a list that is followed lets nothing go by itself", addresses(given("b")) == addresses(other))
+    tell("the next one does", (given("a"), len(addresses(given("b")))) == (waiting, 6))
+    service.ask("DELETE", "/collectors/1")
+    tell("who left is given the empty list, and lets go by asking", (given("a"), comes(lambda: len(addresses(given("b"))) == 8, 20)) == ([], True))
+    ends(service)
+    free = Service(folder, config([static(job, 8)], **more))
+    free.is_up()
+    has(free, "allocd_allocation", 1)
+    tell("without `acknowledge` lists have no such target, and there is no such path", ("acknowledged" in free.ask("GET", path + "a")[1], free.ask("GET", f"/acknowledged?{urllib.parse.urlencode(asked)}")) == (False, (404, '{"refused":"NoRoute"}')))
+    ends(free)
+
+
 SOURCE = http.server.ThreadingHTTPServer(("127.0.0.1", 0), Source)
 SOURCE.daemon_threads = True
 threading.Thread(target=SOURCE.serve_forever, daemon=True).start()
-PARTS = (settings, relabels, reloads, uncovered, texts, figures, talks, requests, held_rows, stalls, rounds, rounds_kept, silences, yaml)
+PARTS = (settings, relabels, reloads, uncovered, texts, figures, talks, requests, held_rows, stalls, rounds, rounds_kept, silences, yaml, acknowledge)
 run_parts(PARTS, sys.argv[1:])

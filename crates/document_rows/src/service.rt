@@ -148,7 +148,10 @@ fn doors_outline(alloc: Global, settings: &Settings) -> Result<String, AllocErro
 fn handover_outline(alloc: Global, settings: &Settings) -> Result<String, AllocError> {
     let handover = settings.handover;
     let release = release_outline(alloc, settings.release_after)?;
-    format!(in alloc; " {handover:?} {release}")
+    match &settings.acknowledge {
+        Some(at) => format!(in alloc; " {handover:?} {release} at {}", at.as_str()),
+        None => format!(in alloc; " {handover:?} {release}"),
+    }
 }
 
 fn timeout_outline(alloc: Global, timeout: CollectorTimeout) -> Result<String, AllocError> {

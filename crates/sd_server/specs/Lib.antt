@@ -5,3 +5,4 @@ pub mod Listing
 pub mod Texts
 pub mod Looks
 pub mod Yaml
+pub mod Keeping

@@ -5,12 +5,14 @@
 //! opening state. Of connections, time and order they say nothing.
 #![tactic(auto)]
 
+mod acknowledging;
 mod by_loops;
 mod certificate_page;
 mod collector_lists;
 mod counter;
 mod entry;
 mod handler;
+mod keeping;
 mod list_text;
 mod list_texts;
 mod look;

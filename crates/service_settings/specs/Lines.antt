@@ -4,7 +4,7 @@ use Rattle.std.specs.Fmt.{decimal}
 use Rattle.service_settings.specs.declared.error.SettingsError.{SettingsError}
 use Rattle.service_settings.specs.declared.error.SettingsError.TheVariants.{NotJson, Shape, Unknown, RepeatedCollector, Memory}
 use Rattle.service_settings.specs.declared.error.Member.{Member}
-use Rattle.service_settings.specs.declared.error.Member.TheVariants.{Document, Global, ScrapeInterval, ScrapeConfigs, ScrapeConfig, HttpSdConfigs, HttpSdConfig, RefreshInterval, Allocator, Listen, Lifecycle, Journal, Keep, Settle, GiveUp, Connections, Hosts, Host, Tokens, AdminTokens, CollectorTokens, OpenToAll, AllowNoJobs, Collectors, Collector, CollectorName, CollectorReach, CollectorLimits, JoinByAsking, JoiningPattern, Pattern, PatternReach, PatternLimits, ReachChanges, Rejoin, CollectorTimeout, Handover, ReleaseAfter, FetchTimeout}
+use Rattle.service_settings.specs.declared.error.Member.TheVariants.{Document, Global, ScrapeInterval, ScrapeConfigs, ScrapeConfig, HttpSdConfigs, HttpSdConfig, RefreshInterval, Allocator, Listen, Lifecycle, Journal, Keep, Settle, GiveUp, Connections, Hosts, Host, Tokens, AdminTokens, CollectorTokens, OpenToAll, AllowNoJobs, Collectors, Collector, CollectorName, CollectorReach, CollectorLimits, JoinByAsking, JoiningPattern, Pattern, PatternReach, PatternLimits, ReachChanges, Rejoin, CollectorTimeout, Handover, Acknowledge, ReleaseAfter, FetchTimeout}
 
 -- without indices
 abbrev pub member_path : Member → List ℕ
@@ -45,6 +45,7 @@ member_path ReachChanges = codes "allocator.reach_changes"
 member_path Rejoin = codes "allocator.rejoin"
 member_path CollectorTimeout = codes "allocator.collector_timeout"
 member_path Handover = codes "allocator.handover"
+member_path Acknowledge = codes "allocator.acknowledge"
 member_path ReleaseAfter = codes "allocator.release_after"
 member_path FetchTimeout = codes "allocator.fetch_timeout"
 
@@ -104,6 +105,7 @@ missing ReachChanges = codes "neither \"drained\" nor \"now\""
 missing Rejoin = codes "neither true nor false"
 missing CollectorTimeout = codes "no duration above 0"
 missing Handover = codes "neither \"ordered\" nor \"free\""
+missing Acknowledge = codes "no host with a port"
 missing ReleaseAfter = codes "neither a duration above 0 nor \"never\""
 missing FetchTimeout = codes "no duration above 0"
 

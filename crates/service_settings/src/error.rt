@@ -60,6 +60,7 @@ pub enum Member {
     Rejoin,
     CollectorTimeout,
     Handover,
+    Acknowledge,
     ReleaseAfter,
     FetchTimeout,
 }
@@ -184,6 +185,7 @@ impl Member {
             Member::Rejoin => "allocator.rejoin",
             Member::CollectorTimeout => "allocator.collector_timeout",
             Member::Handover => "allocator.handover",
+            Member::Acknowledge => "allocator.acknowledge",
             Member::ReleaseAfter => "allocator.release_after",
             Member::FetchTimeout => "allocator.fetch_timeout",
         }
@@ -214,6 +216,7 @@ impl Member {
             | Member::FetchTimeout => "no duration above 0",
             Member::Settle => "no duration",
             Member::Listen => "no address with a port",
+            Member::Acknowledge => "no host with a port",
             Member::Lifecycle | Member::OpenToAll | Member::AllowNoJobs | Member::Rejoin =>
                 "neither true nor false",
             Member::Journal => "no text",

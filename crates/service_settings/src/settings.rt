@@ -5,6 +5,7 @@ ghost use Rattle.service_settings.specs.Reading.{Gives};
 ghost use Rattle.service_settings.specs.Beside.{AreBeside, AreBesideUrls};
 ghost use Rattle.service_settings.specs.Settings.{settings_of as settings_made, settings_said, settings_read};
 
+mod acknowledge;
 mod allocator;
 mod collector_timeout;
 mod collectors;
@@ -90,6 +91,8 @@ pub struct Settings {
     pub collector_timeout: CollectorTimeout,
     /// When a target that moved is in the list of the collector that it moved to.
     pub handover: Handover,
+    /// Where collectors tell that they follow their lists, as they reach it: a host, a colon and a port.
+    pub acknowledge: Option<Text>,
     /// How long after a collector was last heard of its lists count as let go.
     pub release_after: ReleaseAfter,
     /// How long a fetch may take. Above 0.
@@ -151,6 +154,7 @@ fn settings_of(
         rejoin: collecting.rejoin,
         collector_timeout: collecting.collector_timeout,
         handover: collecting.handover,
+        acknowledge: collecting.acknowledge,
         release_after: collecting.release_after,
         fetch_timeout: collecting.fetch_timeout,
     }

@@ -3,13 +3,14 @@ use fleet_events::{Answer, Event, Refusal};
 use sd_routes::Ask;
 
 /// The routes as they are told, and what no route has.
-pub(crate) const ROUTES: [&str; 20] = [
+pub(crate) const ROUTES: [&str; 21] = [
     "/",
     "/scrape_configs",
     "/jobs",
     "/jobs/{job}/targets",
     "/jobs/{job}/targets?collector_id",
     "/jobs/{job}/uncovered",
+    "/acknowledged",
     "/certificate",
     "POST /collectors",
     "DELETE /collectors/{id}",
@@ -215,19 +216,20 @@ fn place_of(ask: &Ask) -> usize {
         Ask::JobTargets(_) => 3,
         Ask::CollectorTargets { .. } => 4,
         Ask::Uncovered(_) => 5,
-        Ask::Certificate => 6,
-        Ask::Join => 7,
-        Ask::Leave(_) => 8,
-        Ask::Drain(_) => 9,
-        Ask::Release(_) => 10,
-        Ask::SetLimits(_) => 11,
-        Ask::Report => 12,
-        Ask::Healthy => 13,
-        Ask::Live => 14,
-        Ask::Ready => 15,
-        Ask::Metrics => 16,
-        Ask::Reload => 17,
-        Ask::Quit => 18,
+        Ask::Acknowledged(_) => 6,
+        Ask::Certificate => 7,
+        Ask::Join => 8,
+        Ask::Leave(_) => 9,
+        Ask::Drain(_) => 10,
+        Ask::Release(_) => 11,
+        Ask::SetLimits(_) => 12,
+        Ask::Report => 13,
+        Ask::Healthy => 14,
+        Ask::Live => 15,
+        Ask::Ready => 16,
+        Ask::Metrics => 17,
+        Ask::Reload => 18,
+        Ask::Quit => 19,
     }
 }
 

@@ -1,12 +1,13 @@
 //! What a service says of itself beside its desk.
 use crate::changes::{ChangeNote, Changes};
 use crate::counts::{EventKind, Route};
+use crate::followed::{Followed, FollowedList};
 use crate::names::Names;
 use crate::notes::{AllocationNote, Notes, SourceNote};
 use crate::open_round::{OpenRound, RoundStart, RoundTimes};
 use crate::reloading::Reloading;
 use crate::takers::Takers;
-use fleet_events::{Answer, CollectorId};
+use fleet_events::{Answer, CollectorId, TargetId};
 use lists::Text;
 use std::alloc::{AllocError, Global};
 use std::sync::atomic::{AtomicBool, AtomicU64, Ordering};
@@ -54,6 +55,8 @@ pub struct ServiceState {
     names: Mutex<Names>,
     /// The live collectors that asked for a list.
     takers: Mutex<Takers>,
+    /// The lists that are waited for until they are followed.
+    followed: Mutex<Followed>,
     round: Mutex<OpenRound>,
     /// Since when the target is handed over that is so for longest, in seconds since 1970. 0 where none is.
     handing_over_since: AtomicU64,
@@ -86,6 +89,7 @@ impl ServiceState {
             changes: Mutex::new(Changes::new(alloc)),
             names: Mutex::new(Names::new(alloc)),
             takers: Mutex::new(Takers::new(alloc)),
+            followed: Mutex::new(Followed::new(alloc)),
             round: Mutex::new(OpenRound::unknown()),
             handing_over_since: AtomicU64::new(0),
         }
@@ -272,6 +276,28 @@ impl ServiceState {
     /// The live collectors that asked for a list, since this was asked.
     pub fn take_takers(&self, rt: &impl Wait) -> Vec<CollectorId> {
         self.takers.lock(rt).take()
+    }
+
+    /// A collector tells that it follows this list.
+    pub fn note_followed(&self, rt: &impl Wait, list: FollowedList) {
+        self.followed.lock(rt).note(list);
+    }
+
+    /// Whether a collector told that it follows a list of the job without these targets, which are in order of number. Where it did not, or
+    /// there is no memory to know, it is given this one without them.
+    pub fn is_followed_without(
+        &self,
+        rt: &impl Wait,
+        list: FollowedList,
+        targets: &[TargetId],
+    ) -> bool {
+        let mut followed = self.followed.lock(rt);
+        followed.is_without(list, targets).unwrap_or(false)
+    }
+
+    /// A collector is given what it holds: no list of it of the job is waited for.
+    pub fn forget_followed(&self, rt: &impl Wait, list: FollowedList) {
+        self.followed.lock(rt).forget(list);
     }
 
     /// The round that was opened then is open, and is to be so for so long.

@@ -9,6 +9,7 @@ use crate::error::{Member, SettingsError};
 use crate::reading::{
     address_or, connections_or, duration_or, flag_or, member_of, number_or, text_or_none, time_or,
 };
+use crate::settings::acknowledge::acknowledge_in;
 use crate::settings::collector_timeout::{CollectorTimeout, collector_timeout_in};
 use crate::settings::collectors::{Collector, collectors_in};
 use crate::settings::handover::{Handover, handover_in};
@@ -45,6 +46,7 @@ pub(crate) struct Collecting {
     pub(crate) rejoin: bool,
     pub(crate) collector_timeout: CollectorTimeout,
     pub(crate) handover: Handover,
+    pub(crate) acknowledge: Option<Text>,
     pub(crate) release_after: ReleaseAfter,
     pub(crate) fetch_timeout: u64,
 }
@@ -94,6 +96,7 @@ pub(crate) fn collecting_in(
     let collector_timeout = member_of(allocator, "collector_timeout");
     let collector_timeout = collector_timeout_in(collector_timeout)?;
     let handover = handover_in(member_of(allocator, "handover"))?;
+    let acknowledge = acknowledge_in(alloc, member_of(allocator, "acknowledge"))?;
     let release_after = release_after_in(member_of(allocator, "release_after"))?;
     let fetch_timeout = member_of(allocator, "fetch_timeout");
     let fetch_timeout = time_or(DEFAULT_FETCH_TIMEOUT, Member::FetchTimeout, fetch_timeout)?;
@@ -105,6 +108,7 @@ pub(crate) fn collecting_in(
         rejoin,
         collector_timeout,
         handover,
+        acknowledge,
         release_after,
         fetch_timeout,
     })

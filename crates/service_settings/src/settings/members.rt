@@ -84,6 +84,7 @@ fn has_member(kind: Kind, name: &str) -> bool
             | "rejoin"
             | "collector_timeout"
             | "handover"
+            | "acknowledge"
             | "release_after"
             | "fetch_timeout" => true,
             _ => false,
