@@ -29,6 +29,16 @@ Families of version 2 alone, in which a quarter of the bins drain:
   draining        4 zones, everything before and spread evenly; what drains can be emptied
   draining-dense  the same with all of 16,384 * 256 pairs allowed
   draining-tight  draining where the other bins have no room, so that a quarter stays
+
+Families of version 2 alone for `allocd plan --spread`, without limits where nothing else is said:
+
+  spread-one      all of 16,384 * 256 pairs allowed, everything before in one bin
+  spread-new      the same, nothing before
+  spread-zones    16 zones of unequal size with 16 bins each, everything before in the first bin of its zone
+  spread-slope    each item reaches its bin and the next; most stand at the first bins, so that ways are long
+  spread-stairs   each item reaches a stretch of bins of random length that ends at a random bin, and was in its first
+  spread-jobs     64 jobs of unequal size with a limit each, 64 collectors with a bin for each job, 4 zones; 4 collectors drain
+  spread-sparse   16,384 bins, some 254 random ones an item, everything before in one of the first 64
 """
 import random
 import sys
@@ -116,6 +126,45 @@ def stuck_bins(first, count, turn, reach):
     return sorted(first + (turn * 7 + k) % count for k in range(reach))
 
 
+# at most a place of a list, from a distribution that favours the first ones
+def early(source, mean, places):
+    return min(int(source.expovariate(1 / mean)), places - 1)
+
+
+def spread_zones(source):
+    zones = [early(source, 4, 16) for _ in range(ITEMS)]
+    rows = [list(range(16 * zone, 16 * zone + 16)) for zone in zones]
+    return [0] * BINS, rows, [(t, row[0]) for t, row in enumerate(rows)]
+
+
+def spread_slope(source):
+    homes = [early(source, 40, BINS) for _ in range(ITEMS)]
+    rows = [sorted({home, min(home + 1, BINS - 1)}) for home in homes]
+    return [0] * BINS, rows, list(enumerate(homes))
+
+
+def spread_stairs(source):
+    rows = []
+    for _ in range(ITEMS):
+        last = source.randrange(BINS)
+        rows.append(list(range(last - early(source, 10, last + 1), last + 1)))
+    return [0] * BINS, rows, [(t, row[0]) for t, row in enumerate(rows)]
+
+
+# a collector has a bin for each job, one after the other
+def spread_jobs(source, collectors=64, jobs=64, zones=4):
+    kinds = [(early(source, 12.5, jobs), source.randrange(zones)) for _ in range(ITEMS)]
+    rows = [[c * jobs + job for c in range(zone, collectors, zones)] for job, zone in kinds]
+    limits = [max(1, max(kinds.count((job, zone)) for zone in range(zones)) // 10) for job in range(jobs)]
+    draining = [c * jobs + job for c in range(0, collectors, 16) for job in range(jobs)]
+    return limits * collectors, rows, [(t, row[0]) for t, row in enumerate(rows)], draining
+
+
+def spread_sparse(source):
+    rows = [sorted({source.randrange(ITEMS) for _ in range(254)} | {t % 64}) for t in range(ITEMS)]
+    return [0] * ITEMS, rows, [(t, t % 64) for t in range(ITEMS)]
+
+
 def main():
     family = sys.argv[1] if len(sys.argv) > 1 else ""
     seed = int(sys.argv[2]) if len(sys.argv) > 2 else 1
@@ -142,6 +191,13 @@ def main():
         "draining": lambda: draining(4, 86),
         "draining-dense": lambda: draining(1, 86),
         "draining-tight": lambda: draining(4, 64),
+        "spread-one": lambda: ([0] * BINS, [list(range(BINS))] * ITEMS, [(t, 0) for t in range(ITEMS)], []),
+        "spread-new": lambda: ([0] * BINS, [list(range(BINS))] * ITEMS, [], []),
+        "spread-zones": lambda: (*spread_zones(random.Random(seed)), []),
+        "spread-slope": lambda: (*spread_slope(random.Random(seed)), []),
+        "spread-stairs": lambda: (*spread_stairs(random.Random(seed)), []),
+        "spread-jobs": lambda: spread_jobs(random.Random(seed)),
+        "spread-sparse": lambda: (*spread_sparse(random.Random(seed)), []),
     }
     if family not in families:
         sys.exit(__doc__)

@@ -1,2 +1,3 @@
 pub mod Plain
+pub mod Numbers
 pub mod TakenWords

@@ -1,15 +1,19 @@
 -- What a command line asks for, by what `clap` takes its words for.
 use denote.Ref.{Bor}
-use Rattle.std.specs.Prelude.{Bool, false, List, [], ◌∷◌, Option, Some, None, option_map, map, codes, String, string_bytes, if◌then◌else◌}
+use Rattle.std.specs.Prelude.{ℕ, Bool, false, ◌&&◌, List, [], ◌∷◌, Option, Some, None, is_some, length, nat_lt, option_map, map, codes, String, string_bytes, if◌then◌else◌}
 use Rattle.std.specs.Option.{option_map_or}
+use Rattle.std.specs.Char.{digit_value}
+use Rattle.std.specs.List.{list_all}
 use Rattle.std.specs.Str.{bytes_eq}
+use Rattle.std.specs.Str.Parse.{digits_value, without_leading_plus}
 use Rattle.std.specs.declared.alloc.Global.{Global}
 use Rattle.clap.specs.Words.{Row, Text, all_of, first_of, subcommand_of, takes}
 use Rattle.command_words.specs.Commands.{program}
 use Rattle.command_words.specs.declared.asked.Asked.{Asked}
 use Rattle.command_words.specs.declared.asked.Asked.TheVariants as asked
 use Rattle.command_words.specs.declared.asked.InputCommand.{InputCommand}
-use Rattle.command_words.specs.declared.asked.InputCommand.TheVariants.{Check, Plan, Relabel, Replay}
+use Rattle.command_words.specs.declared.asked.InputCommand.TheVariants.{Check, Plan, Spread, Relabel, Replay}
+use Rattle.command_words.specs.declared.asked.SpreadOptions.{SpreadOptions}
 
 pub data Said : Type 0 where
   Answers : InputCommand → Said
@@ -26,6 +30,26 @@ pub data Said : Type 0 where
 abbrev pub is_set : Option Text → Bool
 is_set text = option_map_or (λ word. bytes_eq word (codes "true")) text false
 
+-- the number that a text writes in decimal, 0 where it writes none below 2 ^ 32
+abbrev pub number_or_zero : Text → ℕ
+number_or_zero text =
+    let digits = without_leading_plus text in
+    if nat_lt 0 (length digits) && list_all (λ d. nat_lt (digit_value d) 10) digits && nat_lt (digits_value 10 digits) 4294967296 then digits_value 10 digits else 0
+
+-- what the values of `--spread`, `--jobs` and `--most-moves` ask for
+abbrev pub spread_by : Text → Option Text → Option Text → SpreadOptions
+spread_by slack jobs most_moves = record { slack = number_or_zero slack; jobs = option_map_or number_or_zero jobs 1; most_moves = option_map number_or_zero most_moves }
+
+-- The other two are of no use without `--spread`.
+abbrev pub plans_alone_by : List Row → Option Said
+plans_alone_by rows = if is_some (first_of (codes "jobs") rows) then None else if is_some (first_of (codes "most-moves") rows) then None else Some (Answers Plan)
+
+abbrev pub plans_by : List Row → Option Said
+plans_by rows = option_map_or
+    (λ slack. Some (Answers (Spread (spread_by slack (first_of (codes "jobs") rows) (first_of (codes "most-moves") rows)))))
+    (first_of (codes "spread") rows)
+    (plans_alone_by rows)
+
 abbrev pub audits_by : List Row → Option Said
 audits_by rows = option_map Audits (all_of (codes "FILE") rows)
 
@@ -41,7 +65,7 @@ serves_by rows = option_map
 abbrev pub named : Text → List Row → Option Said
 named name rows =
     if bytes_eq name (codes "check") then Some (Answers Check)
-    else if bytes_eq name (codes "plan") then Some (Answers Plan)
+    else if bytes_eq name (codes "plan") then plans_by rows
     else if bytes_eq name (codes "relabel") then Some (Answers Relabel)
     else if bytes_eq name (codes "replay") then Some (Answers Replay)
     else if bytes_eq name (codes "session") then Some RunsSession

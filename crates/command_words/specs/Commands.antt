@@ -1,12 +1,16 @@
 -- The commands of `allocd`, their options and files, as `clap` reads them.
-use Rattle.std.specs.Prelude.{[], Some, true, codes}
+use Rattle.std.specs.Prelude.{ℕ, [], Some, true, codes}
 use Rattle.clap.specs.Words.{App, Rule, Text, new_app, new_rule, with_rule, with_subcommand}
 use Rattle.clap.specs.declared.builder.action.ArgAction.TheVariants.{Set, SetTrue, Append}
-use Rattle.clap.specs.declared.builder.value_parser.ValueParser.TheVariants.{NonEmptyString}
+use Rattle.clap.specs.declared.builder.value_parser.ValueParser.TheVariants.{NonEmptyString, Unsigned}
 
 -- an option that has a value, which is not empty
 abbrev pub option_rule : Text → Rule
 option_rule name = record (new_rule name) { long = Some name; action = Some Set; value_names = 1; parser = Some NonEmptyString }
+
+-- an option whose value is a number from this one to that one
+abbrev pub number_rule : Text → ℕ → ℕ → Rule
+number_rule name least most = record (new_rule name) { long = Some name; action = Some Set; value_names = 1; parser = Some (Unsigned least most) }
 
 -- an option that has none
 abbrev pub flag_rule : Text → Rule
@@ -27,7 +31,10 @@ abbrev pub check : App
 check = new_app (codes "check")
 
 abbrev pub plan : App
-plan = new_app (codes "plan")
+plan = with_rule (with_rule (with_rule (new_app (codes "plan"))
+    (number_rule (codes "spread") 0 1000))
+    (number_rule (codes "jobs") 1 16384))
+    (number_rule (codes "most-moves") 0 4294967295)
 
 abbrev pub relabel : App
 relabel = new_app (codes "relabel")

@@ -1,10 +1,10 @@
 //! What a command line asks for.
 ghost use Rattle.std.specs.Prelude.{◌≡◌, ◌⊎◌, None, Some, true, IfOk, IfSome, map, option_map, string_bytes};
 ghost use Rattle.clap.specs.Words.{found_of, rows_of, subcommand_rows_of};
-ghost use Rattle.command_words.specs.Asked.{Answers, are_taken, asked_by, asked_in, audits_by, command_in, is_set as is_set_by, named, said, seals_by, serves_by};
+ghost use Rattle.command_words.specs.Asked.{Answers, are_taken, asked_by, asked_in, audits_by, command_in, is_set as is_set_by, named, number_or_zero, plans_alone_by, plans_by, said, seals_by, serves_by, spread_by, text_of};
 
 use crate::commands::program;
-use crate::refusal::{no_command, refused};
+use crate::refusal::{no_command, no_spread, refused};
 use clap::ArgMatches;
 use std::alloc::{AllocError, Global};
 
@@ -30,8 +30,21 @@ pub enum Asked<'a> {
 pub enum InputCommand {
     Check,
     Plan,
+    /// A plan that evens out what the collectors have.
+    Spread(SpreadOptions),
     Relabel,
     Replay,
+}
+
+/// The options of `allocd plan --spread`.
+#[derive(Clone, Copy, Debug, PartialEq, Eq)]
+pub struct SpreadOptions {
+    /// So many percent more than where the loads are the most even a collector may have, rounded up.
+    pub slack: u32,
+    /// How many bins in a row a collector has.
+    pub jobs: u32,
+    /// How many items move for that at the most.
+    pub most_moves: Option<u32>,
 }
 
 /// The options of `allocd serve`.
@@ -79,7 +92,7 @@ fn command_named<'a>(
 {
     match name {
         "check" => Ok(Asked::Answer(InputCommand::Check)),
-        "plan" => Ok(Asked::Answer(InputCommand::Plan)),
+        "plan" => plan_of(alloc, matches),
         "relabel" => Ok(Asked::Answer(InputCommand::Relabel)),
         "replay" => Ok(Asked::Answer(InputCommand::Replay)),
         "session" => Ok(Asked::Session),
@@ -88,6 +101,59 @@ fn command_named<'a>(
         "serve" => serve_of(alloc, matches),
         _ => no_command(alloc),
     }
+}
+
+fn plan_of<'a>(alloc: Global, matches: &ArgMatches<'a>) -> Result<Asked<'a>, AllocError>
+    ensures { IfOk result (λ a. said a ≡ plans_by (rows_of (found_of matches.now))) }
+{
+    match matches.get_str("spread") {
+        Some(slack) => {
+            let options = spread_options(
+                slack,
+                matches.get_str("jobs"),
+                matches.get_str("most-moves"),
+            );
+            Ok(Asked::Answer(InputCommand::Spread(options)))
+        }
+        None => plan_alone(alloc, matches),
+    }
+}
+
+/// A plan without a spread, of which no option says more.
+fn plan_alone<'a>(alloc: Global, matches: &ArgMatches<'a>) -> Result<Asked<'a>, AllocError>
+    ensures { IfOk result (λ a. said a ≡ plans_alone_by (rows_of (found_of matches.now))) }
+{
+    match matches.get_str("jobs") {
+        Some(_) => no_spread(alloc, "jobs"),
+        None => match matches.get_str("most-moves") {
+            Some(_) => no_spread(alloc, "most-moves"),
+            None => Ok(Asked::Answer(InputCommand::Plan)),
+        },
+    }
+}
+
+/// The options of these values.
+fn spread_options(slack: &str, jobs: Option<&str>, most_moves: Option<&str>) -> SpreadOptions
+    ensures { result ≡ spread_by slack.now (text_of jobs.entry) (text_of most_moves.entry) }
+{
+    SpreadOptions {
+        slack: number_in(slack),
+        jobs: match jobs {
+            Some(text) => number_in(text),
+            None => 1,
+        },
+        most_moves: match most_moves {
+            Some(text) => Some(number_in(text)),
+            None => None,
+        },
+    }
+}
+
+/// The number that an option's value writes. The parser has seen to it that it does.
+fn number_in(text: &str) -> u32
+    ensures { result ≡ number_or_zero text.now }
+{
+    text.parse().unwrap_or(0)
 }
 
 fn audit_of<'a>(alloc: Global, matches: &ArgMatches<'a>) -> Result<Asked<'a>, AllocError>

@@ -1,9 +1,9 @@
 //! The commands of `allocd`, with their help.
 ghost use Rattle.std.specs.Prelude.{◌≡◌, IfOk};
 ghost use Rattle.clap.specs.Words.{app_of, new_app};
-ghost use Rattle.command_words.specs.Commands.{alone as alone_app, audit as audit_app, program as program_app, seal as seal_app, serve as serve_app, with_others as with_others_app, with_readers as with_readers_app};
+ghost use Rattle.command_words.specs.Commands.{alone as alone_app, audit as audit_app, plan as plan_app, program as program_app, seal as seal_app, serve as serve_app, with_others as with_others_app, with_readers as with_readers_app};
 
-use crate::options::{file, files, flag, option, required_option};
+use crate::options::{file, files, flag, number_option, option, required_option};
 use clap::Command;
 use std::alloc::{AllocError, Global};
 
@@ -36,12 +36,21 @@ Exit status:
 const PLAN: &str = "Finds a best plan, with the prices that prove it";
 
 const PLAN_ENDS: &str = "\
-Standard input: the document of an instance. Standard output: the document of the instance and the plan.
+Standard input: the document of an instance. Standard output: the document of the instance and the plan; with --spread also its caps, and
+what proves that they cost no coverage.
 
 Exit status:
   0  the plan is written
   2  the words are wrong, or the input is no such document
   3  no memory was left, or a read or a write failed";
+
+const SPREAD: &str =
+    "Evens the collectors out, to at most so many percent above the most even loads, rounded up";
+
+const JOBS: &str = "How many bins in a row a collector has, with --spread [default: 1]";
+
+const MOST_MOVES: &str =
+    "At most so many items move to even the collectors out, with --spread [default: any number]";
 
 const RELABEL: &str = "Says what relabelling rules make of a label set";
 
@@ -150,7 +159,7 @@ fn with_readers<'a>(alloc: Global, command: Command<'a>) -> Result<Command<'a>, 
 {
     command
         .subcommand(told(alloc, "check", CHECK, CHECK_ENDS))?
-        .subcommand(told(alloc, "plan", PLAN, PLAN_ENDS))?
+        .subcommand(plan(alloc)?)?
         .subcommand(told(alloc, "relabel", RELABEL, RELABEL_ENDS))?
         .subcommand(told(alloc, "replay", REPLAY, REPLAY_ENDS))?
         .subcommand(told(alloc, "session", SESSION, SESSION_ENDS))
@@ -164,6 +173,15 @@ fn with_others<'a>(alloc: Global, command: Command<'a>) -> Result<Command<'a>, A
         .subcommand(audit(alloc)?)?
         .subcommand(seal(alloc)?)?
         .subcommand(serve(alloc)?)
+}
+
+fn plan<'a>(alloc: Global) -> Result<Command<'a>, AllocError>
+    ensures { IfOk result (λ c. app_of c ≡ plan_app) }
+{
+    told(alloc, "plan", PLAN, PLAN_ENDS)
+        .arg(number_option(alloc, "spread", "PERCENT", SPREAD, 0, 1000))?
+        .arg(number_option(alloc, "jobs", "NUMBER", JOBS, 1, 16384))?
+        .arg(number_option(alloc, "most-moves", "NUMBER", MOST_MOVES, 0, 4294967295))
 }
 
 fn audit<'a>(alloc: Global) -> Result<Command<'a>, AllocError>

@@ -8,4 +8,4 @@ mod commands;
 mod options;
 mod refusal;
 
-pub use asked::{Asked, InputCommand, ServeOptions, read_words};
+pub use asked::{Asked, InputCommand, ServeOptions, SpreadOptions, read_words};

@@ -1,7 +1,7 @@
 //! The options and files that a command takes.
 ghost use Rattle.std.specs.Prelude.{◌≡◌, false};
 ghost use Rattle.clap.specs.Words.{rule_of};
-ghost use Rattle.command_words.specs.Commands.{file_rule, flag_rule, one_file_rule, option_rule, required_rule};
+ghost use Rattle.command_words.specs.Commands.{file_rule, flag_rule, number_rule, one_file_rule, option_rule, required_rule};
 
 use clap::builder::ValueParser;
 use clap::{Arg, ArgAction};
@@ -16,6 +16,26 @@ pub(crate) fn option<'a>(alloc: Global, name: &'a str, value: &'a str, help: &'a
         .long(name)
         .value_name(value)
         .value_parser(ValueParser::NonEmptyString)
+        .action(ArgAction::Set)
+        .help(help)
+}
+
+/// An option `--NAME VALUE`. Its value is a number in these bounds.
+pub(crate) fn number_option<'a>(
+    alloc: Global,
+    name: &'a str,
+    value: &'a str,
+    help: &'a str,
+    least: u64,
+    most: u64,
+) -> Arg<'a>
+    ensures rule { rule_of result ≡ number_rule name.entry.now least most }
+    ensures local { result.global ≡ false }
+{
+    Arg::new(alloc, name)
+        .long(name)
+        .value_name(value)
+        .value_parser(ValueParser::Unsigned(least, most))
         .action(ArgAction::Set)
         .help(help)
 }

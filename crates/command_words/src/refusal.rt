@@ -38,6 +38,15 @@ pub(crate) fn no_command<'a>(alloc: Global) -> Result<Asked<'a>, AllocError>
     )?))
 }
 
+/// Where an option is used that only says more of a spread.
+pub(crate) fn no_spread<'a>(alloc: Global, name: &str) -> Result<Asked<'a>, AllocError>
+    ensures { IfOk result (λ a. said a ≡ None) }
+{
+    Ok(Asked::Refused(format!(in alloc;
+        "error: '--{name}' is of use only beside '--spread <PERCENT>'\n\nFor more information, try '--help'.\n"
+    )?))
+}
+
 /// What `clap` says of a word that is not expected, with what may be meant by a file's name.
 fn with_hint(alloc: Global, words: &[String], error: &Error) -> Result<String, AllocError> {
     let text = format!(in alloc; "{error}")?;

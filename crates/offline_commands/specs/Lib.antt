@@ -10,3 +10,4 @@ pub mod Audit
 pub mod Seal
 pub mod Relabelling
 pub mod Commands
+pub mod Spreading

@@ -6,6 +6,7 @@ use crate::ending::Ending;
 use crate::plan::run_plan;
 use crate::relabelling::run_relabel;
 use crate::replay::run_replay;
+use crate::spreading::run_spread;
 use command_words::InputCommand;
 use std::alloc::Global;
 use std::io::{Read, Write};
@@ -22,6 +23,7 @@ pub fn run<R: Read, W: Write>(
     match command {
         InputCommand::Check => run_check(alloc, reader, writer),
         InputCommand::Plan => run_plan(alloc, reader, writer),
+        InputCommand::Spread(options) => run_spread(alloc, options, reader, writer),
         InputCommand::Relabel => run_relabel(alloc, reader, writer),
         InputCommand::Replay => run_replay(alloc, reader, writer),
     }

@@ -14,6 +14,7 @@ mod relabelling;
 mod replay;
 mod runner;
 mod sealing;
+mod spreading;
 mod unreadable;
 
 pub use answer::Answer;

@@ -1,0 +1,32 @@
+-- What `allocd plan --spread` answers.
+use Rattle.std.specs.Prelude.{◌≡◌, ◌++◌, ℕ, List, None, codes, map}
+use Rattle.std.specs.List.Sorted.{IsStrictlyIncreasing}
+use Rattle.serde_json.specs.Written.{compact_text}
+use Rattle.price_certificate.specs.Problem.{Problem}
+use Rattle.spread_certificate.specs.Document.{spread_document_data}
+use Rattle.spread_certificate.specs.Judged.{spread_fault}
+use Rattle.spread_certificate.specs.declared.spread.Spread.{Spread}
+use Rattle.offline_commands.specs.Answer.{Answers}
+use Rattle.offline_commands.specs.Plan.{IsInstance}
+use Rattle.offline_commands.specs.Unreadable.{IsUnreadable}
+use Rattle.offline_commands.specs.declared.answer.Answer.TheVariants.{NotRead, Text}
+use Rattle.offline_commands.specs.declared.ending.Status.{Status}
+use Rattle.offline_commands.specs.declared.ending.Status.TheVariants.{Done}
+
+-- the text is the document of the instance and a spread in which the judge finds no fault, its pairs in order of items, and a line feed
+pub record IsSpreadOf (problem : Problem) (text : List ℕ) : Type 0 where
+  pub spread : Spread
+  pub judged : spread_fault problem spread ≡ None
+  pub ordered : IsStrictlyIncreasing (map (λ (q : ℕ × ℕ). q.0) spread.plan.pairs)
+  pub says : text ≡ compact_text (spread_document_data problem spread) ++ codes "\n"
+
+-- the text is a spread for the input's instance
+pub record IsSpread (input text : List ℕ) (status : Status) : Type 0 where
+  pub instance : IsInstance input
+  pub plan : IsSpreadOf instance.problem text
+  pub ends : status ≡ Done
+
+-- an input is no instance document, or the text is a spread for it
+abbrev pub Spreads : Answers
+Spreads input (NotRead why) = IsUnreadable IsInstance input why
+Spreads input (Text text status) = IsSpread input text status

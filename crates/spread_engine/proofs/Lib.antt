@@ -1,0 +1,2 @@
+pub mod SpreadLemmas
+pub mod WitnessLemmas
