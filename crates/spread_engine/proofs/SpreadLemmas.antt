@@ -1,28 +1,17 @@
--- A spread whose prices certify its plan twice has no fault.
-use Rattle.std.proofs.Common.{◌≡◌, ℕ, cond, Bool, List, None, Some, length, get_or, ap, ◌∙◌}
-use Rattle.std.specs.Option.{option_map}
-use Rattle.std.proofs.lemmas.Bool.{eq-eqb, le-leb}
-use Rattle.price_certificate.specs.Problem.{Problem, IsProblem, bins_of, capacity_of}
-use Rattle.price_certificate.specs.Certificate.{IsCertified}
-use Rattle.price_certificate.specs.Derived.{bare, capped}
-use Rattle.price_certificate.specs.Faults.{first_below}
-use Rattle.price_certificate.proofs.DerivedLemmas.{bare_problem, capped_problem}
-use Rattle.price_certificate.proofs.First.{first_none, both_none}
-use Rattle.price_certificate.proofs.Verdicts.{certified_none}
-use Rattle.spread_certificate.specs.Judged.{cap_fault, cap_fault_at, free_fault, within_fault, spread_fault}
-use Rattle.spread_certificate.specs.Within.{AreCaps}
+-- A spread with what tells how even it is.
+use Rattle.std.proofs.Common.{◌≡◌, Option, None}
+use Rattle.price_certificate.specs.Problem.{Problem}
+use Rattle.price_certificate.proofs.First.{both_none}
+use Rattle.spread_certificate.specs.Judged.{best_fault, told_fault, spread_fault}
+use Rattle.spread_certificate.specs.declared.even.Even.{Even}
 use Rattle.spread_certificate.specs.declared.spread.Spread.{Spread}
-use Rattle.spread_certificate.specs.declared.verdict.SpreadFault.TheVariants.{WrongCaps, CapTooHigh, Free, Within}
+use Rattle.spread_engine.specs.Telling.{telling}
 
-caps_pass : (p : Problem) (caps : List ℕ) → AreCaps p caps → cap_fault p caps ≡ None
-unfolding cap_fault
-caps_pass p caps are =
-    ap (λ (b : Bool). cond b (first_below (cap_fault_at p caps) (bins_of p)) (Some WrongCaps)) (eq-eqb (length caps) (bins_of p) are.bins)
-    ∙ first_none (cap_fault_at p caps) (bins_of p) (λ bin l. ap (λ (b : Bool). cond b None (Some (CapTooHigh bin))) (le-leb (get_or caps bin 0) (capacity_of p bin) (are.most bin l)))
+-- What it tells changes nothing of its caps and its plan.
+pub same_best : (p : Problem) (spread : Spread) (even : Option Even) → best_fault p spread ≡ None → best_fault p (telling spread even) ≡ None
+unfolding best_fault
+same_best p spread even e = e
 
-pub certified_pass : (p : Problem) (spread : Spread) → IsProblem p → AreCaps p spread.caps → IsCertified (bare p) spread.plan.pairs spread.free_item_prices spread.free_bin_prices → IsCertified (capped spread.caps p) spread.plan.pairs spread.plan.item_prices spread.plan.bin_prices → spread_fault p spread ≡ None
+pub best_and_told : (p : Problem) (spread : Spread) → best_fault p spread ≡ None → told_fault p spread spread.even ≡ None → spread_fault p spread ≡ None
 unfolding spread_fault
-certified_pass p spread valid are free within =
-    let first : free_fault p spread ≡ None = ap (option_map Free) (certified_none (bare p) _ _ _ (bare_problem p valid) free) in
-    let second : within_fault p spread ≡ None = ap (option_map Within) (certified_none (capped spread.caps p) _ _ _ (capped_problem spread.caps p are.bins valid) within) in
-    both_none _ _ (caps_pass p spread.caps are) (both_none _ _ first second)
+best_and_told p spread best told = both_none _ _ best told

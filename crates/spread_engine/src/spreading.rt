@@ -1,11 +1,12 @@
 //! A plan within caps that cost no coverage, and what is to show it.
 ghost use Rattle.std.specs.Prelude.{◌≡◌, ◌≤◌, ℕ, None, IfOk, IfSome, length, map};
 ghost use Rattle.std.specs.List.Sorted.{IsStrictlyIncreasing};
-ghost use Rattle.price_certificate.specs.Assignment.{IsOptimal};
+ghost use Rattle.price_certificate.specs.Assignment.{IsFeasible, IsOptimal};
 ghost use Rattle.price_certificate.specs.Certificate.{IsCertified};
 ghost use Rattle.price_certificate.specs.Derived.{bare, capped};
-ghost use Rattle.spread_certificate.specs.Judged.{spread_fault};
+ghost use Rattle.spread_certificate.specs.Judged.{best_fault, spread_fault};
 ghost use Rattle.spread_certificate.specs.Within.{AreCaps, AreFree, IsBestWithin};
+ghost use Rattle.spread_engine.specs.Telling.{telling};
 ghost use Rattle.spread_engine.specs.Witness.{AreNear, MovesFew};
 
 use crate::bounded::shifts_within;
@@ -16,7 +17,7 @@ use crate::witness::Witness;
 use assign_engine::solve;
 use lists::List;
 use price_certificate::{Instance, Plan, Verdict, check};
-use spread_certificate::{Even, Spread, check_spread};
+use spread_certificate::{Even, Spread, check_even};
 use std::alloc::{AllocError, Global};
 
 /// Finds caps that even out what collectors have, and the best plan within them. It covers as many items as any feasible
@@ -121,7 +122,6 @@ fn spread_into(
     ensures ordered { IfOk result (λ s. IsStrictlyIncreasing (map (λ (q : ℕ × ℕ). q.0) s.plan.pairs)) }
     ensures within { IfOk result (λ s. IsCertified (capped s.caps instance.now) s.plan.pairs s.plan.item_prices s.plan.bin_prices) }
     ensures free { IfOk result (λ s. IsCertified (bare instance.now) s.plan.pairs s.free_item_prices s.free_bin_prices) }
-    ensures even { IfOk result (λ s. s.even ≡ None) }
 {
     instance.is_problem();
     let capped = instance.capped(alloc, caps.as_slice())?;
@@ -149,17 +149,36 @@ fn with_even(
     spread: Spread,
     even: Even,
 ) -> Result<Spread, AllocError>
-    requires judged { spread_fault instance.now spread ≡ None }
-    requires even { spread.even ≡ None }
+    requires best { best_fault instance.now spread ≡ None }
+    requires feasible { IsFeasible instance.now spread.plan.pairs }
     ensures judged { IfOk result (λ s. spread_fault instance.now s ≡ None) }
     ensures caps { IfOk result (λ s. s.caps ≡ spread.caps) }
     ensures plan { IfOk result (λ s. s.plan ≡ spread.plan) }
     ensures free { IfOk result (λ s. (s.free_item_prices ≡ spread.free_item_prices) × (s.free_bin_prices ≡ spread.free_bin_prices)) }
 {
-    let mut shown = spread;
-    shown.even = Some(even);
-    if check_spread(alloc, instance, &shown)?.is_some() {
-        shown.even = None;
+    let shown = telling(spread, Some(even));
+    match check_even(alloc, instance, &shown)? {
+        None => Ok(shown),
+        Some(_) => Ok(telling(shown, None)),
     }
-    Ok(shown)
+}
+
+/// The spread with this in place of what it tells of how even it is.
+fn telling(spread: Spread, even: Option<Even>) -> Spread
+    ensures { result ≡ telling spread even }
+{
+    let Spread {
+        caps,
+        plan,
+        free_item_prices,
+        free_bin_prices,
+        even: _,
+    } = spread;
+    Spread {
+        caps,
+        plan,
+        free_item_prices,
+        free_bin_prices,
+        even,
+    }
 }

@@ -2,16 +2,18 @@ use Rattle.std.proofs.Common.{ℕ, List, IfSome, length, sym, subst}
 use Rattle.price_certificate.specs.declared.plan.Plan.{Plan}
 use Rattle.spread_certificate.specs.Within.{AreCaps, IsBestWithin}
 use Rattle.spread_engine.specs.Witness.{AreNear, MovesFew}
-use Rattle.spread_engine.proofs.SpreadLemmas.{certified_pass}
+use Rattle.spread_certificate.proofs.JudgeLemmas.{no_best_fault_is_certified}
 use Rattle.spread_engine.proofs.WitnessLemmas.{few_moves}
 use Rattle.spread_engine.proofs.spreading.spread_plan.Goals as goal
 
-pub with_even-requires-clause-judged : goal.with_even-requires-clause-judged
-with_even-requires-clause-judged c =
+pub with_even-requires-clause-best : goal.with_even-requires-clause-best
+with_even-requires-clause-best c =
     let p = c.args.instance.now in
-    let spread = c.in_ok-spread.spread in
     let are = subst (λ (x : List ℕ). AreCaps p x) (sym c.in_ok-spread.ensures.caps) c.in_ok-caps.ensures.caps in
-    certified_pass p spread c.is_problem.ensures are c.in_ok-spread.ensures.free c.in_ok-spread.ensures.within
+    (no_best_fault_is_certified p c.in_ok-spread.spread c.is_problem.ensures).1 (are, c.in_ok-spread.ensures.free, c.in_ok-spread.ensures.within)
+
+pub with_even-requires-clause-feasible : goal.with_even-requires-clause-feasible
+with_even-requires-clause-feasible c = c.in_ok-spread.ensures.best.feasible
 
 pub returns-clause-moves : goal.returns-clause-moves
 returns-clause-moves c =

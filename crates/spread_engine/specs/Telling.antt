@@ -1,0 +1,8 @@
+-- What a spread tells of how even it is.
+use Rattle.std.specs.Prelude.{Option}
+use Rattle.spread_certificate.specs.declared.even.Even.{Even}
+use Rattle.spread_certificate.specs.declared.spread.Spread.{Spread}
+
+-- the spread with this in place of what it tells
+abbrev pub telling : Spread → Option Even → Spread
+telling spread even = record spread { even = even }
