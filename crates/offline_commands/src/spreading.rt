@@ -16,6 +16,7 @@ use std::alloc::{AllocError, Global};
 use std::io::{Read, Write};
 
 /// The task of the command `plan --spread`.
+#[derive(Drop)]
 pub struct Spreading {
     options: SpreadOptions,
 }
