@@ -5,7 +5,7 @@ use alloc_desk::{DeskName, Pass};
 use event_loops::Gate;
 use http_get::Scrape;
 use sd_server::{DEFAULT_LOOPS, Handler, serve_by_loops};
-use service_tasks::{Configuration, Crew, JournalFile, Office, Schedule, Shared, Sources, Watch};
+use service_tasks::{Configuration, Crew, JournalFile, Office, Schedule, Shared, Watch};
 use std::alloc::{AllocGlobal, Global};
 use std::fs::OpenFile;
 use std::io::Write;
@@ -109,18 +109,11 @@ where
         served
     }
 
-    /// Refreshes sources side by side until the desk is to be closed, on a thread for each, as far as there are devices.
+    /// Refreshes sources until the desk is to be closed.
     fn refresh<S: Scrape + Send>(&self, pass: &Mutex<Pass<L, B, N>>, watch: &mut Watch<S>) {
         let Watch { devices, sources } = watch;
-        let sources: &Sources = sources;
-        let threads = sources.count().min(devices.len());
-        if threads > 0 {
-            thread::for_each_mut(
-                &self.rt,
-                &mut devices.as_mut_slice()[..threads],
-                threads,
-                &|_, device| self.shared.refresh_sources(pass, sources, device),
-            );
+        if let Some(device) = devices.first_mut() {
+            self.shared.refresh_sources(pass, sources, device);
         }
     }
 
