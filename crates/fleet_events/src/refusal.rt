@@ -5,6 +5,7 @@ ghost use Rattle.fleet_events.specs.Lines.{refusal_line};
 use crate::ids::{AllocationNumber, CollectorId, Round};
 use lists::Plain;
 use price_certificate::Fault;
+use spread_certificate::SpreadFault;
 use std::alloc::{AllocError, Global};
 
 /// Why an event changed nothing.
@@ -30,6 +31,8 @@ pub enum Refusal {
     AlreadyDraining,
     /// The checker's first fault of the plan.
     Refused(Fault),
+    /// The judge's first fault of the spread.
+    RefusedSpread(SpreadFault),
     /// The plan has the pairs of the current allocation, which has this number.
     Unchanged(AllocationNumber),
     /// The last number of an allocation is given.
@@ -68,6 +71,7 @@ impl Refusal {
             Refusal::UnknownCollector => String::from_str(alloc, "UnknownCollector"),
             Refusal::AlreadyDraining => String::from_str(alloc, "AlreadyDraining"),
             Refusal::Refused(fault) => refused_line(alloc, fault),
+            Refusal::RefusedSpread(fault) => refused_spread_line(alloc, fault),
             Refusal::Unchanged(number) => format!(in alloc; "Unchanged {number}"),
             Refusal::NumbersSpent => String::from_str(alloc, "NumbersSpent"),
             Refusal::RoundsSpent => String::from_str(alloc, "RoundsSpent"),
@@ -87,6 +91,16 @@ fn refused_line(alloc: Global, fault: &Fault) -> Result<String, AllocError>
     ensures { IfOk result (λ s. string_bytes s ≡ refusal_line (Refusal.Refused fault.now)) }
 {
     let mut line = String::from_str(alloc, "Refused ")?;
+    let rest = fault.line(alloc)?;
+    line.push_str(rest.as_str())?;
+    Ok(line)
+}
+
+/// `RefusedSpread`, and the fault's line after one space.
+fn refused_spread_line(alloc: Global, fault: &SpreadFault) -> Result<String, AllocError>
+    ensures { IfOk result (λ s. string_bytes s ≡ refusal_line (Refusal.RefusedSpread fault.now)) }
+{
+    let mut line = String::from_str(alloc, "RefusedSpread ")?;
     let rest = fault.line(alloc)?;
     line.push_str(rest.as_str())?;
     Ok(line)
