@@ -78,14 +78,14 @@ last_once [] once = λ target. omega arith
 last_once (pairs ∷ published) once = once (length published) [] (omega arith)
 
 -- what the event itself published
-pub record IsHere (m : State) (e : Event) (es : List Event) (k : ℕ) (plan : List (ℕ × ℕ)) (pairs : List (ℕ × ℕ)) : Type 0 where
+pub record IsHere (m : State) (e : Event) (k : ℕ) (plan pairs : List (ℕ × ℕ)) : Type 0 where
   pub is : pairs ≡ allocation_at m plan
   pub before : length m.published ≡ k
   pub answered : answer_of m e ≡ Published (k + 1)
   pub granted : (state_after m e).published ≡ m.published ++ pairs ∷ []
 
 is_here :
-    (m : State) (e : Event) (es : List Event) (k : ℕ) → length m.published ≤ k → k < length (state_after m e).published → (p : Publishes m e) → IsHere m e es k p.pairs (get_or (state_of (state_after m e) es).published k [])
+    (m : State) (e : Event) (es : List Event) (k : ℕ) → length m.published ≤ k → k < length (state_after m e).published → (p : Publishes m e) → IsHere m e k p.pairs (get_or (state_of (state_after m e) es).published k [])
 is_here m e es k low high p =
     let rest = run_grows (state_after m e) es in
     let size : length (state_after m e).published ≡ length m.published + 1 = omega (arith, ap (λ (ps : List (List (ℕ × ℕ))). length ps) p.grown, length-append m.published (allocation_at m p.pairs ∷ [])) in
@@ -103,7 +103,7 @@ is_here m e es k low high p =
 
 -- an Install published it
 install_best :
-    Laws → (m : State) (e : Event) (es : List Event) (k : ℕ) (plan pairs : List (ℕ × ℕ)) → IsKept m → All IsOnce m.published → IsHere m e es k plan pairs → IsFineInstall m e plan → WasBest m (e ∷ es) k pairs
+    Laws → (m : State) (e : Event) (es : List Event) (k : ℕ) (plan pairs : List (ℕ × ℕ)) → IsKept m → All IsOnce m.published → IsHere m e k plan pairs → IsFineInstall m e plan → WasBest m (e ∷ es) k pairs
 install_best laws m e es k plan pairs kept once here p =
     let problem = laws.problems m.fleet (current_pairs m) kept.fleet in
     let optimal_plan : IsOptimal (instance_at m) p.plan.pairs =
@@ -129,7 +129,7 @@ install_best laws m e es k plan pairs kept once here p =
 
 -- a Spread published it
 spread_best :
-    Laws → (m : State) (e : Event) (es : List Event) (k : ℕ) (plan pairs : List (ℕ × ℕ)) → IsKept m → All IsOnce m.published → IsHere m e es k plan pairs → IsFineSpread m e plan → WasBestWithin m (e ∷ es) k pairs
+    Laws → (m : State) (e : Event) (es : List Event) (k : ℕ) (plan pairs : List (ℕ × ℕ)) → IsKept m → All IsOnce m.published → IsHere m e k plan pairs → IsFineSpread m e plan → WasBestWithin m (e ∷ es) k pairs
 spread_best laws m e es k plan pairs kept once here p =
     let problem = laws.problems m.fleet (current_pairs m) kept.fleet in
     let caps : List ℕ = p.spread.caps in
@@ -158,7 +158,7 @@ here_best :
     Laws → (m : State) (e : Event) (es : List Event) (k : ℕ) → IsKept m → All IsOnce m.published → length m.published ≤ k → k < length (state_after m e).published → Publishes m e → WasPublished m (e ∷ es) k (get_or (state_of (state_after m e) es).published k [])
 here_best laws m e es k kept once low high p =
     let pairs : List (ℕ × ℕ) = get_or (state_of (state_after m e) es).published k [] in
-    let here : IsHere m e es k p.pairs pairs = is_here m e es k low high p in
+    let here : IsHere m e k p.pairs pairs = is_here m e es k low high p in
     elim p.fine [
       | inl fine ↦ inl (install_best laws m e es k p.pairs pairs kept once here fine)
       | inr fine ↦ inr (spread_best laws m e es k p.pairs pairs kept once here fine)

@@ -48,7 +48,8 @@ impl Core {
         if let Some(fault) = fault_in(self.alloc, &instance, &plan)? {
             return Ok(Answer::Not(Refusal::Refused(fault)));
         }
-        self.publish(live.as_slice(), instance, plan)
+        let answer = self.publish(live.as_slice(), instance, plan)?;
+        Ok(answer)
     }
 
     /// A plan within caps is published, where the judge finds no fault of it at the instance of this moment.
@@ -65,7 +66,10 @@ impl Core {
         let before = self.holders.current_pairs();
         let instance = build_instance(self.alloc, &self.fleet, live.as_slice(), before)?;
         match capped_by(self.alloc, &instance, &spread)? {
-            Ok(capped) => self.publish(live.as_slice(), capped, spread.plan),
+            Ok(capped) => {
+                let answer = self.publish(live.as_slice(), capped, spread.plan)?;
+                Ok(answer)
+            }
             Err(fault) => Ok(Answer::Not(Refusal::RefusedSpread(fault))),
         }
     }
