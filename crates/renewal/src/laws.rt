@@ -3,7 +3,8 @@ ghost use Rattle.renewal.specs.Continuity.{RenewalsContinue};
 ghost use Rattle.renewal.specs.Histories.{HistoriesAreGood};
 
 use fleet_assignment::{
-    allocations_are_once, feasible_are_carried_over, instances_are_problems, optimal_is_best,
+    allocations_are_once, best_within_is_carried_over, feasible_are_carried_over,
+    instances_are_problems, optimal_is_best,
 };
 use price_certificate::{certified_is_optimal, no_fault_is_certified};
 
@@ -23,6 +24,7 @@ pub fn histories_are_good()
     instances_are_problems();
     feasible_are_carried_over();
     optimal_is_best();
+    best_within_is_carried_over();
     allocations_are_once();
     certified_is_optimal();
     no_fault_is_certified();
