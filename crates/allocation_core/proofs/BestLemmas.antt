@@ -1,6 +1,6 @@
 -- Every published allocation is the best of its moment, or the best within caps that cost nothing.
 use Rattle.std.proofs.Common.{◌≡◌, ℕ, zero, suc, ◌+◌, ◌<◌, ◌≤◌, ◌||◌, Bool, true, false, List, [], ◌∷◌, ◌++◌, All, length, get_or, refl, sym, ap, subst, ◌∙◌, inl, inr, arith, append_assoc, length-append}
-use Rattle.std.specs.Prelude.{AllPairs, IfSome}
+use Rattle.std.specs.Prelude.{AllPairs}
 use Rattle.std.specs.List.{list_any}
 use Rattle.std.proofs.lemmas.List.{append-nil}
 use Rattle.std.proofs.lemmas.List.Elements.{All-nil, All-push}
@@ -23,7 +23,7 @@ use Rattle.allocation_core.specs.State.{State, allocation_at, current_pairs, fir
 use Rattle.allocation_core.specs.Steps.{answer_of, state_after}
 use Rattle.allocation_core.specs.Runs.{state_of}
 use Rattle.allocation_core.specs.Kept.{IsKept}
-use Rattle.allocation_core.specs.Best.{AllBest, AlwaysBest, AlwaysMost, InstalledAreBest, PublishedCoverMost, WasBest, WasBestWithin, WasMost, WasPublished, is_spread}
+use Rattle.allocation_core.specs.Best.{AllBest, AlwaysBest, AlwaysMost, InstalledAreBest, PublishedCoverMost, WasBest, WasBestWithin, WasPublished, is_spread}
 use Rattle.allocation_core.proofs.StepLemmas.{step_kept, start_kept, publishes, IsFineInstall, IsFineSpread, Publishes}
 use Rattle.allocation_core.proofs.RunLemmas.{state_of_append}
 

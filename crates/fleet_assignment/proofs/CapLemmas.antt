@@ -1,5 +1,5 @@
 -- What is within caps as a plan is within them as an allocation, and the other way round; so the best is the best.
-use Rattle.std.proofs.Common.{◌≡◌, ℕ, ◌+◌, ◌*◌, ◌≤◌, List, Option, Some, length, cond, eqb, ap, ◌∙◌, inl, inr, arith}
+use Rattle.std.proofs.Common.{◌≡◌, ℕ, ◌+◌, ◌*◌, List, Option, Some, length, cond, eqb, ap, ◌∙◌, inl, inr, arith}
 use Rattle.std.specs.Prelude.{slice_get, slice_index}
 use Rattle.std.specs.Option.{option_map_or}
 use Rattle.price_certificate.specs.Assignment.{IsFeasible, left}
@@ -7,7 +7,7 @@ use Rattle.spread_certificate.specs.Within.{IsWithin, IsBestWithin as IsBestPlan
 use Rattle.fleet.specs.IsFleet.{IsFleet}
 use Rattle.fleet.specs.declared.collector.Collector.{Collector}
 use Rattle.fleet_assignment.specs.Allocation.{allocation_of}
-use Rattle.fleet_assignment.specs.Best.{IsBest, IsOnce, IsSound}
+use Rattle.fleet_assignment.specs.Best.{IsOnce, IsSound}
 use Rattle.fleet_assignment.specs.Instance.{instance_of}
 use Rattle.fleet_assignment.specs.Within.{AreWithin, BestCoverMost, IsBestWithin, cap_at}
 use Rattle.fleet_assignment.proofs.Moment.{Moment}
