@@ -1,8 +1,6 @@
 //! The instance of a moment, and the plans that are installed.
-ghost use Rattle.std.specs.Prelude.{◌≡◌, ◌+◌, None, Some, IfErr, IfOk, OnOk, OnErr, if◌then◌else◌, is_some};
-ghost use Rattle.price_certificate.specs.Derived.{capped};
+ghost use Rattle.std.specs.Prelude.{◌≡◌, ◌+◌, IfOk, OnOk, OnErr, if◌then◌else◌, is_some};
 ghost use Rattle.price_certificate.specs.Faults.{fault_of};
-ghost use Rattle.spread_certificate.specs.Judged.{spread_fault};
 ghost use Rattle.fleet.specs.Fleet.{live_of};
 ghost use Rattle.allocation_core.specs.State.{allocation_at, current_of, instance_at};
 ghost use Rattle.allocation_core.specs.Steps.{answer_by, answer_of, number_refusal, same_pairs, state_after, with_plan};
@@ -15,7 +13,7 @@ use fleet_assignment::{build_allocation, build_instance, instances_are_problems}
 use fleet_events::{Answer, Event, Refusal};
 use handover::HoldersError;
 use price_certificate::{Fault, Instance, Plan, Verdict, check, no_fault_is_certified};
-use spread_certificate::{Spread, SpreadFault, check_spread, no_best_fault_is_certified};
+use spread_certificate::{Spread, check_spread, no_best_fault_is_certified};
 use std::alloc::{AllocError, Global};
 
 impl Core {
@@ -53,7 +51,7 @@ impl Core {
     }
 
     /// A plan within caps is published, where the judge finds no fault of it at the instance of this moment.
-    #[tactic(auto, unfolding(crate::specs::Steps::answer_of, crate::specs::Steps::state_after))]
+    #[tactic(auto, using(crate::proofs::InstalledLemmas::caps_of_fine), unfolding(crate::specs::Steps::answer_of, crate::specs::Steps::state_after))]
     pub(super) fn spread(&mut self, spread: Spread) -> Result<Answer, AllocError>
         ensures answer { IfOk result (λ a. a ≡ answer_of self.old (Event.Spread spread)) }
         ensures state { OnOk result (self.new ≡ state_after self.old (Event.Spread spread)) }
@@ -65,13 +63,12 @@ impl Core {
         let live = self.fleet.live()?;
         let before = self.holders.current_pairs();
         let instance = build_instance(self.alloc, &self.fleet, live.as_slice(), before)?;
-        match capped_by(self.alloc, &instance, &spread)? {
-            Ok(capped) => {
-                let answer = self.publish(live.as_slice(), capped, spread.plan)?;
-                Ok(answer)
-            }
-            Err(fault) => Ok(Answer::Not(Refusal::RefusedSpread(fault))),
+        if let Some(fault) = check_spread(self.alloc, &instance, &spread)? {
+            return Ok(Answer::Not(Refusal::RefusedSpread(fault)));
         }
+        let capped = instance.capped(self.alloc, spread.caps.as_slice())?;
+        let answer = self.publish(live.as_slice(), capped, spread.plan)?;
+        Ok(answer)
     }
 
     /// The allocation of a plan is published, with the instance that its prices certify it for, unless it is the current one. The live
@@ -102,24 +99,6 @@ impl Core {
             Err(_) => Err(AllocError),
         }
     }
-}
-
-/// The instance within the caps of a spread, where that has no fault, or its first fault.
-#[tactic(auto, using(crate::proofs::InstalledLemmas::caps_of_fine))]
-fn capped_by(
-    alloc: Global,
-    instance: &Instance,
-    spread: &Spread,
-) -> Result<Result<Instance, SpreadFault>, AllocError>
-    ensures capped { IfOk result (λ r. IfOk r (λ i. i ≡ capped spread.now.caps instance.now)) }
-    ensures fine { IfOk result (λ r. OnOk r (spread_fault instance.now spread.now ≡ None)) }
-    ensures fault { IfOk result (λ r. IfErr r (λ f. spread_fault instance.now spread.now ≡ Some f)) }
-{
-    if let Some(fault) = check_spread(alloc, instance, spread)? {
-        return Ok(Err(fault));
-    }
-    let capped = instance.capped(alloc, spread.caps.as_slice())?;
-    Ok(Ok(capped))
 }
 
 /// The first fault of a plan.
