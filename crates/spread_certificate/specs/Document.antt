@@ -28,10 +28,10 @@ even_of jobs slack levels keep item_prices bin_prices witness =
 
 unfoldable pub even_in : Data → Option Even
 even_in d =
-    option_and_then (λ jobs. option_and_then (λ slack. option_and_then (λ levels. option_and_then (λ keep. option_and_then (λ item_prices. option_and_then (λ bin_prices.
+    option_and_then (λ jobs. option_and_then (λ slack. option_and_then (λ keep. option_and_then (λ levels. option_and_then (λ item_prices. option_and_then (λ bin_prices.
     option_map (even_of jobs slack levels keep item_prices bin_prices) (optional_in (list_in pair_in) (get (codes "pairs") d)))
-    (member_in (list_in number_in) (codes "bin_prices") d)) (member_in (list_in number_in) (codes "item_prices") d)) (member_in number_in (codes "keep") d))
-    (member_in (list_in number_in) (codes "levels") d)) (member_in number_in (codes "slack") d)) (member_in number_in (codes "jobs") d)
+    (member_in (list_in number_in) (codes "bin_prices") d)) (member_in (list_in number_in) (codes "item_prices") d)) (member_in (list_in number_in) (codes "levels") d))
+    (member_in number_in (codes "keep") d)) (member_in number_in (codes "slack") d)) (member_in number_in (codes "jobs") d)
 
 abbrev pub spread_of : Plan → List ℕ → List ℕ → List ℕ → Option Even → Spread
 spread_of plan caps free_item_prices free_bin_prices even = record { caps = caps; plan = plan; free_item_prices = free_item_prices; free_bin_prices = free_bin_prices; even = even }

@@ -70,10 +70,10 @@ impl Spelled for Even {
         let Some(slack) = member(alloc, value, "slack")? else {
             return Ok(None);
         };
-        let Some(levels) = member(alloc, value, "levels")? else {
+        let Some(keep) = member(alloc, value, "keep")? else {
             return Ok(None);
         };
-        let Some(keep) = member(alloc, value, "keep")? else {
+        let Some(levels) = member(alloc, value, "levels")? else {
             return Ok(None);
         };
         let Some(item_prices) = member(alloc, value, "item_prices")? else {
@@ -100,9 +100,6 @@ impl Spelled for Even {
 
     #[tactic(auto, unfolding(crate::specs::Document::even_in))]
     fn write(&self, alloc: Global) -> Result<Value, AllocError> {
-        let jobs = self.jobs.write(alloc)?;
-        let keep = self.keep.write(alloc)?;
-        let slack = self.slack.write(alloc)?;
         let levels = self.levels.write(alloc)?;
         let item_prices = self.item_prices.write(alloc)?;
         let bin_prices = self.bin_prices.write(alloc)?;
@@ -112,21 +109,21 @@ impl Spelled for Even {
                 json!(in alloc; {
                     "bin_prices": bin_prices,
                     "item_prices": item_prices,
-                    "jobs": jobs,
-                    "keep": keep,
+                    "jobs": self.jobs,
+                    "keep": self.keep,
                     "levels": levels,
                     "pairs": pairs,
-                    "slack": slack
+                    "slack": self.slack
                 })
             }
             None => {
                 json!(in alloc; {
                     "bin_prices": bin_prices,
                     "item_prices": item_prices,
-                    "jobs": jobs,
-                    "keep": keep,
+                    "jobs": self.jobs,
+                    "keep": self.keep,
                     "levels": levels,
-                    "slack": slack
+                    "slack": self.slack
                 })
             }
         }
