@@ -2,11 +2,11 @@
 # Processor time and peak memory of `allocd plan` and of `allocd plan --spread` on the same file in one run, for the families of
 # bench/instances.py that are made for it, the highest load of a collector in each plan, and how many items move. Times are of whole
 # programs, reading and writing included, the least of some runs. `allocd check` has to find each plan best.
-# usage: bench/spread.sh [FAMILY..]      (RUNS=3 in the environment says how many runs)
+# usage: bench/spread.sh [FAMILY..]      (RUNS=3 in the environment says how many runs, PROGRAM=PATH which program to measure)
 set -eu
 root=$(cd "$(dirname "$0")/.." && pwd)
 . "$root/scripts/program.sh"
-allocd=$(allocd_program "$root" < /dev/null)
+allocd=${PROGRAM:-$(allocd_program "$root" < /dev/null)}
 folder=$(mktemp -d)
 trap 'rm -rf "$folder"' EXIT
 runs=${RUNS:-3}

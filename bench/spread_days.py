@@ -89,7 +89,7 @@ class World:
             self.collectors.append(Collector(self))
         elif chance < 0.20 and len(self.collectors) > FEWEST_COLLECTORS:
             self.collectors.remove(source.choice(self.collectors))
-        elif chance < 0.28 and not draining:
+        elif chance < 0.28 and len(self.collectors) > FEWEST_COLLECTORS and not draining:
             source.choice(self.collectors).draining = True
         elif chance < 0.60 and draining:
             self.collectors = [c for c in self.collectors if not c.draining]
