@@ -4,10 +4,29 @@
 . "$root/scripts/program.sh"
 allocd=$(allocd_program "$root" < /dev/null)
 
-# the first argument of what it prints says which program: see crates/bench_programs/src/main.rt
+# The programs of bench/programs are no part of the gate, which refuses sources that it does not prove: so they end with `.txt` there. They are
+# proved and built in a folder that has the crates they stand on, too.
+# usage: fill_room ROOM
+fill_room() {
+    local folder room part
+    mkdir -p "$1"
+    cp "$root/HANDLES" "$1/HANDLES"
+    cat "$root/crates.txt" "$root/bench/programs/lines.txt" > "$1/crates.txt"
+    for folder in "$root"/crates/* "$root"/bench/programs/*/; do
+        room=$1/crates/$(basename "$folder")
+        mkdir -p "$room"
+        find "$room" -mindepth 1 -maxdepth 1 ! -name out -exec rm -rf {} +
+        find "$folder" -mindepth 1 -maxdepth 1 ! -name out -exec cp -r {} "$room/" \;
+    done
+    find "$1/crates" -name out -prune -o \( -name '*.rt.txt' -o -name '*.antt.txt' \) -exec sh -c 'mv "$1" "${1%.txt}"' sh {} \;
+}
+
+# the first argument of what it prints says which program: see bench/programs/bench_programs/src/main.rt.txt
 bench_programs() {
-    local folder=$root/crates/bench_programs
-    is_made "$root" "$folder/out/bench_programs" "$folder/out/bench_programs.made" ||
-        build_program "$root" bench_programs "$folder/stdin" relabel 3 || return 1
+    local room=${XDG_CACHE_HOME:-$HOME/.cache}/allocd/bench
+    local folder=$room/crates/bench_programs
+    fill_room "$room"
+    is_made "$room" "$folder/out/bench_programs" "$folder/out/bench_programs.made" ||
+        build_program "$room" bench_programs "$folder/stdin" relabel 3 || return 1
     echo "$folder/out/bench_programs"
 }

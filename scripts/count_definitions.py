@@ -17,9 +17,9 @@ ROOT = pathlib.Path(__file__).resolve().parent.parent / "crates"
 CLAIMS = [
     ("An optimal plan", "what *best* of `allocd check` and `allocd plan` says", ["IsOptimal"]),
     ("The verdict of `check`", "when it is best, and else which fault it names with which numbers", ["verdict_of", "IsCertified"]),
-    ("A spread", "what *capped* and *even* of `allocd check` say of a plan", ["IsBestWithin", "IsEvenWithin"]),
+    ("A spread", "what *capped* and *even* of `allocd check` say of a plan", ["spread_certificate.IsBestWithin", "IsEvenWithin"]),
     ("A best allocation", "what *best of its moment* says of a published allocation", ["IsBest"]),
-    ("The whole headline", "all steps of the machine, every published allocation and every booked report", ["AlwaysBest", "AlwaysBooked"]),
+    ("The whole headline", "all steps of the machine, every published allocation and every booked report", ["AlwaysBest", "AlwaysMost", "AlwaysBooked"]),
 ]
 HEAD = re.compile(r"(?:abbrev |unfoldable )?pub (?:record |rec )?([^\s:({]+)")
 WORD = re.compile(r"◌\S+?◌|[A-Za-z_][\w'-]*")
@@ -101,7 +101,8 @@ def outside_in_words(outside):
 
 
 def part(definitions, imports, title, says, names):
-    starts = [key for key in definitions if key[2] in names]
+    # a name that several crates have is told with its crate
+    starts = [key for key in definitions if key[2] in names or f"{key[0]}.{key[2]}" in names]
     if len(starts) != len(names):
         sys.exit(f"{title}: {names} are {starts}")
     seen, outside = closure(definitions, imports, starts)
@@ -112,7 +113,8 @@ def part(definitions, imports, title, says, names):
             modules[key[:2]].append(key[2])
     yield f"### {title}: {len(seen)} definitions, {lines} lines\n\n"
     crates = len({crate for crate, _ in modules})
-    yield f"{says[0].upper() + says[1:]}: {', '.join(f'`{it}`' for it in names)}, in {len(modules)} files of {crates} crate{'s' * (crates > 1)}.\n\n"
+    shown = ", ".join(f"`{it.rpartition('.')[2]}`" for it in names)
+    yield f"{says[0].upper() + says[1:]}: {shown}, in {len(modules)} files of {crates} crate{'s' * (crates > 1)}.\n\n"
     yield "| File | Lines | Definitions |\n|---|---|---|\n"
     for (crate, module), found in sorted(modules.items()):
         count = sum(definitions[crate, module, name][0] for name in found)

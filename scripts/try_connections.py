@@ -408,10 +408,10 @@ def reload_beside_slow_ones(folder):
 
 def places(folder):
     """As many connections as there are places, of strangers that keep them."""
-    with served(folder, config(), descriptors=256) as service:
+    with served(folder, config(), descriptors=352) as service:
         port = service.port
         most = service.figure("allocd_http_connections_max")
-        tell("there are as many places as descriptors beside 64", most == 192, most)
+        tell("there are as many places as descriptors beside 160", most == 192, most)
         held, said = [], []
         for _ in range(2 * most):
             held.append(Client(port, 5))

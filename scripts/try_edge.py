@@ -2,8 +2,9 @@
 """Runs `allocd serve` over settings, sources and figures that scripts/try_serve.py does not look at, and tells of each thing whether it holds: try_edge.py [PART ..]
 
 Where it listens and keeps its journal, each job's own rules, reloads with more sources, other orders and too many jobs, who is uncovered,
-names as text, what is counted, what strangers send and don't send, answers to the byte, rounds. It needs Linux and the program (ALLOCD_PROGRAM, or dist/allocd)."""
+names as text, what is counted, what strangers send and don't send, answers to the byte, rounds over renewals and starts, YAML, lists that are acknowledged, loads that are made even. It needs Linux and the program (ALLOCD_PROGRAM, or dist/allocd)."""
 
+import http.client
 import http.server
 import json
 import os
@@ -11,19 +12,21 @@ import socket
 import sys
 import threading
 import time
+import urllib.parse
 
-from allocd_service import Service, comes, lines_of, run
+from allocd_service import Service, comes, events_in, lines_of, replayed, run
 from parts import run_parts, tell
 
 ANY = [{"allow": True, "test": "any"}]
 
 
 class Source(http.server.BaseHTTPRequestHandler):
-    """Lists of targets by path."""
+    """Lists of targets by path, and when each was asked for."""
 
-    lists = {}
+    lists, asked = {}, {}
 
     def do_GET(self):
+        self.asked.setdefault(self.path, []).append(time.monotonic())
         body = json.dumps([{"targets": self.lists.get(self.path, [])}]).encode()
         self.send_response(200)
         self.send_header("content-type", "application/json")
@@ -35,9 +38,9 @@ class Source(http.server.BaseHTTPRequestHandler):
         pass
 
 
-def url(path):
-    """A URL of such a list, which is asked for twice a second."""
-    return {"url": f"http://127.0.0.1:{SOURCE.server_port}{path}", "refresh_interval": "500ms"}
+def url(path, every="500ms", port=None):
+    """A URL of such a list, or of a source at another port, which is asked for so often."""
+    return {"url": f"http://127.0.0.1:{port or SOURCE.server_port}{path}", "refresh_interval": every}
 
 
 def static(name, count, first=9000, **more):
@@ -184,6 +187,8 @@ def figures(folder):
     counted = lambda: {name: service.figure(name) for name in COUNTED}
     same = comes(lambda: counted() == COUNTED, 5)
     tell("events, requests, samples and targets are counted", same, "" if same else counted())
+    asked = [service.figure(f'allocd_collector_last_take_timestamp_seconds{{collector="{name}"}}') for name in "ab"]
+    tell("and when each collector asked last", time.time() - 60 < asked[0] <= time.time() and asked[1] == 0, asked)
     first = lines_of(f"{folder}/journal").index(b"\n") + 1
     bytes_written = lambda: len(lines_of(f"{folder}/journal")) - first
     tell("so are the bytes of the journal", comes(lambda: service.figure("allocd_journal_written_bytes_total") == bytes_written(), 5))
@@ -352,7 +357,191 @@ def rounds(folder):
     ends(service)
 
 
+def changes_from(service, number):
+    """When another round is open than that of a number."""
+    comes(lambda: service.figure("allocd_round") not in (None, number), 20)
+    return time.monotonic()
+
+
+def opens_after(service, journal):
+    """When the round opens that follows the one which a renewal has opened."""
+    comes(lambda: os.path.exists(journal) and service.ask("GET", "/-/ready")[0] == 200, 20)
+    return changes_from(service, service.figure("allocd_round"))
+
+
+def headers_of(service, path, accept=None):
+    """The headers and the text of an answer."""
+    it = http.client.HTTPConnection("127.0.0.1", service.port, timeout=30)
+    it.request("GET", path, headers={"accept": accept} if accept else {})
+    answer = it.getresponse()
+    text = answer.read().decode()
+    it.close()
+    return answer.headers, text
+
+
+ROUND = 6
+
+
+def rounds_kept(folder):
+    """A round of 6 seconds ends when it would have, whatever comes in the midst of it."""
+    one, two, three = static("a", 1), static("b", 1), static("c", 1)
+    service = started(folder, [one], interval=f"{ROUND}s")
+    on_time = lambda opened, last: (abs(opened - last - ROUND) < 1, f"{opened - last:.2f} seconds after the one before")
+    last = changes_from(service, service.figure("allocd_round"))
+    time.sleep(2)
+    reloaded(service, config([one, two], interval=f"{ROUND}s"))
+    opened = opens_after(service, f"{folder}/journal.1")
+    tell("a renewal in the midst of a round", *on_time(opened, last))
+    last += ROUND
+    time.sleep(2)
+    service.quit()
+    service = started(folder, [one, two], interval=f"{ROUND}s")
+    number = service.figure("allocd_round")
+    has(service, "allocd_targets_covered{job=\"b\"}", 1)
+    age = int(headers_of(service, "/jobs/b/targets?collector_id=a")[0]["x-scrape-round-age"]) / 1000
+    passed = time.monotonic() - last
+    tell("after a start the open round has its age", abs(age - passed) < 1, f"{age:.2f} of {passed:.2f} seconds")
+    tell("a start in the midst of a round", *on_time(changes_from(service, number), last))
+    last += ROUND
+    time.sleep(2)
+    service.quit()
+    service = started(folder, [one, two, three], interval=f"{ROUND}s")
+    opened = opens_after(service, f"{folder}/journal.2")
+    tell("a start with another job in the midst of a round", *on_time(opened, last))
+    ends(service)
+
+
+def yaml(folder):
+    service = started(folder, [static("n", 2)])
+    has(service, 'allocd_targets_covered{job="n"}', 2)
+    for path in ("/scrape_configs", "/jobs", "/jobs/n/targets", "/jobs/n/targets?collector_id=a"):
+        as_json = headers_of(service, path)[1]
+        said = [(headers_of(service, path, accept), accept, is_yaml) for accept, is_yaml in ACCEPTS]
+        media = lambda is_yaml: "application/yaml" if is_yaml else "application/json"
+        right = all(text == as_json and headers["content-type"] == media(is_yaml) for (headers, text), _, is_yaml in said)
+        tell(f"{path} is YAML for who asks for that, in the same bytes", right)
+    headers, text = headers_of(service, "/jobs/none/targets", "application/yaml")
+    tell("a refusal is JSON", (headers["content-type"], text) == ("application/json", '{"refused":"UnknownJob"}'))
+    ends(service)
+
+
+def own_of(groups):
+    """The service's own target among a list's: what a Prometheus asks of it."""
+    [own] = [group for group in groups if group["labels"]["__metrics_path__"] == "/acknowledged"]
+    parameters = {label[len("__param_") :]: value for label, value in own["labels"].items() if label.startswith("__param_")}
+    return own["targets"][0], parameters, own["labels"]["__scheme__"]
+
+
+def acknowledge(folder):
+    job = 'node/"a b"&c=+é'
+    path = f"/jobs/{urllib.parse.quote(job, safe='')}/targets?collector_id="
+    both = [{"name": name, "reach": ANY} for name in "ab"]
+    more = {"rejoin": False, "collectors": both}
+    service = Service(folder, lambda port: config([static(job, 8)], listen=f"127.0.0.1:{port}", acknowledge=f"127.0.0.1:{port}", **more), f"{folder}/journal")
+    service.is_up()
+    has(service, "allocd_allocation", 1)
+    given = lambda name: json.loads(service.ask("GET", path + name)[1])
+    addresses = lambda groups: {group["targets"][0] for group in groups if group["labels"]["__metrics_path__"] != "/acknowledged"}
+    scrapes = lambda **parameters: service.ask("GET", f"/acknowledged?{urllib.parse.urlencode(parameters)}")
+    events = lambda: len(lines_of(f"{folder}/journal").split(b"\n"))
+    first, other = given("a"), given("b")
+    where, asked, scheme = own_of(first)
+    tell("each list has the service itself as one target more", (len(first), len(other), where, scheme) == (9, 1, f"127.0.0.1:{service.port}", "http"), first[0])
+    tell("its parameters name the list", (sorted(asked), asked["job"], asked["collector"], asked["list"]) == (["collector", "epoch", "job", "list"], job, "1", "1"), asked)
+    tell("who scrapes it gets an empty text of figures", scrapes(**asked) == (200, ""))
+    service.ask("PUT", "/collectors/1/limits", {"limits": {job: 2}})
+    has(service, "allocd_allocation", 2)
+    # once a list is told, all that it rests on stands in the file
+    waiting = given("a")
+    before = events()
+    stay = addresses(waiting)
+    tell("a list that is to let targets go keeps those that stay, and has none that is new", len(stay) == 2 and stay < addresses(first), stay)
+    tell("with the number of the current allocation", own_of(waiting)[1]["list"] == "2")
+    served = given("b")
+    tell("what goes is in no other list meanwhile", addresses(served) == addresses(other))
+    now = own_of(waiting)[1]
+    wrong = [asked, {**now, "epoch": 1}, {**now, "list": 3}, {**now, "collector": 2}, {**now, "collector": 9}, {**now, "job": "node"}]
+    tell("another list, epoch, collector or job is told in vain", all(scrapes(**it) == (200, "") for it in wrong) and given("a") == waiting and addresses(given("b")) == addresses(other))
+    # the other collector's list of the second allocation is the one event
+    tell("lists that wait are no events", events() == before + 1, (before, events()))
+    tell("a scrape that is none is refused", (scrapes()[0], scrapes(**{**now, "list": "x"})[0]) == (400, 400))
+    scrapes(**now)
+    tell("a list that is followed lets nothing go by itself", addresses(given("b")) == addresses(other))
+    tell("the next one does", (given("a"), len(addresses(given("b")))) == (waiting, 6))
+    service.ask("DELETE", "/collectors/1")
+    tell("who left is given the empty list, and lets go by asking", (given("a"), comes(lambda: len(addresses(given("b"))) == 8, 20)) == ([], True))
+    ends(service)
+    free = Service(folder, config([static(job, 8)], **more))
+    free.is_up()
+    has(free, "allocd_allocation", 1)
+    tell("without `acknowledge` lists have no such target, and there is no such path", ("acknowledged" in free.ask("GET", path + "a")[1], free.ask("GET", f"/acknowledged?{urllib.parse.urlencode(asked)}")) == (False, (404, '{"refused":"NoRoute"}')))
+    ends(free)
+
+
+def spreads(folder):
+    three = [{"name": name, "reach": ANY} for name in "abc"]
+    even = lambda **spread: config([static("n", 9)], collectors=three[:2], spread=spread)
+    service = Service(folder, even(slack=0), f"{folder}/journal")
+    service.is_up()
+    loads = lambda: sorted(service.figure(f'allocd_collector_targets{{collector="{name}"}}') or 0 for name in "abc")
+    becomes = lambda *wanted: comes(lambda: loads() == list(wanted), 10)
+    tell("loads are even from the first allocation on", becomes(0, 4, 5), loads())
+    service.ask("POST", "/collectors", three[2])
+    tell("a newcomer is filled", becomes(3, 3, 3), loads())
+    number, moved = service.figure("allocd_allocation"), service.figure("allocd_allocation_moved")
+    tell("with no more moves than that takes", moved == 3, moved)
+    time.sleep(0.5)
+    tell("and then nothing moves", service.figure("allocd_allocation") == number)
+    status, document = service.ask("GET", "/certificate")
+    judged = run(["check"], document.encode())
+    tell("its certificate is that of the best within the caps", (status, judged[0], judged[1][:4]) == (200, 0, b"best"), judged)
+    tell("such an allocation is an event of its own", b'"event":"spread"' in lines_of(f"{folder}/journal") and b'"event":"install"' not in lines_of(f"{folder}/journal"))
+    counted = [service.figure(f'allocd_events_total{{event="{kind}",answer="Published"}}') or 0 for kind in ("spread", "install")]
+    tell("and is counted as one", counted[0] > 0 == counted[1], counted)
+    tell("a bound is read again", reloaded(service, even(slack=0, most_moves=1)) == 200)
+    service.ask("PUT", "/collectors/3/limits", {"limits": {"n": 1}})
+    tell("what may not stay moves at once, whatever the bound", becomes(1, 4, 4), loads())
+    service.ask("PUT", "/collectors/3/limits", {"limits": {}})
+    tell("what may be evened moves by as many as the bound says, until loads are even", becomes(3, 3, 3), loads())
+    tell("the last time, too", service.figure("allocd_allocation_moved") == 1, service.figure("allocd_allocation_moved"))
+    tell("without the setting", reloaded(service, config([static("n", 9)], collectors=three[:2])) == 200)
+    service.ask("DELETE", "/collectors/3")
+    tell("only what has to move does", comes(lambda: sum(loads()) == 9 and loads()[0] == 0, 10) and service.figure("allocd_allocation_moved") == 0, loads())
+    ends(service)
+    status, out = run(["audit", f"{folder}/journal"])
+    tell("the journal is audited", status == 0, out.decode().strip().rpartition("\n")[2])
+    wrong = Service(folder, even(slack=1001))
+    wrong.ended()
+    with open(f"{folder}/log") as it:
+        tell("a slack above 1,000 is refused by name", "allocator.spread.slack: no whole number from 0 to 1000" in it.read())
+
+
+def evens(folder):
+    both = [{"name": name, "reach": ANY} for name in "ab"]
+    jobs = [static("node", 7), static("web", 5, 9100)]
+    loads = lambda: tuple(service.figure(f'allocd_collector_targets{{collector="{name}"}}') for name in "ab")
+    service = started(folder, jobs)
+    has(service, "allocd_allocation", 1)
+    reloaded(service, config(jobs, collectors=both))
+    joined = comes(lambda: loads() == (12, 0), 20)
+    time.sleep(1)
+    tell("without `spread` a collector that joins gets nothing of what another one has", (joined, loads(), service.figure("allocd_allocation")) == (True, (12, 0), 1))
+    reloaded(service, config(jobs, collectors=both, spread={"slack": 0, "most_moves": 2}))
+    even = comes(lambda: loads() == (6, 6), 20)
+    time.sleep(1)
+    tell("with it loads are made even, so many targets at a time, until they are", (even, loads(), service.figure("allocd_allocation")) == (True, (6, 6), 4))
+    tell("each time by an event of its own", sum(event["event"] == "spread" for event in events_in(lines_of(f"{folder}/journal"))) == 3)
+    status, told, _ = replayed(f"{folder}/journal")
+    tell("which a replay answers as the service did", (status, [answer for event, answer in told if event["event"] == "spread"]) == (0, [f"Published {number}" for number in (2, 3, 4)]))
+    reloaded(service, config(jobs, collectors=both))
+    time.sleep(1)
+    tell("where it is taken out nothing moves back", (loads(), service.figure("allocd_allocation")) == ((6, 6), 4))
+    tell("a slack that is none is refused", reloaded(service, config(jobs, collectors=both, spread={"slack": -1})) == 500)
+    ends(service)
+
+
 SOURCE = http.server.ThreadingHTTPServer(("127.0.0.1", 0), Source)
 SOURCE.daemon_threads = True
 threading.Thread(target=SOURCE.serve_forever, daemon=True).start()
-run_parts((settings, relabels, reloads, uncovered, texts, figures, talks, requests, held_rows, stalls, rounds), sys.argv[1:])
+PARTS = (settings, relabels, reloads, uncovered, texts, figures, talks, requests, held_rows, stalls, rounds, rounds_kept, yaml, acknowledge, spreads, evens)
+run_parts(PARTS, sys.argv[1:])

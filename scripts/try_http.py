@@ -1,5 +1,5 @@
 #!/usr/bin/env python3
-"""Asks a service what docs/HTTP.md shows in its part *Each with an answer*, and compares what it says with what stands there: try_http.py
+"""Asks services what docs/HTTP.md shows in its parts with answers, and compares what they say with what stands there: try_http.py [PART ..]
 
 A line for each request, and what was said in place of what stands there. It needs the program (ALLOCD_PROGRAM, or dist/allocd), and no curl."""
 
@@ -17,13 +17,18 @@ CONFIG = {
     "scrape_configs": [{"job_name": "node", "static_configs": [{"targets": ["h:1"]}]}, {"job_name": "serviceMonitor/default/app/0"}],
     "allocator": {"settle": "100ms", "lifecycle": True},
 }
+# The same with lists that are acknowledged.
+ACKNOWLEDGED = {
+    "scrape_configs": CONFIG["scrape_configs"][:1],
+    "allocator": {**CONFIG["allocator"], "acknowledge": "localhost:8080", "collectors": [{"name": "a", "reach": [{"allow": True, "test": "any"}]}]},
+}
 PROMPT = "    $ curl "
 
 
-def exchanges():
-    """The words of each `curl` of the document, and the lines below it."""
+def exchanges(title):
+    """The words of each `curl` of a part of the document, and the lines below it."""
     with open(f"{ROOT}/docs/HTTP.md") as it:
-        part = it.read().split("### Each with an answer")[1].split("\n## ")[0]
+        part = it.read().split(f"### {title}\n")[1].split("\n## ")[0].split("\n### ")[0]
     for block in part.split(PROMPT)[1:]:
         line, *answer = block.rstrip().split("\n")
         yield line, [it[4:] for it in answer]
@@ -35,6 +40,8 @@ def said(port, words):
     for option, value in zip(words, words[1:]):
         if option == "-X":
             method = value
+        elif option == "-H":
+            headers = dict([value.split(": ", 1)])
         elif option == "--json":
             method, body, headers = "POST" if method == "GET" else method, value, {"content-type": "application/json"}
     it = http.client.HTTPConnection("127.0.0.1", port, timeout=30)
@@ -43,19 +50,20 @@ def said(port, words):
     head = [f"HTTP/1.1 {answer.status} {answer.reason}", *(f"{name}: {value}" for name, value in answer.getheaders()), ""] if "-si" in words else []
     text = answer.read().decode()
     it.close()
-    return head + text.rstrip("\n").split("\n")
+    return "\n".join([*head, text]).rstrip("\n").split("\n")
 
 
 def without_times(lines):
     # What is another one at each time.
     times = re.compile(r"^(date: \w{3}, \d\d \w{3} \d{4} \d\d:\d\d:\d\d GMT|x-allocator-epoch: \d+|x-scrape-round-age: \d+)$")
-    return [line.partition(":")[0] if times.match(line) else line for line in lines]
+    lines = [line.partition(":")[0] if times.match(line) else line for line in lines]
+    return [re.sub(r'("__param_epoch":)"\d+"', r"\1", line) for line in lines]
 
 
-def transcript(folder):
-    service = Service(folder, CONFIG)
+def transcript(folder, config=CONFIG, title="Each with an answer"):
+    service = Service(folder, config)
     comes(lambda: service.ask("GET", "/-/ready")[0] == 200)
-    for line, wanted in exchanges():
+    for line, wanted in exchanges(title):
         # what was posted before may lead to another allocation
         time.sleep(0.5)
         found = said(service.port, shlex.split(line))
@@ -64,4 +72,8 @@ def transcript(folder):
     tell("it ends with status 0", service.ended() == 0)
 
 
-run_parts([transcript], sys.argv[1:])
+def acknowledged(folder):
+    transcript(folder, ACKNOWLEDGED, "A list that is acknowledged")
+
+
+run_parts([transcript, acknowledged], sys.argv[1:])

@@ -949,7 +949,7 @@ def are_closed(held):
 
 def few_descriptors():
     """So that a service serves no more than 192 connections at once."""
-    resource.setrlimit(resource.RLIMIT_NOFILE, (256, 256))
+    resource.setrlimit(resource.RLIMIT_NOFILE, (352, 352))
 
 
 def idle_clients(folder):
@@ -957,7 +957,7 @@ def idle_clients(folder):
     service.is_up()
     port = service.port
     most = most_connections(port)
-    tell("as many connections as there are descriptors beside 64", most == 192, most)
+    tell("as many connections as there are descriptors beside 160", most == 192, most)
     held = idle_connections(port, most - most // 8 - 8)
     (status, _, _), waited = timed(ask, port, "GET", "/-/healthy")
     tell(f"beside {len(held)} idle connections a request is answered at once", status == 200 and waited < 1, f"after {waited:.1f} seconds")

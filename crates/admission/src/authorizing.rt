@@ -26,6 +26,7 @@ pub(crate) fn is_allowed(
         | Ask::Jobs
         | Ask::JobTargets(_)
         | Ask::Uncovered(_)
+        | Ask::Acknowledged(_)
         | Ask::Certificate
         | Ask::Healthy
         | Ask::Live

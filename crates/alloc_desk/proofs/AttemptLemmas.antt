@@ -10,7 +10,7 @@ use Rattle.fleet_events.specs.declared.event.Event.{Event}
 use Rattle.fleet_events.specs.declared.event.Event.TheVariants.{Install}
 use Rattle.fleet_events.specs.declared.answer.Answer.{Answer}
 use Rattle.fleet_events.specs.declared.answer.Answer.TheVariants.{Discovered, Joined, Left, Draining, LimitsSet, Published, RoundOpen, Taken, Served, Released, Booked, Not}
-use Rattle.fleet_events.specs.declared.refusal.Refusal.TheVariants.{UnknownJob, UnknownSource, TooManyLive, TooManyKnown, AlreadyJoined, TooManyCollectors, IdsSpent, UnknownCollector, AlreadyDraining, Refused, Unchanged, NumbersSpent, RoundsSpent, NotTaken, UnknownTarget, NotHolder, StillServed, RoundClosed, RoundNotOpen, AlreadyBooked}
+use Rattle.fleet_events.specs.declared.refusal.Refusal.TheVariants.{UnknownJob, UnknownSource, TooManyLive, TooManyKnown, AlreadyJoined, TooManyCollectors, IdsSpent, UnknownCollector, AlreadyDraining, Refused, RefusedSpread, Unchanged, NumbersSpent, RoundsSpent, NotTaken, UnknownTarget, NotHolder, StillServed, RoundClosed, RoundNotOpen, AlreadyBooked}
 use Rattle.alloc_desk.specs.declared.entry.Entry.{Entry}
 use Rattle.alloc_desk.specs.declared.receipt.Receipt.{Receipt}
 use Rattle.alloc_desk.specs.Attempts.{attempted_by}
@@ -39,6 +39,7 @@ came_to opening counts instance plan (Published number) searched certified h e =
 came_to opening counts instance plan (Not (Unchanged number)) searched certified h e = (plan, e)
 came_to opening counts instance plan (Not NumbersSpent) searched certified h e = (plan, e)
 came_to opening counts instance plan (Not (Refused fault)) searched certified h e = record { searched = searched; certified = certified; refused = e }
+came_to opening counts instance plan (Not (RefusedSpread fault)) searched certified h e = absurd (true≢false (sym h))
 came_to opening counts instance plan (Not UnknownJob) searched certified h e = absurd (true≢false (sym h))
 came_to opening counts instance plan (Not UnknownSource) searched certified h e = absurd (true≢false (sym h))
 came_to opening counts instance plan (Not TooManyLive) searched certified h e = absurd (true≢false (sym h))

@@ -4,7 +4,7 @@ use Rattle.std.specs.Prelude.{Bool, true, false, if◌then◌else◌}
 use Rattle.std.proofs.lemmas.List.Sums.{sum_by-append}
 use Rattle.allocation_core.specs.Steps.{gained}
 use Rattle.fleet_events.specs.declared.event.Event.{Event}
-use Rattle.fleet_events.specs.declared.event.Event.TheVariants.{Discover, Join, Leave, Drain, SetLimits, Install, NextRound, Take, Serve, Release, Report}
+use Rattle.fleet_events.specs.declared.event.Event.TheVariants.{Discover, Join, Leave, Drain, SetLimits, Install, Spread, NextRound, Take, Serve, Release, Report}
 use Rattle.fleet_events.specs.declared.answer.Answer.{Answer}
 use Rattle.fleet_events.specs.declared.answer.Answer.TheVariants.{Discovered, Joined, Left, Draining, LimitsSet, Published, RoundOpen, Taken, Served, Released, Booked, Not}
 use Rattle.alloc_desk.specs.declared.entry.Entry.{Entry}
@@ -34,6 +34,7 @@ gained_by (Leave id) answer = either_way 0 (is_booked answer)
 gained_by (Drain id) answer = either_way 0 (is_booked answer)
 gained_by (SetLimits id limits) answer = either_way 0 (is_booked answer)
 gained_by (Install plan) answer = either_way 0 (is_booked answer)
+gained_by (Spread spread) answer = either_way 0 (is_booked answer)
 gained_by NextRound answer = either_way 0 (is_booked answer)
 gained_by (Take id) answer = either_way 0 (is_booked answer)
 gained_by (Serve id name) answer = either_way 0 (is_booked answer)

@@ -5,3 +5,4 @@ pub mod JournalLemmas
 pub mod ReachedLemmas
 pub mod ReceiptLemmas
 pub mod SpareLemmas
+pub mod SpreadAttemptLemmas

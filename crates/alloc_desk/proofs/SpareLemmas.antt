@@ -4,7 +4,7 @@ use Rattle.std.specs.Prelude.{Option, Some, None}
 use Rattle.allocation_core.specs.State.{State}
 use Rattle.allocation_core.specs.Steps.{answer_of, answer_by, refusal_of, granted}
 use Rattle.fleet_events.specs.declared.event.Event.{Event}
-use Rattle.fleet_events.specs.declared.event.Event.TheVariants.{Discover, Join, Leave, Drain, SetLimits, Install, NextRound, Take, Serve, Release, Report}
+use Rattle.fleet_events.specs.declared.event.Event.TheVariants.{Discover, Join, Leave, Drain, SetLimits, Install, Spread, NextRound, Take, Serve, Release, Report}
 use Rattle.fleet_events.specs.declared.answer.Answer.{Answer}
 use Rattle.fleet_events.specs.declared.refusal.Refusal.{Refusal}
 use Rattle.alloc_desk.specs.Spare.{IsSpareOf, IsSpareFor}
@@ -16,6 +16,7 @@ fits_granted m (Leave id) s is = tt
 fits_granted m (Drain id) s is = tt
 fits_granted m (SetLimits id limits) s is = tt
 fits_granted m (Install plan) s is = tt
+fits_granted m (Spread spread) s is = tt
 fits_granted m NextRound s is = tt
 fits_granted m (Take id) s is = is
 fits_granted m (Serve id name) s is = is

@@ -5,7 +5,7 @@ use Rattle.fleet_events.specs.declared.answer.Answer.TheVariants.{Discovered, Jo
 use Rattle.fleet_events.specs.declared.refusal.Refusal.TheVariants.{Unchanged}
 use Rattle.alloc_desk.specs.declared.entry.Entry.{Entry}
 
--- after this answer: an allocation that is published, or found again, is a best one of its moment
+-- after this answer: an allocation that is published, or found again, is a best one of its moment, or the best within its caps
 abbrev pub changed_by : Bool → Answer → Bool
 changed_by changed (Published number) = false
 changed_by changed (Not (Unchanged number)) = false

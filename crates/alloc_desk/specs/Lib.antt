@@ -9,4 +9,5 @@ pub mod Reallocating
 pub mod Reallocation
 pub mod Receipts
 pub mod Spare
+pub mod Spreading
 pub mod Views

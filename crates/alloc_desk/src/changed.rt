@@ -4,7 +4,8 @@ ghost use Rattle.alloc_desk.specs.Changed.{changed_by};
 
 use allocation_core::{Answer, Refusal};
 
-/// Whether anything is changed after this answer. An allocation that is published, or found again, is a best one of its moment.
+/// Whether anything is changed after this answer. An allocation that is published, or found again, is a best one of its moment, or the
+/// best within its caps.
 pub(crate) fn changed_by(changed: bool, answer: &Answer) -> bool
     ensures { result ≡ changed_by changed answer.now }
 {

@@ -9,6 +9,7 @@ ghost use Rattle.alloc_desk.specs.declared.limits.TheConstants.{MOST_PASSES};
 
 mod reading;
 mod reallocating;
+mod spreading;
 
 use crate::closed::Closed;
 use crate::name::{DeskName, Fits};

@@ -21,6 +21,7 @@ mod receipt;
 mod record;
 mod shelf;
 mod spare;
+mod spread_attempt;
 mod view;
 
 pub use attempt::{Lost, ReallocateError, Reallocated};
@@ -34,4 +35,5 @@ pub use pass::Pass;
 pub use reallocation::reallocate;
 pub use receipt::Receipt;
 pub use record::{EnterError, Record};
+pub use spread_attempt::{LostSpread, SpreadError};
 pub use view::{CollectorView, NumberedTarget, Share, View};

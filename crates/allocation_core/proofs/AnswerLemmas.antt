@@ -5,6 +5,9 @@ use Rattle.std.specs.Option.{option_map}
 use Rattle.price_certificate.specs.Faults.{fault_of}
 use Rattle.price_certificate.specs.declared.plan.Plan.{Plan}
 use Rattle.price_certificate.specs.declared.verdict.Fault.{Fault}
+use Rattle.spread_certificate.specs.Judged.{spread_fault}
+use Rattle.spread_certificate.specs.declared.spread.Spread.{Spread as SpreadPlan}
+use Rattle.spread_certificate.specs.declared.verdict.SpreadFault.{SpreadFault}
 use Rattle.handover.specs.Handover.{holder_in}
 use Rattle.served_lists.specs.Served.{count_had, is_free, slot_of}
 use Rattle.fleet.specs.Changes.{drain_refusal, join_refusal, limits_refusal, list_refusal}
@@ -18,15 +21,15 @@ use Rattle.fleet.specs.declared.outcome.DrainRefusal.TheVariants.{UnknownCollect
 use Rattle.fleet.specs.declared.outcome.LimitsRefusal.{LimitsRefusal}
 use Rattle.fleet.specs.declared.outcome.LimitsRefusal.TheVariants.{UnknownCollector as NobodyLimited, UnknownJob as NoJobLimited}
 use Rattle.fleet_events.specs.declared.event.Event.{Event}
-use Rattle.fleet_events.specs.declared.event.Event.TheVariants.{Discover, Join, Leave, Drain, SetLimits, Install, NextRound, Take, Serve, Release, Report}
+use Rattle.fleet_events.specs.declared.event.Event.TheVariants.{Discover, Join, Leave, Drain, SetLimits, Install, Spread, NextRound, Take, Serve, Release, Report}
 use Rattle.fleet_events.specs.declared.answer.Answer.{Answer}
 use Rattle.fleet_events.specs.declared.answer.Answer.TheVariants.{Discovered, Joined, Left, Draining, LimitsSet, Published, RoundOpen, Taken, Served, Released, Booked, Not}
 use Rattle.fleet_events.specs.declared.refusal.Refusal.TheVariants.{UnknownCollector, Unchanged, NumbersSpent, RoundsSpent, NotTaken, UnknownTarget, NotHolder, StillServed, RoundClosed, RoundNotOpen, AlreadyBooked}
 use Rattle.handover.specs.declared.holders.TheConstants.{LAST_NUMBER}
 use Rattle.allocation_core.specs.declared.limits.TheConstants.{LAST_ROUND}
 use Rattle.allocation_core.specs.State.{State, allocation_at, current_of, current_pairs, held_by, instance_at, left_out_at, list_at, was_given}
-use Rattle.allocation_core.specs.Steps.{answer_by, answer_of, is_booked, is_holder, number_for, place_named, place_of, plan_refusal, same_pairs, unless_released, unless_served, undrained, unjoined, unlimited, unlisted}
-use Rattle.allocation_core.specs.Answers.{IsAnswerTo, is_discover_answer, is_join_answer, is_leave_answer, is_drain_answer, is_limits_answer, is_install_answer, is_round_answer, is_take_answer, is_serve_answer, is_release_answer, is_report_answer}
+use Rattle.allocation_core.specs.Steps.{answer_by, answer_of, is_booked, is_holder, number_for, place_named, place_of, plan_refusal, same_pairs, spread_refusal, unless_released, unless_served, undrained, unjoined, unlimited, unlisted}
+use Rattle.allocation_core.specs.Answers.{IsAnswerTo, is_discover_answer, is_join_answer, is_leave_answer, is_drain_answer, is_limits_answer, is_install_answer, is_spread_answer, is_round_answer, is_take_answer, is_serve_answer, is_release_answer, is_report_answer}
 
 discover_answer : (o : Option ListRefusal) (x y : ℕ) → IsTrue (is_discover_answer (answer_by (option_map unlisted o) (Discovered x y)))
 discover_answer None x y = refl
@@ -64,6 +67,15 @@ number_answer false false n x = refl
 install_answer : (m : State) (plan : Plan) (f : Option Fault) (x : ℕ) → IsTrue (is_install_answer (answer_by (plan_refusal m plan f) (Published x)))
 install_answer m plan (Some fault) x = refl
 install_answer m plan None x = number_answer (same_pairs (allocation_at m plan.pairs) (current_pairs m)) (nat_lt (current_of m) LAST_NUMBER) (current_of m) x
+
+number_spread : (a b : Bool) (n x : ℕ) → IsTrue (is_spread_answer (answer_by (cond a (Some (Unchanged n)) (cond b None (Some NumbersSpent))) (Published x)))
+number_spread true b n x = refl
+number_spread false true n x = refl
+number_spread false false n x = refl
+
+spread_answer : (m : State) (spread : SpreadPlan) (f : Option SpreadFault) (x : ℕ) → IsTrue (is_spread_answer (answer_by (spread_refusal m spread f) (Published x)))
+spread_answer m spread (Some fault) x = refl
+spread_answer m spread None x = number_spread (same_pairs (allocation_at m spread.plan.pairs) (current_pairs m)) (nat_lt (current_of m) LAST_NUMBER) (current_of m) x
 
 round_answer : (b : Bool) (r : ℕ) → IsTrue (is_round_answer (answer_by (cond b None (Some RoundsSpent)) (RoundOpen r)))
 round_answer true r = refl
@@ -110,6 +122,7 @@ answers_fit m (Leave id) = leave_answer (is_joined m.fleet id)
 answers_fit m (Drain id) = drain_answer (drain_refusal m.fleet id)
 answers_fit m (SetLimits id limits) = limits_answer (limits_refusal m.fleet id limits)
 answers_fit m (Install plan) = install_answer m plan (fault_of (instance_at m) plan.pairs plan.item_prices plan.bin_prices) (current_of m + 1)
+answers_fit m (Spread spread) = spread_answer m spread (spread_fault (instance_at m) spread) (current_of m + 1)
 answers_fit m NextRound = round_answer (nat_lt m.round LAST_ROUND) (m.round + 1)
 answers_fit m (Take id) = take_answer (is_joined m.fleet id) (current_of m) m.round (held_by m id)
 answers_fit m (Serve id name) = serve_answer m id (place_of m name) (current_of m) m.round (list_at m id (place_of m name)) (left_out_at m id (place_of m name))

@@ -20,7 +20,7 @@ use Rattle.allocation_core.specs.Kept.{IsKept}
 use Rattle.allocation_core.specs.Booked.{AllBooked, AlwaysBooked, WasBooked, report_of}
 use Rattle.fleet.specs.declared.job.JobSpec.{JobSpec}
 use Rattle.fleet_events.specs.declared.event.Event.{Event}
-use Rattle.fleet_events.specs.declared.event.Event.TheVariants.{Discover, Join, Leave, Drain, SetLimits, Install, NextRound, Take, Serve, Release, Report}
+use Rattle.fleet_events.specs.declared.event.Event.TheVariants.{Discover, Join, Leave, Drain, SetLimits, Install, Spread, NextRound, Take, Serve, Release, Report}
 use Rattle.fleet_events.specs.declared.answer.Answer.TheVariants.{Booked}
 use Rattle.fleet_events.specs.declared.refusal.Refusal.{Refusal}
 use Rattle.allocation_core.proofs.Admission.{Admitted, admitted}
@@ -54,6 +54,7 @@ books m (Leave id) = inl (same_by m _ (refusal_of m (Leave id)) refl)
 books m (Drain id) = inl (same_by m _ (refusal_of m (Drain id)) refl)
 books m (SetLimits id limits) = inl (same_by m _ (refusal_of m (SetLimits id limits)) refl)
 books m (Install plan) = inl (same_by m _ (refusal_of m (Install plan)) refl)
+books m (Spread spread) = inl (same_by m _ (refusal_of m (Spread spread)) refl)
 books m NextRound = inl (same_by m _ (refusal_of m NextRound) refl)
 books m (Take id) = inl (same_by m _ (refusal_of m (Take id)) refl)
 books m (Serve id name) = inl (same_by m _ (refusal_of m (Serve id name)) refl)
@@ -255,6 +256,7 @@ total_rises m (Leave id) = nothing_by m (changed m (Leave id)) (refusal_of m (Le
 total_rises m (Drain id) = nothing_by m (changed m (Drain id)) (refusal_of m (Drain id)) refl
 total_rises m (SetLimits id limits) = nothing_by m (changed m (SetLimits id limits)) (refusal_of m (SetLimits id limits)) refl
 total_rises m (Install plan) = nothing_by m (changed m (Install plan)) (refusal_of m (Install plan)) refl
+total_rises m (Spread spread) = nothing_by m (changed m (Spread spread)) (refusal_of m (Spread spread)) refl
 total_rises m NextRound = nothing_by m (changed m NextRound) (refusal_of m NextRound) refl
 total_rises m (Take id) = nothing_by m (changed m (Take id)) (refusal_of m (Take id)) refl
 total_rises m (Serve id name) = nothing_by m (changed m (Serve id name)) (refusal_of m (Serve id name)) refl

@@ -6,7 +6,7 @@ use Rattle.fleet.specs.Orderly.{is_of}
 use Rattle.fleet.specs.declared.job.JobSpec.{JobSpec}
 use Rattle.fleet.specs.declared.known_target.KnownTarget.{KnownTarget}
 use Rattle.fleet_events.specs.declared.event.Event.{Event}
-use Rattle.fleet_events.specs.declared.event.Event.TheVariants.{Discover, Join, Leave, Drain, SetLimits, Install, NextRound, Take, Serve, Release, Report}
+use Rattle.fleet_events.specs.declared.event.Event.TheVariants.{Discover, Join, Leave, Drain, SetLimits, Install, Spread, NextRound, Take, Serve, Release, Report}
 use Rattle.fleet_events.specs.declared.answer.Answer.{Answer}
 use Rattle.fleet_events.specs.declared.answer.Answer.TheVariants.{Served, Not}
 use Rattle.fleet_events.specs.declared.refusal.Refusal.{Refusal}
@@ -49,6 +49,7 @@ step_tells m lists (Leave id) kept tells = tell_by m (changed m (Leave id)) list
 step_tells m lists (Drain id) kept tells = tell_by m (changed m (Drain id)) lists (Drain id) (refusal_of m (Drain id)) (granted m (Drain id)) (λ r. tells) (λ free. tells)
 step_tells m lists (SetLimits id limits) kept tells = tell_by m (changed m (SetLimits id limits)) lists (SetLimits id limits) (refusal_of m (SetLimits id limits)) (granted m (SetLimits id limits)) (λ r. tells) (λ free. tells)
 step_tells m lists (Install plan) kept tells = tell_by m (changed m (Install plan)) lists (Install plan) (refusal_of m (Install plan)) (granted m (Install plan)) (λ r. tells) (λ free. tells)
+step_tells m lists (Spread spread) kept tells = tell_by m (changed m (Spread spread)) lists (Spread spread) (refusal_of m (Spread spread)) (granted m (Spread spread)) (λ r. tells) (λ free. tells)
 step_tells m lists NextRound kept tells = tell_by m (changed m NextRound) lists NextRound (refusal_of m NextRound) (granted m NextRound) (λ r. tells) (λ free. tells)
 step_tells m lists (Take id) kept tells = tell_by m (changed m (Take id)) lists (Take id) (refusal_of m (Take id)) (granted m (Take id)) (λ r. tells) (λ free. tells)
 step_tells m lists (Serve id name) kept tells =

@@ -8,8 +8,13 @@ use Rattle.std.proofs.lemmas.List.{append-nil}
 use Rattle.std.proofs.lemmas.List.Elements.{All-push}
 use borrow.Author.Tests.{ltb-true}
 use Rattle.price_certificate.specs.Faults.{fault_of}
+use Rattle.price_certificate.specs.Derived.{capped}
+use Rattle.price_certificate.specs.Problem.{Problem}
 use Rattle.price_certificate.specs.declared.plan.Plan.{Plan}
 use Rattle.price_certificate.specs.declared.verdict.Fault.{Fault}
+use Rattle.spread_certificate.specs.Judged.{spread_fault}
+use Rattle.spread_certificate.specs.declared.spread.Spread.{Spread as SpreadPlan}
+use Rattle.spread_certificate.specs.declared.verdict.SpreadFault.{SpreadFault}
 use Rattle.handover.specs.Handover.{with_taken}
 use Rattle.scrape_books.specs.declared.report.Entry.{Entry}
 use Rattle.fleet.specs.Jobs.{job_named}
@@ -29,11 +34,11 @@ use Rattle.fleet.proofs.ChangeLemmas.{collector_kept, listing_kept}
 use Rattle.fleet.proofs.KeptLemmas.{changed_kept as fleet_changed_kept, first_kept as fleet_first_kept, leave_kept}
 use Rattle.fleet_events.specs.declared.answer.Answer.TheVariants.{Published}
 use Rattle.fleet_events.specs.declared.event.Event.{Event}
-use Rattle.fleet_events.specs.declared.event.Event.TheVariants.{Discover, Join, Leave, Drain, SetLimits, Install, NextRound, Take, Serve, Release, Report}
+use Rattle.fleet_events.specs.declared.event.Event.TheVariants.{Discover, Join, Leave, Drain, SetLimits, Install, Spread, NextRound, Take, Serve, Release, Report}
 use Rattle.fleet_events.specs.declared.refusal.Refusal.{Refusal}
 use Rattle.fleet_events.specs.declared.refusal.Refusal.TheVariants.{UnknownCollector, Unchanged, NumbersSpent}
 use Rattle.allocation_core.specs.State.{State, allocation_at, current_of, current_pairs, first_state, held_live, instance_at, served_at, was_given}
-use Rattle.allocation_core.specs.Steps.{answer_by, answer_of, changed, entry_of, number_refusal, plan_refusal, place_named, place_of, refusal_of, same_pairs, state_after, unjoined, unless_served, unlisted}
+use Rattle.allocation_core.specs.Steps.{answer_by, answer_of, changed, entry_of, number_refusal, plan_refusal, place_named, place_of, refusal_of, same_pairs, spread_refusal, state_after, unjoined, unless_served, unlisted, with_plan}
 use Rattle.handover.specs.declared.holders.TheConstants.{LAST_NUMBER}
 use Rattle.allocation_core.specs.Runs.{state_of}
 use Rattle.allocation_core.specs.Kept.{IsKept}
@@ -53,9 +58,13 @@ plan_by : (m : State) (plan : Plan) (f : Option Fault) → plan_refusal m plan f
 plan_by m plan None e = (refl, e)
 plan_by m plan (Some fault) e = cc
 
-install_kept : (m : State) (plan : Plan) → IsKept m → refusal_of m (Install plan) ≡ None → IsKept (changed m (Install plan))
-install_kept m plan kept e =
-    let free = number_by (same_pairs (allocation_at m plan.pairs) (current_pairs m)) (nat_lt (current_of m) LAST_NUMBER) (Unchanged (current_of m)) (plan_by m plan (fault_of (instance_at m) plan.pairs plan.item_prices plan.bin_prices) e).1 in
+spread_by : (m : State) (spread : SpreadPlan) (f : Option SpreadFault) → spread_refusal m spread f ≡ None → (f ≡ None) × (number_refusal m (allocation_at m spread.plan.pairs) ≡ None)
+spread_by m spread None e = (refl, e)
+spread_by m spread (Some fault) e = cc
+
+published_kept : (m : State) (problem : Problem) (plan : Plan) → IsKept m → number_refusal m (allocation_at m plan.pairs) ≡ None → IsKept (with_plan m problem plan)
+published_kept m problem plan kept e =
+    let free = number_by (same_pairs (allocation_at m plan.pairs) (current_pairs m)) (nat_lt (current_of m) LAST_NUMBER) (Unchanged (current_of m)) e in
     record {
       fleet = kept.fleet;
       few_published = omega (arith, length-append m.published (allocation_at m plan.pairs ∷ []), ltb-true (current_of m) LAST_NUMBER free);
@@ -177,7 +186,8 @@ changed_kept m (Join name reach limits) kept free = fleet_kept m (with_collector
 changed_kept m (Leave id) kept free = fleet_kept m (without_collector m.fleet id) kept (leave_kept m.fleet (λ (c : Collector). _) kept.fleet) (omega arith) (omega arith)
 changed_kept m (Drain id) kept free = fleet_kept m (with_draining m.fleet id) kept (fleet_changed_kept m.fleet (with_draining_at id) (λ c. refl) (λ c. refl) kept.fleet) (omega arith) (omega arith)
 changed_kept m (SetLimits id limits) kept free = fleet_kept m (with_limits m.fleet id limits) kept (fleet_changed_kept m.fleet (with_limits_at id limits) (λ c. refl) (λ c. refl) kept.fleet) (omega arith) (omega arith)
-changed_kept m (Install plan) kept free = install_kept m plan kept free
+changed_kept m (Install plan) kept free = published_kept m (instance_at m) plan kept (plan_by m plan (fault_of (instance_at m) plan.pairs plan.item_prices plan.bin_prices) free).1
+changed_kept m (Spread spread) kept free = published_kept m (capped spread.caps (instance_at m)) spread.plan kept (spread_by m spread (spread_fault (instance_at m) spread) free).1
 changed_kept m NextRound kept free = kept_with m m.taken (m.round + 1) m.booked kept (omega arith) (λ k d l. omega (arith, kept.past_rounds k d l))
 changed_kept m (Take id) kept free = kept_with m (with_taken m.taken id (current_of m)) m.round m.booked kept kept.opened kept.past_rounds
 changed_kept m (Serve id name) kept free = serve_kept m id (place_of m name) kept free
@@ -209,26 +219,39 @@ pub run_kept : (m : State) (es : List Event) → IsKept m → IsKept (state_of m
 run_kept m [] kept = kept
 run_kept m (e ∷ es) kept = run_kept (state_after m e) es (step_kept m e kept)
 
--- an event publishes nothing, or it is an Install whose plan has no fault
-pub record Publishes (m : State) (e : Event) : Type 0 where
+-- an Install whose plan has no fault
+pub record IsFineInstall (m : State) (e : Event) (pairs : List (ℕ × ℕ)) : Type 0 where
   pub plan : Plan
   pub is : e ≡ Install plan
+  pub its : plan.pairs ≡ pairs
   pub fine : fault_of (instance_at m) plan.pairs plan.item_prices plan.bin_prices ≡ None
+
+-- a Spread that has no fault
+pub record IsFineSpread (m : State) (e : Event) (pairs : List (ℕ × ℕ)) : Type 0 where
+  pub spread : SpreadPlan
+  pub is : e ≡ Spread spread
+  pub its : spread.plan.pairs ≡ pairs
+  pub fine : spread_fault (instance_at m) spread ≡ None
+
+-- an event publishes nothing, or the allocation of a plan that has no fault
+pub record Publishes (m : State) (e : Event) : Type 0 where
+  pub pairs : List (ℕ × ℕ)
   pub answered : answer_of m e ≡ Published (current_of m + 1)
-  pub grown : (state_after m e).published ≡ m.published ++ allocation_at m plan.pairs ∷ []
+  pub grown : (state_after m e).published ≡ m.published ++ allocation_at m pairs ∷ []
+  pub fine : IsFineInstall m e pairs ⊎ IsFineSpread m e pairs
 
 same_by : (m n : State) (o : Option Refusal) → n.published ≡ m.published → (if is_some o then m else n).published ≡ m.published
 same_by m n None e = e
 same_by m n (Some r) e = refl
 
--- an Install that nothing is against, and what it gives
-abbrev Installs : State → Plan → Option Refusal → Type 0
-Installs m plan o =
-    (fault_of (instance_at m) plan.pairs plan.item_prices plan.bin_prices ≡ None) × (answer_by o (Published (current_of m + 1)) ≡ Published (current_of m + 1)) × ((if is_some o then m else changed m (Install plan)).published ≡ m.published ++ allocation_at m plan.pairs ∷ [])
+-- an event that publishes, where nothing is against it, and what it gives
+abbrev Gives : State → State → List (ℕ × ℕ) → Option Refusal → Type 0
+Gives m n pairs o =
+    (o ≡ None) × (answer_by o (Published (current_of m + 1)) ≡ Published (current_of m + 1)) × ((if is_some o then m else n).published ≡ m.published ++ allocation_at m pairs ∷ [])
 
-install_by : (m : State) (plan : Plan) (o : Option Refusal) → (o ≡ None → fault_of (instance_at m) plan.pairs plan.item_prices plan.bin_prices ≡ None) → ((if is_some o then m else changed m (Install plan)).published ≡ m.published) ⊎ Installs m plan o
-install_by m plan None fine = inr (fine refl, refl, refl)
-install_by m plan (Some r) fine = inl refl
+gives_by : (m n : State) (pairs : List (ℕ × ℕ)) (o : Option Refusal) → n.published ≡ m.published ++ allocation_at m pairs ∷ [] → ((if is_some o then m else n).published ≡ m.published) ⊎ Gives m n pairs o
+gives_by m n pairs None e = inr (refl, refl, e)
+gives_by m n pairs (Some r) e = inl refl
 
 pub publishes : (m : State) (e : Event) → ((state_after m e).published ≡ m.published) ⊎ Publishes m e
 unfolding state_after answer_of
@@ -243,7 +266,24 @@ publishes m (Serve id name) = inl (same_by m _ (refusal_of m (Serve id name)) re
 publishes m (Release id name) = inl (same_by m _ (refusal_of m (Release id name)) refl)
 publishes m (Report report) = inl (same_by m _ (refusal_of m (Report report)) refl)
 publishes m (Install plan) =
-    elim (install_by m plan (refusal_of m (Install plan)) (λ e. (plan_by m plan (fault_of (instance_at m) plan.pairs plan.item_prices plan.bin_prices) e).0)) [
+    elim (gives_by m (changed m (Install plan)) plan.pairs (refusal_of m (Install plan)) refl) [
       | inl same ↦ inl same
-      | inr grown ↦ inr (record { plan = plan; is = refl; fine = grown.0; answered = grown.1; grown = grown.2 })
+      | inr given ↦
+          inr (record {
+            pairs = plan.pairs;
+            answered = given.1;
+            grown = given.2;
+            fine = inl (record { plan = plan; is = refl; its = refl; fine = (plan_by m plan (fault_of (instance_at m) plan.pairs plan.item_prices plan.bin_prices) given.0).0 });
+          })
+    ]
+publishes m (Spread spread) =
+    elim (gives_by m (changed m (Spread spread)) spread.plan.pairs (refusal_of m (Spread spread)) refl) [
+      | inl same ↦ inl same
+      | inr given ↦
+          inr (record {
+            pairs = spread.plan.pairs;
+            answered = given.1;
+            grown = given.2;
+            fine = inr (record { spread = spread; is = refl; its = refl; fine = (spread_by m spread (spread_fault (instance_at m) spread) given.0).0 });
+          })
     ]

@@ -1,10 +1,10 @@
 -- Which answers an event can have.
 use Rattle.std.specs.Prelude.{Bool, true, false, IsTrue}
 use Rattle.fleet_events.specs.declared.event.Event.{Event}
-use Rattle.fleet_events.specs.declared.event.Event.TheVariants.{Discover, Join, Leave, Drain, SetLimits, Install, NextRound, Take, Serve, Release, Report}
+use Rattle.fleet_events.specs.declared.event.Event.TheVariants.{Discover, Join, Leave, Drain, SetLimits, Install, Spread, NextRound, Take, Serve, Release, Report}
 use Rattle.fleet_events.specs.declared.answer.Answer.{Answer}
 use Rattle.fleet_events.specs.declared.answer.Answer.TheVariants.{Discovered, Joined, Left, Draining, LimitsSet, Published, RoundOpen, Taken, Served, Released, Booked, Not}
-use Rattle.fleet_events.specs.declared.refusal.Refusal.TheVariants.{UnknownJob, UnknownSource, TooManyLive, TooManyKnown, AlreadyJoined, TooManyCollectors, IdsSpent, UnknownCollector, AlreadyDraining, Refused, Unchanged, NumbersSpent, RoundsSpent, NotTaken, UnknownTarget, NotHolder, StillServed, RoundClosed, RoundNotOpen, AlreadyBooked}
+use Rattle.fleet_events.specs.declared.refusal.Refusal.TheVariants.{UnknownJob, UnknownSource, TooManyLive, TooManyKnown, AlreadyJoined, TooManyCollectors, IdsSpent, UnknownCollector, AlreadyDraining, Refused, RefusedSpread, Unchanged, NumbersSpent, RoundsSpent, NotTaken, UnknownTarget, NotHolder, StillServed, RoundClosed, RoundNotOpen, AlreadyBooked}
 
 abbrev pub is_discover_answer : Answer → Bool
 is_discover_answer (Discovered added removed) = true
@@ -45,6 +45,13 @@ is_install_answer (Not (Refused fault)) = true
 is_install_answer (Not (Unchanged number)) = true
 is_install_answer (Not NumbersSpent) = true
 is_install_answer _ = false
+
+abbrev pub is_spread_answer : Answer → Bool
+is_spread_answer (Published number) = true
+is_spread_answer (Not (RefusedSpread fault)) = true
+is_spread_answer (Not (Unchanged number)) = true
+is_spread_answer (Not NumbersSpent) = true
+is_spread_answer _ = false
 
 abbrev pub is_round_answer : Answer → Bool
 is_round_answer (RoundOpen round) = true
@@ -87,6 +94,7 @@ IsAnswerTo (Leave id) answer = IsTrue (is_leave_answer answer)
 IsAnswerTo (Drain id) answer = IsTrue (is_drain_answer answer)
 IsAnswerTo (SetLimits id limits) answer = IsTrue (is_limits_answer answer)
 IsAnswerTo (Install plan) answer = IsTrue (is_install_answer answer)
+IsAnswerTo (Spread spread) answer = IsTrue (is_spread_answer answer)
 IsAnswerTo NextRound answer = IsTrue (is_round_answer answer)
 IsAnswerTo (Take id) answer = IsTrue (is_take_answer answer)
 IsAnswerTo (Serve id name) answer = IsTrue (is_serve_answer answer)

@@ -16,7 +16,7 @@ pub record State : Type 0 where
   pub fleet : FleetState
   -- the allocations from number 1 on, each a list of (target, collector), strictly ascending by target. Number 0 is empty
   pub published : List (List (ℕ × ℕ))
-  -- the instance and the plan of the last allocation
+  -- the plan of the last allocation, and the instance that its prices certify it for, which has the caps of a spread for limits
   pub problem : Problem
   pub plan : Plan
   -- the collectors that took an allocation, in order of their first time, each beside the number of the one that it took last

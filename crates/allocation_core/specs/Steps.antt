@@ -3,9 +3,14 @@ use Rattle.std.specs.Prelude.{ℕ, ◌+◌, ◌==◌, ◌&&◌, Bool, false, if�
 use Rattle.std.specs.List.{list_any}
 use Rattle.std.specs.Option.{option_map, option_map_or}
 use Rattle.std.specs.Cmp.Lexicographic.{pointwise}
+use Rattle.price_certificate.specs.Derived.{capped}
 use Rattle.price_certificate.specs.Faults.{fault_of}
+use Rattle.price_certificate.specs.Problem.{Problem}
 use Rattle.price_certificate.specs.declared.plan.Plan.{Plan}
 use Rattle.price_certificate.specs.declared.verdict.Fault.{Fault}
+use Rattle.spread_certificate.specs.Judged.{spread_fault}
+use Rattle.spread_certificate.specs.declared.spread.Spread.{Spread as SpreadPlan}
+use Rattle.spread_certificate.specs.declared.verdict.SpreadFault.{SpreadFault}
 use Rattle.handover.specs.Handover.{holder_in, taken_by, with_taken}
 use Rattle.served_lists.specs.Served.{count_had, is_free, number_of, slot_of, without_list}
 use Rattle.scrape_books.specs.Books.{samples_of}
@@ -35,11 +40,11 @@ use Rattle.handover.specs.declared.holders.TheConstants.{LAST_NUMBER}
 use Rattle.allocation_core.specs.declared.limits.TheConstants.{LAST_ROUND}
 use Rattle.allocation_core.specs.State.{State, allocation_at, current_of, current_pairs, held_by, instance_at, left_out_at, list_at, served_at, was_given}
 use Rattle.fleet_events.specs.declared.event.Event.{Event}
-use Rattle.fleet_events.specs.declared.event.Event.TheVariants.{Discover, Join, Leave, Drain, SetLimits, Install, NextRound, Take, Serve, Release, Report}
+use Rattle.fleet_events.specs.declared.event.Event.TheVariants.{Discover, Join, Leave, Drain, SetLimits, Install, Spread, NextRound, Take, Serve, Release, Report}
 use Rattle.fleet_events.specs.declared.answer.Answer.{Answer}
 use Rattle.fleet_events.specs.declared.answer.Answer.TheVariants.{Discovered, Joined, Left, Draining, LimitsSet, Published, RoundOpen, Taken, Served, Released, Booked, Not}
 use Rattle.fleet_events.specs.declared.refusal.Refusal.{Refusal}
-use Rattle.fleet_events.specs.declared.refusal.Refusal.TheVariants.{UnknownJob, UnknownSource, TooManyLive, TooManyKnown, AlreadyJoined, TooManyCollectors, IdsSpent, UnknownCollector, AlreadyDraining, Refused, Unchanged, NumbersSpent, RoundsSpent, NotTaken, UnknownTarget, NotHolder, StillServed, RoundClosed, RoundNotOpen, AlreadyBooked}
+use Rattle.fleet_events.specs.declared.refusal.Refusal.TheVariants.{UnknownJob, UnknownSource, TooManyLive, TooManyKnown, AlreadyJoined, TooManyCollectors, IdsSpent, UnknownCollector, AlreadyDraining, Refused, RefusedSpread, Unchanged, NumbersSpent, RoundsSpent, NotTaken, UnknownTarget, NotHolder, StillServed, RoundClosed, RoundNotOpen, AlreadyBooked}
 
 -- why a source does not list targets, as a refusal
 abbrev pub unlisted : ListRefusal → Refusal
@@ -97,6 +102,10 @@ number_refusal m pairs =
 abbrev pub plan_refusal : State → Plan → Option Fault → Option Refusal
 plan_refusal m plan (Some fault) = Some (Refused fault)
 plan_refusal m plan None = number_refusal m (allocation_at m plan.pairs)
+
+abbrev pub spread_refusal : State → SpreadPlan → Option SpreadFault → Option Refusal
+spread_refusal m spread (Some fault) = Some (RefusedSpread fault)
+spread_refusal m spread None = number_refusal m (allocation_at m spread.plan.pairs)
 
 -- no live collector has the number, or else what stands behind
 abbrev pub unless_unknown : State → ℕ → Option Refusal → Option Refusal
@@ -177,6 +186,7 @@ refusal_of m (Leave id) = unless_unknown m id None
 refusal_of m (Drain id) = option_map undrained (drain_refusal m.fleet id)
 refusal_of m (SetLimits id limits) = option_map unlimited (limits_refusal m.fleet id limits)
 refusal_of m (Install plan) = plan_refusal m plan (fault_of (instance_at m) plan.pairs plan.item_prices plan.bin_prices)
+refusal_of m (Spread spread) = spread_refusal m spread (spread_fault (instance_at m) spread)
 refusal_of m NextRound = if nat_lt m.round LAST_ROUND then None else Some RoundsSpent
 refusal_of m (Take id) = unless_unknown m id None
 refusal_of m (Serve id name) = unless_served m id (place_of m name)
@@ -187,6 +197,10 @@ refusal_of m (Report report) = unless_unknown m report.collector (report_refusal
 abbrev pub entry_of : ℕ → ℕ → ℕ → Outcome → Entry
 entry_of collector number round outcome = record { round = round; number = number; collector = collector; outcome = outcome }
 
+-- the state where the allocation of a plan is published, with the instance that its prices certify it for
+abbrev pub with_plan : State → Problem → Plan → State
+with_plan m problem plan = record m { published = m.published ++ allocation_at m plan.pairs ∷ []; problem = problem; plan = plan }
+
 -- the state after an event that nothing is against
 abbrev pub changed : State → Event → State
 changed m (Discover name source targets) = record m { fleet = with_listing m.fleet name source targets }
@@ -194,7 +208,8 @@ changed m (Join name reach limits) = record m { fleet = with_collector m.fleet n
 changed m (Leave id) = record m { fleet = without_collector m.fleet id }
 changed m (Drain id) = record m { fleet = with_draining m.fleet id }
 changed m (SetLimits id limits) = record m { fleet = with_limits m.fleet id limits }
-changed m (Install plan) = record m { published = m.published ++ allocation_at m plan.pairs ∷ []; problem = instance_at m; plan = plan }
+changed m (Install plan) = with_plan m (instance_at m) plan
+changed m (Spread spread) = with_plan m (capped spread.caps (instance_at m)) spread.plan
 changed m NextRound = record m { round = m.round + 1 }
 changed m (Take id) = record m { taken = with_taken m.taken id (current_of m) }
 changed m (Serve id name) = record m { served = served_at m id (place_of m name) }
@@ -209,6 +224,7 @@ granted m (Leave id) = Left
 granted m (Drain id) = Draining
 granted m (SetLimits id limits) = LimitsSet
 granted m (Install plan) = Published (current_of m + 1)
+granted m (Spread spread) = Published (current_of m + 1)
 granted m NextRound = RoundOpen (m.round + 1)
 granted m (Take id) = Taken (current_of m) m.round (held_by m id)
 granted m (Serve id name) = Served (current_of m) m.round (list_at m id (place_of m name)) (left_out_at m id (place_of m name))

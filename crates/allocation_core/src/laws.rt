@@ -2,31 +2,53 @@
 ghost use Rattle.allocation_core.specs.State.{State};
 ghost use Rattle.allocation_core.specs.Steps.{answer_of};
 ghost use Rattle.allocation_core.specs.Answers.{IsAnswerTo};
-ghost use Rattle.allocation_core.specs.Best.{AlwaysBest};
+ghost use Rattle.allocation_core.specs.Best.{AlwaysBest, AlwaysMost, InstalledAreBest, PublishedCoverMost};
 ghost use Rattle.allocation_core.specs.Booked.{AlwaysBooked};
-ghost use Rattle.allocation_core.specs.Installed.{CertifiedAreInstalled};
+ghost use Rattle.allocation_core.specs.Installed.{CertifiedAreInstalled, SpreadsAreInstalled};
 ghost use Rattle.allocation_core.specs.Kept.{AlwaysKept};
 ghost use Rattle.allocation_core.specs.Lists.{AlwaysDisjoint, AlwaysWhole};
 ghost use Rattle.fleet_events.specs.declared.event.Event.{Event};
 
 use fleet_assignment::{
-    allocations_are_once, feasible_are_carried_over, instances_are_problems, optimal_is_best,
+    allocations_are_once, best_cover_most, best_within_is_carried_over, feasible_are_carried_over,
+    instances_are_problems, optimal_is_best,
 };
 use price_certificate::{certified_is_optimal, no_fault_is_certified};
+use spread_certificate::no_best_fault_is_certified;
 
-/// Over every list of events, each published allocation is the best of the moment just before its Install. It is sound:
-/// only live targets, each at most once and in ascending order, each at a live collector that reaches it, and no collector
-/// with more of a job's targets than the job's limit. No sound allocation of that moment covers more targets, and none that
-/// covers as many loses fewer of those pairs of the preceding allocation that could be kept.
+/// Over every list of events, each published allocation is the best of the moment just before its Install, or the best of the
+/// moment just before its Spread within caps that cost nothing. It is sound: only live targets, each at most once and in ascending
+/// order, each at a live collector that reaches it, and no collector with more of a job's targets than the job's limit. No sound
+/// allocation of that moment covers more targets, and none that covers as many leaves fewer at draining collectors. None that is
+/// equal in both, and within the caps of its Spread where it has one, loses fewer of those pairs of the preceding allocation that
+/// could be kept. Where a Spread tells how even its allocation is, it is so even.
 pub fn published_are_best()
     ensures { AlwaysBest }
 {
     instances_are_problems();
     feasible_are_carried_over();
     optimal_is_best();
+    best_within_is_carried_over();
     allocations_are_once();
     certified_is_optimal();
     no_fault_is_certified();
+}
+
+/// Over every list of events without a Spread, each published allocation is the best of the moment just before its Install.
+pub fn installed_are_best()
+    ensures { InstalledAreBest }
+{
+    published_are_best();
+}
+
+/// What an Install or a Spread published covers the most targets of its moment and leaves the fewest at draining collectors; so,
+/// over every list of events, each published allocation does.
+pub fn published_cover_most()
+    ensures each { PublishedCoverMost }
+    ensures always { AlwaysMost }
+{
+    published_are_best();
+    best_cover_most();
 }
 
 /// Over every list of events, a report is booked only from the target's holder in the allocation that it names, the one that
@@ -59,6 +81,15 @@ pub fn certified_are_installed()
 {
     instances_are_problems();
     no_fault_is_certified();
+}
+
+/// The same of a Spread: one that is certified for the instance of the moment is published, unless its pairs are those of the current
+/// allocation or the last number is given.
+pub fn spreads_are_installed()
+    ensures { SpreadsAreInstalled }
+{
+    instances_are_problems();
+    no_best_fault_is_certified();
 }
 
 /// What every state keeps, over every list of events: no limit is passed, a source lists targets of its own job alone and in

@@ -15,8 +15,9 @@ mod runs;
 pub use fleet::{Collector, JobSpec, OpenError};
 pub use fleet_events::{Answer, CollectorId, Event, Outcome, Refusal, Report, TargetId};
 pub use laws::{
-    answers_fit, booked_by_holders, certified_are_installed, lists_are_disjoint, lists_are_whole,
-    published_are_best, states_are_kept,
+    answers_fit, booked_by_holders, certified_are_installed, installed_are_best,
+    lists_are_disjoint, lists_are_whole, published_are_best, published_cover_most,
+    spreads_are_installed, states_are_kept,
 };
 pub use limits::LAST_ROUND;
 pub use machine::Core;

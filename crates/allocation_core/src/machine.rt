@@ -103,6 +103,7 @@ impl Core {
             Event::Drain(collector) => Ok(self.drain(collector)),
             Event::SetLimits { collector, limits } => Ok(self.set_limits(collector, limits)),
             Event::Install(plan) => self.install(plan),
+            Event::Spread(spread) => self.spread(spread),
             Event::NextRound => Ok(self.next_round()),
             Event::Take(collector) => self.take(collector),
             Event::Serve { collector, job } => self.serve(collector, job),
@@ -179,7 +180,8 @@ impl Core {
         self.holders.taken(collector)
     }
 
-    /// The instance and the plan of the last allocation that was published, both empty before the first.
+    /// The plan of the last allocation that was published, and the instance that its prices certify it for, which has the caps of a
+    /// spread for limits; both empty before the first.
     pub fn certificate(&self) -> Result<(Instance, Plan), AllocError>
         ensures instance { IfOk result (λ c. c.0 ≡ self.now.problem) }
         ensures plan { IfOk result (λ c. c.1 ≡ self.now.plan) }

@@ -76,6 +76,7 @@ fn right_line(
         | Member::FetchTimeout
         | Member::Settle => format!(in alloc; "{line}, as 15s or 1m30s is"),
         Member::Listen => format!(in alloc; "{line}, as 127.0.0.1:8080 is"),
+        Member::Acknowledge => format!(in alloc; "{line}, as 10.0.0.5:8080 is"),
         Member::CollectorName(index) => name_fault(alloc, value, line, index),
         Member::Pattern(index) => pattern_fault(alloc, value, line, index),
         _ => joining_line(alloc, value, line, member),

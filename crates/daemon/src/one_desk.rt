@@ -21,7 +21,7 @@ use std::sync::{Arc, Mutex, Wait};
 use std::thread::Threads;
 use std::time::Clock;
 
-/// How many passes a desk has: of the server, of the schedule, of the journal's file, and of the refresher.
+/// How many passes a desk has: of the server, of the schedule, of the journal's file, and of the refreshers.
 pub(crate) const SEATS: u32 = 4;
 
 /// Serves over one desk until it is to be closed, and gives the allocator back.

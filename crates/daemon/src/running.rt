@@ -13,7 +13,7 @@ use std::net::{Net, TcpListener, TcpStream};
 use std::random::RandomSource;
 use std::sync::atomic::{AtomicBool, Ordering};
 use std::sync::ledger::Ledger;
-use std::sync::{Arc, Wait};
+use std::sync::{Arc, Mutex, Wait};
 use std::thread::Threads;
 use std::time::Clock;
 use std::{io, thread};
@@ -61,7 +61,7 @@ where
         let Crew {
             scheduler,
             keeper,
-            refresher,
+            refreshers,
         } = crew;
         let file = &mut journal.file;
         let is_last = AtomicBool::new(false);
@@ -71,7 +71,7 @@ where
             || -> io::Result<()>
                 requires { IsSend L.row × IsSend B.row × IsSend N.row × IsSend S.row × IsSend C.row }
             {
-                let served = self.run_others(listener, scheduler, schedule, refresher, watch);
+                let served = self.run_others(listener, scheduler, schedule, refreshers, watch);
                 is_last.store(true, Ordering::SeqCst);
                 served
             },
@@ -86,7 +86,7 @@ where
         listener: &TcpListener,
         scheduler: &mut Pass<L, B, N>,
         schedule: &mut Schedule<C>,
-        refresher: &mut Pass<L, B, N>,
+        refreshers: &Mutex<Pass<L, B, N>>,
         watch: &mut Watch<S>,
     ) -> io::Result<()> {
         let (served, ((), ())) = thread::join(
@@ -98,7 +98,7 @@ where
                 let ended = thread::join(
                     &self.rt,
                     || self.schedule(scheduler, schedule),
-                    || self.shared.refresh_sources(refresher, watch),
+                    || self.refresh(refreshers, watch),
                 );
                 if !self.shared.is_quitting() {
                     self.stop();
@@ -107,6 +107,14 @@ where
             },
         );
         served
+    }
+
+    /// Refreshes sources until the desk is to be closed.
+    fn refresh<S: Scrape + Send>(&self, pass: &Mutex<Pass<L, B, N>>, watch: &mut Watch<S>) {
+        let Watch { devices, sources } = watch;
+        if let Some(device) = devices.first_mut() {
+            self.shared.refresh_sources(pass, sources, device);
+        }
     }
 
     /// Answers requests until the gate is stopped. Where no server can be, the service ends.

@@ -8,7 +8,7 @@ use durable_journal::Archive;
 use http_get::Scrape;
 use scrape_client::HyperScrape;
 use service_tasks::{Configuration, Ending, Journal, Office, Service, continued};
-use std::alloc::{AllocGlobal, Global};
+use std::alloc::{AllocError, AllocGlobal, Global};
 use std::fs::OpenFile;
 use std::io;
 use std::io::Write;
@@ -18,7 +18,10 @@ use std::random::RandomSource;
 use std::sync::Wait;
 use std::sync::ledger::Blank;
 use std::thread::Threads;
-use std::time::Clock;
+use std::time::{Clock, Duration};
+
+/// How many sources are asked at once at most.
+const MOST_REFRESHERS: usize = 1;
 
 /// Serves over an allocator with its journal until the service is to end, and gives the allocator back as it is then. The archive
 /// begins the journals after it. The configuration is read again when a request asks for it.
@@ -49,23 +52,52 @@ where
     C: Configuration + Send + Drop,
     ensures { IfOk result (IsLater core) }
 {
-    let limit = service.fetch_timeout();
-    let scrape = HyperScrape::new(*rt, limit);
-    match Office::open(
-        rt,
-        alloc,
-        &service,
-        listener,
-        journal,
-        scrape,
-        configuration,
-    ) {
+    match office_of(rt, alloc, &service, listener, journal, configuration) {
         Ok(mut office) => {
             let mut service = service;
             serve_desks(rt, alloc, &mut service, &mut office, archive, core)
         }
         Err(error) => Err(error),
     }
+}
+
+/// The office of a service that begins, with devices over HTTP.
+fn office_of<R, F, C>(
+    rt: &R,
+    alloc: Global,
+    service: &Service,
+    listener: TcpListener,
+    journal: Journal<F>,
+    configuration: C,
+) -> io::Result<Office<HyperScrape<R>, F, C>>
+where
+    R: Wait + Clock + Net + RandomSource + AllocGlobal + Copy + Drop,
+    F: Drop,
+    C: Configuration + Drop,
+{
+    let devices = devices_of(rt, alloc, service.fetch_timeout())?;
+    Office::open(
+        rt,
+        alloc,
+        service,
+        listener,
+        journal,
+        devices,
+        configuration,
+    )
+}
+
+/// A device for each source that is asked at once. Each fetch has so much time.
+fn devices_of<R: Copy>(
+    rt: &R,
+    alloc: Global,
+    limit: Duration,
+) -> Result<Vec<HyperScrape<R>>, AllocError> {
+    let mut devices = Vec::with_capacity(alloc, MOST_REFRESHERS)?;
+    for _ in 0..MOST_REFRESHERS {
+        devices.push(HyperScrape::new(*rt, limit))?;
+    }
+    Ok(devices)
 }
 
 /// Serves over a desk after the other until the service is to end. It fails where that is since its journal is broken.

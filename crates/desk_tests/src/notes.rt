@@ -1,5 +1,5 @@
 //! What passes are told, and what is said of it.
-use alloc_desk::{Entry, ReallocateError, Reallocated, Receipt};
+use alloc_desk::{Entry, ReallocateError, Reallocated, Receipt, SpreadError};
 use allocation_core::{Answer, Event, Refusal};
 use lists::Text;
 use std::alloc::{AllocError, Global};
@@ -56,6 +56,19 @@ impl Notes {
                 self.answers(alloc, &Answer::Not(Refusal::Unchanged(number)))
             }
             Err(ReallocateError::Overtaken(None)) => self.says("Overtaken"),
+            Err(_) => false,
+        }
+    }
+
+    /// What a reallocation that makes loads even came to.
+    pub(crate) fn ends_spread(
+        &mut self,
+        alloc: Global,
+        ended: Result<Reallocated, SpreadError>,
+    ) -> bool {
+        match ended {
+            Ok(reallocated) => self.ends(alloc, Ok(reallocated)),
+            Err(SpreadError::Overtaken(None)) => self.says("Overtaken"),
             Err(_) => false,
         }
     }

@@ -11,6 +11,12 @@ pub(crate) const JOIN: &str =
 pub(crate) const DISCOVER: &str =
     r#"{"event":"discover","job":"j","source":0,"targets":[{"targets":["h:1"]}]}"#;
 
+pub(crate) const SECOND_JOIN: &str =
+    r#"{"event":"join","name":"b","reach":[{"allow":true,"test":"any"}]}"#;
+
+pub(crate) const DISCOVER_FOUR: &str =
+    r#"{"event":"discover","job":"j","source":0,"targets":[{"targets":["h:1"]},{"targets":["h:2"]},{"targets":["h:3"]},{"targets":["h:4"]}]}"#;
+
 /// The allocator of the job `j` with this limit.
 pub(crate) fn core_of(alloc: Global, target_limit: u32) -> Option<Core> {
     match Text::from_str(alloc, "j") {

@@ -3,7 +3,7 @@ ghost use Rattle.std.specs.Prelude.{◌<◌, ◌≤◌};
 ghost use Rattle.alloc_desk.specs.declared.limits.TheConstants.{MOST_PASSES};
 
 use crate::desks::{Ended, ended_over};
-use crate::opening::{DISCOVER, JOIN, core_of};
+use crate::opening::{DISCOVER, DISCOVER_FOUR, JOIN, SECOND_JOIN, core_of};
 use crate::steps::{Step, Steps};
 use alloc_desk::{MOST_PASSES, Receipt};
 use allocation_core::{Answer, Core, Event};
@@ -87,6 +87,65 @@ const REALLOCATIONS: Script = Script {
 fn a_reallocation_is_published_and_then_unchanged(rt: HostRuntime) -> Result<(), Fail> {
     assert!(rt; goes(&rt, rt.alloc(), &REALLOCATIONS));
     Ok(())
+}
+
+/// The second collector joins once the first one has all four targets.
+const SPREADS: Script = Script {
+    target_limit: 0,
+    seats: 1,
+    steps: Steps {
+        of: &[
+            Step::Line(JOIN),
+            Step::Line(DISCOVER_FOUR),
+            Step::Spread(2, 0, None),
+            Step::Line(SECOND_JOIN),
+            Step::IsChanged,
+            Step::Reallocate(2),
+            Step::Spread(2, 0, Some(1)),
+            Step::IsChanged,
+            Step::Spread(2, 0, Some(1)),
+            Step::Spread(2, 0, Some(1)),
+            Step::Spread(0, 0, None),
+        ],
+        count: 11,
+    },
+    says: Some(
+        "Joined 1;Discovered 4 0;Published 1;Joined 2;changed;Unchanged 1;\
+        Published 2;as it was;Published 3;Unchanged 3;Overtaken;",
+    ),
+    told: 3,
+    calls: 8,
+    round: 1,
+};
+
+#[test]
+fn loads_are_made_even_one_target_at_a_time(rt: HostRuntime) -> Result<(), Fail> {
+    assert!(rt; goes(&rt, rt.alloc(), &SPREADS));
+    assert!(rt;
+        is_even(core_left(over_desk(
+            &rt,
+            rt.alloc(),
+            core_of(rt.alloc(), SPREADS.target_limit),
+            1,
+            &SPREADS.steps,
+        )))
+    );
+    Ok(())
+}
+
+/// Whether each of two collectors has two targets.
+fn is_even(core: Option<Core>) -> bool {
+    match core {
+        Some(core) => held_by(&core, 1) == 2 && held_by(&core, 2) == 2,
+        None => false,
+    }
+}
+
+fn held_by(core: &Core, collector: u32) -> usize {
+    core.allocation()
+        .iter()
+        .filter(|held| held.1 == collector)
+        .count()
 }
 
 const TWO_THREADS: Script = Script {

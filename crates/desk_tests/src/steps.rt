@@ -20,6 +20,8 @@ pub(crate) enum Step {
     Mixed,
     /// A reallocation with so many tries.
     Reallocate(u32),
+    /// A reallocation that makes loads even, with so many tries, this slack and so many moves for that at most.
+    Spread(u32, u32, Option<u32>),
     /// Whether there is anything to reallocate.
     IsChanged,
     /// The entries from a position on, at most so many.
@@ -76,6 +78,10 @@ fn does<L: Ledger, B: Ledger, N: DeskName, R: Wait>(
         Step::Reallocate(tries) => {
             let ended = desk.reallocate(rt, alloc, pass, tries);
             notes.ends(alloc, ended)
+        }
+        Step::Spread(tries, slack, most_moves) => {
+            let ended = desk.spread(rt, alloc, pass, tries, slack, most_moves);
+            notes.ends_spread(alloc, ended)
         }
         Step::IsChanged => {
             let text = if desk.is_changed(rt, pass) {

@@ -7,8 +7,8 @@ use lists::Text;
 use reach_rules::{OwnLimits, Reach};
 use serde_json::Value;
 use service_settings::{
-    Collector, CollectorTimeout, JoiningPattern, ReleaseAfter, Settings, SettingsError, address_of,
-    duration_of, read_settings,
+    Collector, CollectorTimeout, JoiningPattern, ReleaseAfter, Settings, SettingsError, Spread,
+    address_of, duration_of, read_settings,
 };
 use std::alloc::{AllocError, Global};
 
@@ -112,7 +112,8 @@ fn add_refresh(alloc: Global, text: &mut String, settings: &Settings) -> Result<
 fn add_rest(alloc: Global, text: &mut String, settings: &Settings) -> Result<(), AllocError> {
     text.push_str(rest_outline(alloc, settings)?.as_str())?;
     text.push_str(doors_outline(alloc, settings)?.as_str())?;
-    text.push_str(handover_outline(alloc, settings)?.as_str())
+    text.push_str(handover_outline(alloc, settings)?.as_str())?;
+    text.push_str(spread_outline(alloc, settings.spread)?.as_str())
 }
 
 /// The other settings.
@@ -148,7 +149,21 @@ fn doors_outline(alloc: Global, settings: &Settings) -> Result<String, AllocErro
 fn handover_outline(alloc: Global, settings: &Settings) -> Result<String, AllocError> {
     let handover = settings.handover;
     let release = release_outline(alloc, settings.release_after)?;
-    format!(in alloc; " {handover:?} {release}")
+    match &settings.acknowledge {
+        Some(at) => format!(in alloc; " {handover:?} {release} at {}", at.as_str()),
+        None => format!(in alloc; " {handover:?} {release}"),
+    }
+}
+
+/// How even loads are made, where they are.
+fn spread_outline(alloc: Global, spread: Option<Spread>) -> Result<String, AllocError> {
+    let Some(Spread { slack, most_moves }) = spread else {
+        return Ok(String::new(alloc));
+    };
+    match most_moves {
+        Some(most_moves) => format!(in alloc; " even {slack} moves {most_moves}"),
+        None => format!(in alloc; " even {slack}"),
+    }
 }
 
 fn timeout_outline(alloc: Global, timeout: CollectorTimeout) -> Result<String, AllocError> {

@@ -15,9 +15,11 @@ use Rattle.reach_rules.specs.OwnLimits.{LimitList}
 use Rattle.reach_rules.specs.declared.rule.ReachRule.{ReachRule}
 use Rattle.scrape_books.specs.declared.report.Outcome.{Outcome}
 use Rattle.scrape_books.specs.declared.report.Outcome.TheVariants.{Up, Down}
-use Rattle.fleet_events.specs.Writing.{event_data, event_text, join_data, release_data, report_data}
+use Rattle.spread_certificate.specs.declared.even.Even.{Even}
+use Rattle.spread_certificate.specs.declared.spread.Spread.{Spread as SpreadPlan}
+use Rattle.fleet_events.specs.Writing.{event_data, event_text, join_data, release_data, report_data, told_spread_data}
 use Rattle.fleet_events.specs.declared.event.Event.{Event}
-use Rattle.fleet_events.specs.declared.event.Event.TheVariants.{Discover, Join, Leave, Drain, SetLimits, Install, NextRound, Take, Serve, Release, Report}
+use Rattle.fleet_events.specs.declared.event.Event.TheVariants.{Discover, Join, Leave, Drain, SetLimits, Install, Spread, NextRound, Take, Serve, Release, Report}
 use Rattle.durable_journal.specs.Events.{events_text}
 use Rattle.sealed_lines.specs.Lines.{HasNoFeed, with_line}
 use Rattle.durable_journal.specs.Lines.{whole_part}
@@ -134,6 +136,10 @@ release_agrees : (collector : ℕ) (job : Option (List ℕ)) (front lost rest : 
 release_agrees collector None front lost rest e = collector_first (release_data collector None) front lost rest e
 release_agrees collector (Some job) front lost rest e = collector_first (release_data collector (Some job)) front lost rest e
 
+spread_agrees : (spread : SpreadPlan) (told : Option Even) (front lost rest : List ℕ) → front ++ lost ≡ compact_text (told_spread_data spread told) ++ rest → agrees_with_event front ≡ true
+spread_agrees spread None front lost rest e = bin_prices_first (told_spread_data spread None) front lost rest e
+spread_agrees spread (Some even) front lost rest e = bin_prices_first (told_spread_data spread (Some even)) front lost rest e
+
 pub event_agrees : (event : Event) (front lost rest : List ℕ) → front ++ lost ≡ event_text event ++ rest → agrees_with_event front ≡ true
 event_agrees (Discover job source targets) front lost rest e = event_first (event_data (Discover job source targets)) front lost rest e
 event_agrees (Join name reach limits) front lost rest e = join_agrees name reach limits front lost rest e
@@ -141,6 +147,7 @@ event_agrees (Leave collector) front lost rest e = collector_first (event_data (
 event_agrees (Drain collector) front lost rest e = collector_first (event_data (Drain collector)) front lost rest e
 event_agrees (SetLimits collector limits) front lost rest e = collector_first (event_data (SetLimits collector limits)) front lost rest e
 event_agrees (Install plan) front lost rest e = bin_prices_first (event_data (Install plan)) front lost rest e
+event_agrees (Spread spread) front lost rest e = spread_agrees spread spread.even front lost rest e
 event_agrees NextRound front lost rest e = event_first (event_data NextRound) front lost rest e
 event_agrees (Take collector) front lost rest e = collector_first (event_data (Take collector)) front lost rest e
 event_agrees (Serve collector job) front lost rest e = collector_first (event_data (Serve collector job)) front lost rest e

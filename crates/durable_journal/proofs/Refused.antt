@@ -9,7 +9,7 @@ use Rattle.allocation_core.specs.Steps.{answer_by, answer_of, changed, granted, 
 use Rattle.fleet_events.specs.declared.answer.Answer.{Answer}
 use Rattle.fleet_events.specs.declared.answer.Answer.TheVariants.{Discovered, Joined, Left, Draining, LimitsSet, Published, RoundOpen, Taken, Served, Released, Booked, Not}
 use Rattle.fleet_events.specs.declared.event.Event.{Event}
-use Rattle.fleet_events.specs.declared.event.Event.TheVariants.{Discover, Join, Leave, Drain, SetLimits, Install, NextRound, Take, Serve, Release, Report}
+use Rattle.fleet_events.specs.declared.event.Event.TheVariants.{Discover, Join, Leave, Drain, SetLimits, Install, Spread, NextRound, Take, Serve, Release, Report}
 use Rattle.fleet_events.specs.declared.refusal.Refusal.{Refusal}
 use Rattle.durable_journal.specs.Kept.{LeaveOutRefused, is_kept, kept_in}
 
@@ -21,6 +21,7 @@ refused_by None m (Leave id) refusal e = cc
 refused_by None m (Drain id) refusal e = cc
 refused_by None m (SetLimits id limits) refusal e = cc
 refused_by None m (Install plan) refusal e = cc
+refused_by None m (Spread spread) refusal e = cc
 refused_by None m NextRound refusal e = cc
 refused_by None m (Take id) refusal e = cc
 refused_by None m (Serve id name) refusal e = cc

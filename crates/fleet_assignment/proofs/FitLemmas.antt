@@ -135,7 +135,7 @@ pub position_none : (p : Collector → Bool) (i : ℕ) (cs : List Collector) →
 position_none p i [] fails = refl
 position_none p i (x ∷ cs) fails = cond-false (p x) (Some i) (position_from p (i + 1) cs) (fails 0 x refl) ∙ position_none p (i + 1) cs (λ k y e. fails (suc k) y e)
 
-place_is : (m : Moment) (place id : ℕ) (c : Collector) → IsFleet m.fleet → slice_get m.fleet.collectors place ≡ Some c → c.id ≡ id → place_of m.fleet.collectors id ≡ Some place
+pub place_is : (m : Moment) (place id : ℕ) (c : Collector) → IsFleet m.fleet → slice_get m.fleet.collectors place ≡ Some c → c.id ≡ id → place_of m.fleet.collectors id ≡ Some place
 place_is m place id c kept found is =
     position_is (λ (x : Collector). eqb x.id id) 0 place m.fleet.collectors c found (eq-eqb c.id id is)
     (λ k x l e. ne_eqb x.id id (λ s. let r : k ≡ place = one_place m k place x c kept e found (s ∙ sym is) in absurd (omega arith)))

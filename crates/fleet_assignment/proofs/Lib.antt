@@ -1,3 +1,4 @@
+pub mod CapLemmas
 pub mod CountLemmas
 pub mod FitLemmas
 pub mod LimitLemmas

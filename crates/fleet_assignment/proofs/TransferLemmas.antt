@@ -85,27 +85,58 @@ item_once m pairs item kept sound =
     (λ k d l e. eq-eqb (get_or pairs k d).0 t (sym (fit k d l).is_target ∙ ap (λ (i : ℕ). get_or (live_of m.fleet) i 0) (eqb-true (item_of m (get_or pairs k d).0) item e))) in
     omega (arith, few, sound.once t, sum_by-map (λ (r : ℕ × ℕ). cond (eqb r.0 item) 1 0) (λ (q : ℕ × ℕ). (let r : ℕ × ℕ = (item_of m q.0, bin_of m q.0 q.1) in r)) pairs)
 
-bin_within : (m : Moment) (pairs : List (ℕ × ℕ)) (bin : ℕ) → IsFleet m.fleet → IsSound m.fleet pairs → slice_index (instance_of m.fleet m.before).limits bin ≢ 0 → count_by (λ (q : ℕ × ℕ). eqb (bin_of m q.0 q.1) bin) pairs ≤ slice_index (instance_of m.fleet m.before).limits bin
-bin_within m pairs bin kept sound limited = elim (passes_or (λ (q : ℕ × ℕ). eqb (bin_of m q.0 q.1) bin) pairs) [
-  | inl none ↦ omega (arith, none)
+-- a bin is a collector's share of a job
+pub record IsShare (m : Moment) (pairs : List (ℕ × ℕ)) (bin : ℕ) : Type 0 where
+  pub collector : ℕ
+  pub job : ℕ
+  pub place : ℕ
+  pub one : Collector
+  pub found : slice_get m.fleet.collectors place ≡ Some one
+  pub number : one.id ≡ collector
+  pub home : job < length m.fleet.jobs
+  pub is : bin ≡ place * length m.fleet.jobs + job
+  pub few : count_by (λ (q : ℕ × ℕ). eqb (bin_of m q.0 q.1) bin) pairs ≤ share_of m.fleet pairs collector job
+
+pub bin_share : (m : Moment) (pairs : List (ℕ × ℕ)) (bin : ℕ) → IsFleet m.fleet → IsSound m.fleet pairs → (count_by (λ (q : ℕ × ℕ). eqb (bin_of m q.0 q.1) bin) pairs ≡ 0) ⊎ IsShare m pairs bin
+bin_share m pairs bin kept sound = elim (passes_or (λ (q : ℕ × ℕ). eqb (bin_of m q.0 q.1) bin) pairs) [
+  | inl none ↦ inl none
   | inr p ↦
       let q : ℕ × ℕ = get_or pairs p.place (0, 0) in
       let g : Fits m (item_of m q.0) (bin_of m q.0 q.1) q.0 q.1 = all_fit m pairs kept sound p.place (0, 0) p.in_range in
       let is : bin_of m q.0 q.1 ≡ bin = eqb-true (bin_of m q.0 q.1) bin p.pass in
-      let job : ℕ = g.known_as.job in
-      let limit : slice_index (instance_of m.fleet m.before).limits bin ≡ lower_limit (limit_at m.fleet job) (own_limit_at m.fleet q.1 job) =
-      limit_of_bin m g.place job bin g.reacher kept g.found g.home (sym is ∙ g.is_place) ∙ ap (λ (id : ℕ). lower_limit (limit_at m.fleet job) (own_limit_at m.fleet id job)) g.number in
-      let few : count_by (λ (r : ℕ × ℕ). eqb (bin_of m r.0 r.1) bin) pairs ≤ share_of m.fleet pairs q.1 job =
-      count_weaker (λ (r : ℕ × ℕ). eqb (bin_of m r.0 r.1) bin) (λ (r : ℕ × ℕ). eqb r.1 q.1 && is_of_job m.fleet job r.0) pairs
-      (λ k d l e.
-      let r : ℕ × ℕ = get_or pairs k d in
-      let s = same_bin m (item_of m r.0) (bin_of m r.0 r.1) r.0 r.1 (item_of m q.0) (bin_of m q.0 q.1) q.0 q.1 (all_fit m pairs kept sound k d l) g (eqb-true (bin_of m r.0 r.1) bin e ∙ sym is) in
-      and_from (eqb r.1 q.1) (is_of_job m.fleet job r.0) (eq-eqb r.1 q.1 s.0) s.1) in
-      omega (arith, few, limit, lower_least (limit_at m.fleet job) (own_limit_at m.fleet q.1 job) (share_of m.fleet pairs q.1 job) (sound.within q.1 job) (sound.within_own q.1 job) (λ z. limited (limit ∙ z)))
+      inr (record {
+        collector = q.1;
+        job = g.known_as.job;
+        place = g.place;
+        one = g.reacher;
+        found = g.found;
+        number = g.number;
+        home = g.home;
+        is = sym is ∙ g.is_place;
+        few = count_weaker (λ (r : ℕ × ℕ). eqb (bin_of m r.0 r.1) bin) (λ (r : ℕ × ℕ). eqb r.1 q.1 && is_of_job m.fleet g.known_as.job r.0) pairs
+            (λ k d l e.
+            let r : ℕ × ℕ = get_or pairs k d in
+            let s = same_bin m (item_of m r.0) (bin_of m r.0 r.1) r.0 r.1 (item_of m q.0) (bin_of m q.0 q.1) q.0 q.1 (all_fit m pairs kept sound k d l) g (eqb-true (bin_of m r.0 r.1) bin e ∙ sym is) in
+            and_from (eqb r.1 q.1) (is_of_job m.fleet g.known_as.job r.0) (eq-eqb r.1 q.1 s.0) s.1);
+      })
+]
+
+bin_within : (m : Moment) (pairs : List (ℕ × ℕ)) (bin : ℕ) → IsFleet m.fleet → IsSound m.fleet pairs → slice_index (instance_of m.fleet m.before).limits bin ≢ 0 → count_by (λ (q : ℕ × ℕ). eqb (bin_of m q.0 q.1) bin) pairs ≤ slice_index (instance_of m.fleet m.before).limits bin
+bin_within m pairs bin kept sound limited = elim (bin_share m pairs bin kept sound) [
+  | inl none ↦ omega (arith, none)
+  | inr s ↦
+      let limit : slice_index (instance_of m.fleet m.before).limits bin ≡ lower_limit (limit_at m.fleet s.job) (own_limit_at m.fleet s.collector s.job) =
+      limit_of_bin m s.place s.job bin s.one kept s.found s.home s.is ∙ ap (λ (id : ℕ). lower_limit (limit_at m.fleet s.job) (own_limit_at m.fleet id s.job)) s.number in
+      omega (
+        arith,
+        s.few,
+        limit,
+        lower_least (limit_at m.fleet s.job) (own_limit_at m.fleet s.collector s.job) (share_of m.fleet pairs s.collector s.job) (sound.within s.collector s.job) (sound.within_own s.collector s.job) (λ z. limited (limit ∙ z)),
+      )
 ]
 
 -- the plan of a sound allocation is feasible
-plan_feasible : (m : Moment) (pairs : List (ℕ × ℕ)) → IsFleet m.fleet → IsSound m.fleet pairs → IsFeasible (instance_of m.fleet m.before) (plan_from m pairs)
+pub plan_feasible : (m : Moment) (pairs : List (ℕ × ℕ)) → IsFleet m.fleet → IsSound m.fleet pairs → IsFeasible (instance_of m.fleet m.before) (plan_from m pairs)
 plan_feasible m pairs kept sound =
     let fit = all_fit m pairs kept sound in
     let planned : ℕ × ℕ → ℕ × ℕ = λ q. (item_of m q.0, bin_of m q.0 q.1) in
@@ -138,7 +169,7 @@ drains_is m item bin target collector is_kept f =
     ∙ sym (draining_one m.fleet.collectors f.place f.reacher is_kept.ascending f.found) ∙ ap (is_draining m.fleet) f.number
 
 -- and leaves at draining bins what the allocation leaves at draining collectors
-plan_leaves : (m : Moment) (pairs : List (ℕ × ℕ)) → IsFleet m.fleet → IsSound m.fleet pairs → left (instance_of m.fleet m.before) (plan_from m pairs) ≡ left_by m.fleet pairs
+pub plan_leaves : (m : Moment) (pairs : List (ℕ × ℕ)) → IsFleet m.fleet → IsSound m.fleet pairs → left (instance_of m.fleet m.before) (plan_from m pairs) ≡ left_by m.fleet pairs
 plan_leaves m pairs is_kept sound =
     sum_by-map (λ (r : ℕ × ℕ). cond (drains (instance_of m.fleet m.before) r.1) 1 0) (λ (q : ℕ × ℕ). (let r : ℕ × ℕ = (item_of m q.0, bin_of m q.0 q.1) in r)) pairs
     ∙ sum_by-same (λ (q : ℕ × ℕ). cond (drains (instance_of m.fleet m.before) (bin_of m q.0 q.1)) 1 0) (λ (q : ℕ × ℕ). cond (is_draining m.fleet q.1) 1 0) pairs
@@ -157,7 +188,7 @@ sum_allocation m v plan kept feasible =
     record { in_live = f.in_live; one = f.reacher; found = ap (slice_get m.fleet.collectors) (place_by m q.0 q.1 _ _ f) ∙ f.found })
     feasible.once
 
-allocation_size : (m : Moment) (plan : List (ℕ × ℕ)) → IsFleet m.fleet → IsFeasible (instance_of m.fleet m.before) plan → length (allocation_of m.fleet plan) ≡ length plan
+pub allocation_size : (m : Moment) (plan : List (ℕ × ℕ)) → IsFleet m.fleet → IsFeasible (instance_of m.fleet m.before) plan → length (allocation_of m.fleet plan) ≡ length plan
 allocation_size m plan kept feasible = omega (arith, sum_allocation m (λ q. 1) plan kept feasible, ones (allocation_of m.fleet plan), ones plan)
 
 allocation_keeps :
@@ -169,7 +200,7 @@ allocation_keeps m plan is_kept once feasible =
     let q : ℕ × ℕ = get_or plan k d in
     ap (λ (b : Bool). (let r : ℕ = cond b 1 0 in r)) (sym (was_stands m q.0 q.1 _ _ is_kept once (allowed_fits m q.0 q.1 is_kept (feasible.allowed k d l)))))
 
-allocation_leaves : (m : Moment) (plan : List (ℕ × ℕ)) → IsFleet m.fleet → IsFeasible (instance_of m.fleet m.before) plan → left_by m.fleet (allocation_of m.fleet plan) ≡ left (instance_of m.fleet m.before) plan
+pub allocation_leaves : (m : Moment) (plan : List (ℕ × ℕ)) → IsFleet m.fleet → IsFeasible (instance_of m.fleet m.before) plan → left_by m.fleet (allocation_of m.fleet plan) ≡ left (instance_of m.fleet m.before) plan
 allocation_leaves m plan is_kept feasible =
     sum_allocation m (λ (q : ℕ × ℕ). cond (is_draining m.fleet q.1) 1 0) plan is_kept feasible
     ∙ sum_by-same (λ (q : ℕ × ℕ). cond (is_draining m.fleet (meant (length m.fleet.jobs) m.fleet.collectors (live_of m.fleet) q).1) 1 0) (λ (q : ℕ × ℕ). cond (drains (instance_of m.fleet m.before) q.1) 1 0) plan
@@ -185,29 +216,36 @@ pub moves_alike :
     (m : Moment) (plan : List (ℕ × ℕ)) → IsFleet m.fleet → IsOnce m.before → IsSound m.fleet (allocation_of m.fleet plan) → IsFeasible (instance_of m.fleet m.before) plan → moved (instance_of m.fleet m.before) plan ≡ moved_by m.fleet m.before (allocation_of m.fleet plan)
 moves_alike m plan is_kept once sound feasible = omega (arith, before_can m is_kept once, loses_the_rest m (allocation_of m.fleet plan) sound once, allocation_keeps m plan is_kept once feasible)
 
+-- the plan of an allocation has as many pairs
+pub plan_size : (m : Moment) (pairs : List (ℕ × ℕ)) → length (plan_from m pairs) ≡ length pairs
+plan_size m pairs = length-map pairs (λ (q : ℕ × ℕ). (let r : ℕ × ℕ = (item_of m q.0, bin_of m q.0 q.1) in r))
+
+-- where a plan moves no more than another allocation's, its allocation moves no more than that
+pub moves_no_more :
+    (m : Moment) (plan others : List (ℕ × ℕ)) → IsFleet m.fleet → IsOnce m.before → IsFeasible (instance_of m.fleet m.before) plan → IsSound m.fleet (allocation_of m.fleet plan) → IsSound m.fleet others
+    → moved (instance_of m.fleet m.before) plan ≤ moved (instance_of m.fleet m.before) (plan_from m others) → moved_by m.fleet m.before (allocation_of m.fleet plan) ≤ moved_by m.fleet m.before others
+moves_no_more m plan others is_kept once feasible sound fine less =
+    let before = before_can m is_kept once in
+    fewer (before_count (instance_of m.fleet m.before)) (kept (instance_of m.fleet m.before) plan) (kept (instance_of m.fleet m.before) (plan_from m others)) (moved_by m.fleet m.before (allocation_of m.fleet plan)) (moved_by m.fleet m.before others) less
+    (omega (arith, before, loses_the_rest m (allocation_of m.fleet plan) sound once, allocation_keeps m plan is_kept once feasible))
+    (omega (arith, before, loses_the_rest m others fine once, plan_keeps m others is_kept once fine))
+
 -- the allocation of an optimal plan is the best
 pub best_of : (m : Moment) (plan : List (ℕ × ℕ)) → IsFleet m.fleet → IsOnce m.before → IsSound m.fleet (allocation_of m.fleet plan) → IsOptimal (instance_of m.fleet m.before) plan → IsBest m.fleet m.before (allocation_of m.fleet plan)
 best_of m plan is_kept once sound optimal =
     let size = allocation_size m plan is_kept optimal.feasible in
-    let before = before_can m is_kept once in
     record {
       sound = sound;
-      covers = λ others fine. omega (arith, optimal.covers_most (plan_from m others) (plan_feasible m others is_kept fine), length-map others (λ (q : ℕ × ℕ). (let r : ℕ × ℕ = (item_of m q.0, bin_of m q.0 q.1) in r)), size);
+      covers = λ others fine. omega (arith, optimal.covers_most (plan_from m others) (plan_feasible m others is_kept fine), plan_size m others, size);
       leaves = λ others fine same.
-          let long : length (plan_from m others) ≡ length others = length-map others (λ (q : ℕ × ℕ). (let r : ℕ × ℕ = (item_of m q.0, bin_of m q.0 q.1) in r)) in
-          omega (arith, optimal.leaves_least (plan_from m others) (plan_feasible m others is_kept fine) (long ∙ same ∙ size), plan_leaves m others is_kept fine, allocation_leaves m plan is_kept optimal.feasible);
+          omega (arith, optimal.leaves_least (plan_from m others) (plan_feasible m others is_kept fine) (plan_size m others ∙ same ∙ size), plan_leaves m others is_kept fine, allocation_leaves m plan is_kept optimal.feasible);
       moves = λ others fine same alike.
-          let feasible = plan_feasible m others is_kept fine in
           let leaves : left (instance_of m.fleet m.before) (plan_from m others) ≡ left (instance_of m.fleet m.before) plan = plan_leaves m others is_kept fine ∙ alike ∙ allocation_leaves m plan is_kept optimal.feasible in
-          let long : length (plan_from m others) ≡ length others = length-map others (λ (q : ℕ × ℕ). (let r : ℕ × ℕ = (item_of m q.0, bin_of m q.0 q.1) in r)) in
-          fewer (before_count (instance_of m.fleet m.before)) (kept (instance_of m.fleet m.before) plan) (kept (instance_of m.fleet m.before) (plan_from m others)) (moved_by m.fleet m.before (allocation_of m.fleet plan)) (moved_by m.fleet m.before others)
-          (optimal.moves_least (plan_from m others) feasible (long ∙ same ∙ size) leaves)
-          (omega (arith, before, loses_the_rest m (allocation_of m.fleet plan) sound once, allocation_keeps m plan is_kept once optimal.feasible))
-          (omega (arith, before, loses_the_rest m others fine once, plan_keeps m others is_kept once fine));
+          moves_no_more m plan others is_kept once optimal.feasible sound fine (optimal.moves_least (plan_from m others) (plan_feasible m others is_kept fine) (plan_size m others ∙ same ∙ size) leaves);
     }
 
 -- the allocation of a feasible plan is sound
-allocation_sound : (m : Moment) (plan : List (ℕ × ℕ)) → IsFleet m.fleet → IsFeasible (instance_of m.fleet m.before) plan → IsSound m.fleet (allocation_of m.fleet plan)
+pub allocation_sound : (m : Moment) (plan : List (ℕ × ℕ)) → IsFleet m.fleet → IsFeasible (instance_of m.fleet m.before) plan → IsSound m.fleet (allocation_of m.fleet plan)
 allocation_sound m plan is_kept feasible =
     record {
       live = allocation_live m plan;

@@ -243,16 +243,16 @@ limit_of_bin m place job bin one kept found in_range is =
     ap (λ (o : Option Collector). option_map_or (λ (c : Collector). option_map_or (λ (j : JobSpec). own_limit c.limits j.name) (slice_get m.fleet.jobs job) 0) o 0) (find_one m.fleet.collectors place one one.id kept.ascending found refl) in
     share_of_bin m.fleet.jobs m.fleet.collectors place job bin one found in_range is ∙ lower_by (slice_get m.fleet.jobs job) one ∙ ap (lower_limit (limit_at m.fleet job)) (sym own)
 
--- a collector's share of a job is no more than its bin holds
-share_capacity :
+-- a collector's share of a job is no more than its bin has
+pub share_uses :
     (m : Moment) (plan : List (ℕ × ℕ)) → IsFleet m.fleet → IsFeasible (instance_of m.fleet m.before) plan → (collector job : ℕ) (h : HasId m.fleet.collectors collector)
-    → share_of m.fleet (allocation_of m.fleet plan) collector job ≤ capacity_of (instance_of m.fleet m.before) (h.place * length m.fleet.jobs + job)
+    → share_of m.fleet (allocation_of m.fleet plan) collector job ≤ uses_of_bin plan (h.place * length m.fleet.jobs + job)
 unfolding allocation_of
-share_capacity m plan kept feasible collector job h =
+share_uses m plan kept feasible collector job h =
     let bin : ℕ = h.place * length m.fleet.jobs + job in
     let few = share_few m collector job bin (beside plan) 0 (live_of m.fleet)
     (λ i l q e test. bin_test m plan collector job i q h kept feasible l e test) in
-    omega (arith, few, with_uses plan bin 0 (length (live_of m.fleet)), feasible.within bin)
+    omega (arith, few, with_uses plan bin 0 (length (live_of m.fleet)))
   where
     bin_test :
         (m : Moment) (plan : List (ℕ × ℕ)) (collector job i : ℕ) (q : ℕ × ℕ) (h : HasId m.fleet.collectors collector) → IsFleet m.fleet → IsFeasible (instance_of m.fleet m.before) plan → i < length (live_of m.fleet)
@@ -265,7 +265,13 @@ share_capacity m plan kept feasible collector job h =
         let is : b ≡ h.place * length m.fleet.jobs + job = bin_by m collector job t b c h (slice_get m.fleet.known t) kept refl (λ k f. found_has (λ (x : KnownTarget). x.job < length m.fleet.jobs) m.fleet.known t k kept.homes f) has found tested in
         ap (λ (o : Option ℕ). is_bin o (h.place * length m.fleet.jobs + job)) s ∙ eq-eqb b (h.place * length m.fleet.jobs + job) is) e test
 
-share_nobody :
+-- and no more than the bin holds
+share_capacity :
+    (m : Moment) (plan : List (ℕ × ℕ)) → IsFleet m.fleet → IsFeasible (instance_of m.fleet m.before) plan → (collector job : ℕ) (h : HasId m.fleet.collectors collector)
+    → share_of m.fleet (allocation_of m.fleet plan) collector job ≤ capacity_of (instance_of m.fleet m.before) (h.place * length m.fleet.jobs + job)
+share_capacity m plan kept feasible collector job h = omega (arith, share_uses m plan kept feasible collector job h, feasible.within (h.place * length m.fleet.jobs + job))
+
+pub share_nobody :
     (m : Moment) (plan : List (ℕ × ℕ)) (collector job : ℕ) → ((k : ℕ) (c : Collector) → slice_get m.fleet.collectors k ≡ Some c → eqb c.id collector ≡ false) → share_of m.fleet (allocation_of m.fleet plan) collector job ≡ 0
 unfolding allocation_of
 share_nobody m plan collector job none = share_none m collector job (beside plan) 0 (live_of m.fleet) none

@@ -3,3 +3,4 @@ pub mod Beside
 pub mod Best
 pub mod Instance
 pub mod Tables
+pub mod Within

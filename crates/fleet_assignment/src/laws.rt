@@ -1,5 +1,6 @@
 //! What a plan and its allocation have to do with one another.
 ghost use Rattle.fleet_assignment.specs.Best.{InstancesAreProblems, FeasibleAreCarriedOver, OptimalIsBest, AllocationsAreOnce};
+ghost use Rattle.fleet_assignment.specs.Within.{BestCoverMost, BestWithinIsCarriedOver};
 
 /// The instance of a fleet and a preceding allocation is one.
 pub fn instances_are_problems()
@@ -15,6 +16,17 @@ pub fn feasible_are_carried_over()
 /// A feasible plan is optimal for the instance exactly if its allocation is a best one of the fleet.
 pub fn optimal_is_best()
     ensures { OptimalIsBest }
+{}
+
+/// The allocation of a plan that is the best within caps, which cost nothing, is so too.
+pub fn best_within_is_carried_over()
+    ensures { BestWithinIsCarriedOver }
+{}
+
+/// The best of all allocations, and the best within caps that cost nothing, cover the most targets and leave the fewest at draining
+/// collectors.
+pub fn best_cover_most()
+    ensures { BestCoverMost }
 {}
 
 /// No target stands twice in an allocation, whatever the plan.

@@ -2,10 +2,11 @@
 use Rattle.std.specs.Prelude.{ℕ, List, [], ◌∷◌, ◌++◌, Option, Some, None, codes}
 use Rattle.std.specs.Fmt.{decimal}
 use Rattle.price_certificate.specs.Lines.{fault_line}
+use Rattle.spread_certificate.specs.Lines.{spread_line}
 use Rattle.fleet_events.specs.declared.answer.Answer.{Answer}
 use Rattle.fleet_events.specs.declared.answer.Answer.TheVariants.{Discovered, Joined, Left, Draining, LimitsSet, Published, RoundOpen, Taken, Served, Released, Booked, Not}
 use Rattle.fleet_events.specs.declared.refusal.Refusal.{Refusal}
-use Rattle.fleet_events.specs.declared.refusal.Refusal.TheVariants.{UnknownJob, UnknownSource, TooManyLive, TooManyKnown, AlreadyJoined, TooManyCollectors, IdsSpent, UnknownCollector, AlreadyDraining, Refused, Unchanged, NumbersSpent, RoundsSpent, NotTaken, UnknownTarget, NotHolder, StillServed, RoundClosed, RoundNotOpen, AlreadyBooked}
+use Rattle.fleet_events.specs.declared.refusal.Refusal.TheVariants.{UnknownJob, UnknownSource, TooManyLive, TooManyKnown, AlreadyJoined, TooManyCollectors, IdsSpent, UnknownCollector, AlreadyDraining, Refused, RefusedSpread, Unchanged, NumbersSpent, RoundsSpent, NotTaken, UnknownTarget, NotHolder, StillServed, RoundClosed, RoundNotOpen, AlreadyBooked}
 
 -- a holder's number, or none
 abbrev pub holder_line : Option ℕ → List ℕ
@@ -33,6 +34,7 @@ refusal_line IdsSpent = codes "IdsSpent"
 refusal_line UnknownCollector = codes "UnknownCollector"
 refusal_line AlreadyDraining = codes "AlreadyDraining"
 refusal_line (Refused fault) = codes "Refused " ++ fault_line fault
+refusal_line (RefusedSpread fault) = codes "RefusedSpread " ++ spread_line fault
 refusal_line (Unchanged number) = codes "Unchanged " ++ decimal number
 refusal_line NumbersSpent = codes "NumbersSpent"
 refusal_line RoundsSpent = codes "RoundsSpent"

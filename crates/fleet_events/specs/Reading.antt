@@ -13,8 +13,9 @@ use Rattle.reach_rules.specs.OwnLimits.{LimitList, limits_in}
 use Rattle.reach_rules.specs.Spelling.{reach_in}
 use Rattle.scrape_books.specs.declared.report.Outcome.{Outcome}
 use Rattle.scrape_books.specs.declared.report.Outcome.TheVariants.{Up, Down}
+use Rattle.spread_certificate.specs.Document.{spread_in}
 use Rattle.fleet_events.specs.declared.event.Event.{Event}
-use Rattle.fleet_events.specs.declared.event.Event.TheVariants.{Discover, Join, Leave, Drain, SetLimits, Install, NextRound, Take, Serve, Release, Report}
+use Rattle.fleet_events.specs.declared.event.Event.TheVariants.{Discover, Join, Leave, Drain, SetLimits, Install, Spread, NextRound, Take, Serve, Release, Report}
 use Rattle.fleet_events.specs.Targets.{target_in}
 
 -- ---- discover
@@ -68,6 +69,12 @@ set_limits_in d = option_and_then (λ collector. option_map (SetLimits collector
 -- a plan
 abbrev pub install_in : Data → Option Event
 install_in d = option_map Install (plan_in d)
+
+-- ---- spread
+
+-- a plan, the caps that it is within, and the prices where nothing was before
+abbrev pub spread_event_in : Data → Option Event
+spread_event_in d = option_and_then (λ plan. option_map Spread (spread_in plan d)) (plan_in d)
 
 -- ---- serve and release
 
@@ -125,7 +132,8 @@ event_named name d =
     else (if bytes_eq name (codes "limits") then set_limits_in d else (if bytes_eq name (codes "install") then install_in d
     else (if bytes_eq name (codes "round") then Some NextRound else (if bytes_eq name (codes "take") then take_in d
     else (if bytes_eq name (codes "serve") then serve_in d else (if bytes_eq name (codes "release") then release_in d
-    else (if bytes_eq name (codes "report") then report_in d else None))))))))))
+    else (if bytes_eq name (codes "report") then report_in d else (if bytes_eq name (codes "spread") then spread_event_in d
+    else None)))))))))))
 
 -- the event that a JSON value says
 unfoldable pub event_in : Data → Option Event

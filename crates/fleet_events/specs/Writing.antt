@@ -1,6 +1,6 @@
 -- The one form in which an event is written: a compact JSON object, its members in byte order of their names.
 use Rattle.std.specs.Prelude.{ℕ, List, [], ◌∷◌, Option, Some, None, true, false, codes}
-use Rattle.serde_json.specs.Data.{Data, boolean, string, object, no_members, member}
+use Rattle.serde_json.specs.Data.{Data, Members, boolean, string, object, no_members, member}
 use Rattle.serde_json.specs.Written.{compact_text}
 use Rattle.json_values.specs.Spelling.{number_data, pair_data, list_data}
 use Rattle.label_sets.specs.Target.{FinalTarget, target_data}
@@ -10,8 +10,11 @@ use Rattle.reach_rules.specs.Spelling.{reach_data}
 use Rattle.reach_rules.specs.declared.rule.ReachRule.{ReachRule}
 use Rattle.scrape_books.specs.declared.report.Outcome.{Outcome}
 use Rattle.scrape_books.specs.declared.report.Outcome.TheVariants.{Up, Down}
+use Rattle.spread_certificate.specs.Document.{even_data}
+use Rattle.spread_certificate.specs.declared.even.Even.{Even}
+use Rattle.spread_certificate.specs.declared.spread.Spread.{Spread as SpreadPlan}
 use Rattle.fleet_events.specs.declared.event.Event.{Event}
-use Rattle.fleet_events.specs.declared.event.Event.TheVariants.{Discover, Join, Leave, Drain, SetLimits, Install, NextRound, Take, Serve, Release, Report}
+use Rattle.fleet_events.specs.declared.event.Event.TheVariants.{Discover, Join, Leave, Drain, SetLimits, Install, Spread, NextRound, Take, Serve, Release, Report}
 
 abbrev pub discover_data : List ℕ → ℕ → List FinalTarget → Data
 discover_data job source targets =
@@ -54,6 +57,33 @@ install_data plan =
     (member (codes "event") (string (codes "install"))
     (member (codes "item_prices") (list_data number_data plan.item_prices)
     (member (codes "pairs") (list_data pair_data plan.pairs) no_members))))
+
+-- the members of a spread behind its name
+abbrev pub free_members : SpreadPlan → Members
+free_members spread =
+    member (codes "free_bin_prices") (list_data number_data spread.free_bin_prices)
+    (member (codes "free_item_prices") (list_data number_data spread.free_item_prices)
+    (member (codes "item_prices") (list_data number_data spread.plan.item_prices)
+    (member (codes "pairs") (list_data pair_data spread.plan.pairs) no_members)))
+
+-- the spread, where it tells this of how even it is
+abbrev pub told_spread : SpreadPlan → Option Even → SpreadPlan
+told_spread spread even = record spread { even = even }
+
+-- a spread that does not tell how even it is has no member `even`
+abbrev pub told_spread_data : SpreadPlan → Option Even → Data
+told_spread_data spread None =
+    object (member (codes "bin_prices") (list_data number_data spread.plan.bin_prices)
+    (member (codes "caps") (list_data number_data spread.caps)
+    (member (codes "event") (string (codes "spread")) (free_members spread))))
+told_spread_data spread (Some even) =
+    object (member (codes "bin_prices") (list_data number_data spread.plan.bin_prices)
+    (member (codes "caps") (list_data number_data spread.caps)
+    (member (codes "even") (even_data even)
+    (member (codes "event") (string (codes "spread")) (free_members spread)))))
+
+abbrev pub spread_event_data : SpreadPlan → Data
+spread_event_data spread = told_spread_data spread spread.even
 
 abbrev pub round_data : Data
 round_data = object (member (codes "event") (string (codes "round")) no_members)
@@ -100,6 +130,7 @@ event_data (Leave collector) = collector_data (codes "leave") collector
 event_data (Drain collector) = collector_data (codes "drain") collector
 event_data (SetLimits collector limits) = set_limits_data collector limits
 event_data (Install plan) = install_data plan
+event_data (Spread spread) = spread_event_data spread
 event_data NextRound = round_data
 event_data (Take collector) = collector_data (codes "take") collector
 event_data (Serve collector job) = serve_data collector job

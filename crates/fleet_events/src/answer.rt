@@ -220,7 +220,7 @@ impl Plain for Answer {
             }
             (Answer::Released(count), Answer::Released(other_count)) => *count == *other_count,
             (Answer::Booked, Answer::Booked) => true,
-            (Answer::Not(refusal), Answer::Not(other_refusal)) => *refusal == *other_refusal,
+            (Answer::Not(refusal), Answer::Not(other_refusal)) => refusal.same(other_refusal),
             _ => false,
         }
     }

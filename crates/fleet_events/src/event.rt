@@ -5,6 +5,7 @@ use label_sets::Target;
 use lists::{List, Plain, Text};
 use price_certificate::Plan;
 use reach_rules::{CollectorName, OwnLimits, Reach};
+use spread_certificate::Spread;
 use std::alloc::AllocError;
 
 /// What the allocator is asked.
@@ -33,6 +34,8 @@ pub enum Event {
     },
     /// A plan is to be published.
     Install(Plan),
+    /// A plan within caps is to be published.
+    Spread(Spread),
     /// The next round opens.
     NextRound,
     /// The collector takes the current allocation.
@@ -92,6 +95,7 @@ impl Plain for Event {
                 })
             }
             Event::Install(plan) => Ok(Event::Install(plan.copy()?)),
+            Event::Spread(spread) => Ok(Event::Spread(spread.copy()?)),
             Event::NextRound => Ok(Event::NextRound),
             Event::Take(collector) => Ok(Event::Take(*collector)),
             Event::Serve { collector, job } => {
@@ -152,6 +156,7 @@ impl Plain for Event {
                 },
             ) => *collector == *other_collector && limits.same(other_limits),
             (Event::Install(plan), Event::Install(other_plan)) => plan.same(other_plan),
+            (Event::Spread(spread), Event::Spread(other_spread)) => spread.same(other_spread),
             (Event::NextRound, Event::NextRound) => true,
             (Event::Take(collector), Event::Take(other_collector)) => {
                 *collector == *other_collector

@@ -12,6 +12,7 @@ mod number_lists;
 mod reading;
 mod refusal;
 mod report;
+mod spreads;
 mod target;
 mod writing;
 

@@ -7,6 +7,7 @@ ghost use Rattle.fleet_events.specs.Reading.{targets_in, discover_in, join_in, l
 
 use crate::event::Event;
 use crate::report::Report;
+use crate::spreads::read_spread;
 use crate::target::read_targets;
 use json_values::{Spelled, member, number, parse};
 use label_sets::Target;
@@ -52,6 +53,7 @@ fn read_named(alloc: Global, name: &str, value: &Value) -> Result<Option<Event>,
         "serve" => read_serve(alloc, value),
         "release" => read_release(alloc, value),
         "report" => read_report(alloc, value),
+        "spread" => read_spread(alloc, value),
         _ => Ok(None),
     }
 }

@@ -1,10 +1,11 @@
 //! Why an event changed nothing, and the text of it.
-ghost use Rattle.std.specs.Prelude.{◌≡◌, IfOk, string_bytes};
+ghost use Rattle.std.specs.Prelude.{◌≡◌, ◌↔◌, IfOk, IsTrue, string_bytes};
 ghost use Rattle.fleet_events.specs.Lines.{refusal_line};
 
 use crate::ids::{AllocationNumber, CollectorId, Round};
 use lists::Plain;
 use price_certificate::Fault;
+use spread_certificate::{EvenFault, SpreadFault};
 use std::alloc::{AllocError, Global};
 
 /// Why an event changed nothing.
@@ -30,6 +31,8 @@ pub enum Refusal {
     AlreadyDraining,
     /// The checker's first fault of the plan.
     Refused(Fault),
+    /// The judge's first fault of the spread.
+    RefusedSpread(SpreadFault),
     /// The plan has the pairs of the current allocation, which has this number.
     Unchanged(AllocationNumber),
     /// The last number of an allocation is given.
@@ -68,6 +71,7 @@ impl Refusal {
             Refusal::UnknownCollector => String::from_str(alloc, "UnknownCollector"),
             Refusal::AlreadyDraining => String::from_str(alloc, "AlreadyDraining"),
             Refusal::Refused(fault) => refused_line(alloc, fault),
+            Refusal::RefusedSpread(fault) => refused_spread_line(alloc, fault),
             Refusal::Unchanged(number) => format!(in alloc; "Unchanged {number}"),
             Refusal::NumbersSpent => String::from_str(alloc, "NumbersSpent"),
             Refusal::RoundsSpent => String::from_str(alloc, "RoundsSpent"),
@@ -92,6 +96,16 @@ fn refused_line(alloc: Global, fault: &Fault) -> Result<String, AllocError>
     Ok(line)
 }
 
+/// `RefusedSpread`, and the fault's line after one space.
+fn refused_spread_line(alloc: Global, fault: &SpreadFault) -> Result<String, AllocError>
+    ensures { IfOk result (λ s. string_bytes s ≡ refusal_line (Refusal.RefusedSpread fault.now)) }
+{
+    let mut line = String::from_str(alloc, "RefusedSpread ")?;
+    let rest = fault.line(alloc)?;
+    line.push_str(rest.as_str())?;
+    Ok(line)
+}
+
 /// The line of a target's other holder, or of none.
 fn holder_line(alloc: Global, holder: Option<CollectorId>) -> Result<String, AllocError>
     ensures { IfOk result (λ s. string_bytes s ≡ refusal_line (Refusal.NotHolder holder)) }
@@ -108,6 +122,73 @@ impl Plain for Refusal {
     }
 
     fn same(&self, other: &Refusal) -> bool {
-        *self == *other
+        match (self, other) {
+            (Refusal::UnknownJob, Refusal::UnknownJob) => true,
+            (Refusal::UnknownSource, Refusal::UnknownSource) => true,
+            (Refusal::TooManyLive, Refusal::TooManyLive) => true,
+            (Refusal::TooManyKnown, Refusal::TooManyKnown) => true,
+            (Refusal::AlreadyJoined(id), Refusal::AlreadyJoined(other_id)) => *id == *other_id,
+            (Refusal::TooManyCollectors, Refusal::TooManyCollectors) => true,
+            (Refusal::IdsSpent, Refusal::IdsSpent) => true,
+            (Refusal::UnknownCollector, Refusal::UnknownCollector) => true,
+            (Refusal::AlreadyDraining, Refusal::AlreadyDraining) => true,
+            (Refusal::Refused(fault), Refusal::Refused(other_fault)) => fault.same(other_fault),
+            (Refusal::RefusedSpread(fault), Refusal::RefusedSpread(other_fault)) => same_fault(
+                fault,
+                other_fault,
+            ),
+            (Refusal::Unchanged(number), Refusal::Unchanged(other_number)) => *number
+                == *other_number,
+            (Refusal::NumbersSpent, Refusal::NumbersSpent) => true,
+            (Refusal::RoundsSpent, Refusal::RoundsSpent) => true,
+            (Refusal::NotTaken(number), Refusal::NotTaken(other_number)) => *number
+                == *other_number,
+            (Refusal::UnknownTarget, Refusal::UnknownTarget) => true,
+            (Refusal::NotHolder(holder), Refusal::NotHolder(other_holder)) => holder.same(
+                other_holder,
+            ),
+            (Refusal::StillServed(id), Refusal::StillServed(other_id)) => *id == *other_id,
+            (Refusal::RoundClosed(round), Refusal::RoundClosed(other_round)) => *round
+                == *other_round,
+            (Refusal::RoundNotOpen(round), Refusal::RoundNotOpen(other_round)) => *round
+                == *other_round,
+            (Refusal::AlreadyBooked, Refusal::AlreadyBooked) => true,
+            _ => false,
+        }
+    }
+}
+
+/// Whether two faults of spreads are equal.
+fn same_fault(fault: &SpreadFault, other: &SpreadFault) -> bool
+    ensures { IsTrue result ↔ (fault.now ≡ other.now) }
+{
+    match (fault, other) {
+        (SpreadFault::WrongCaps, SpreadFault::WrongCaps) => true,
+        (SpreadFault::CapTooHigh(bin), SpreadFault::CapTooHigh(other_bin)) => *bin == *other_bin,
+        (SpreadFault::Free(fault), SpreadFault::Free(other)) => fault.same(other),
+        (SpreadFault::Within(fault), SpreadFault::Within(other)) => fault.same(other),
+        (SpreadFault::Even(fault), SpreadFault::Even(other)) => same_even_fault(fault, other),
+        _ => false,
+    }
+}
+
+/// Whether two faults of how even a spread is are equal.
+fn same_even_fault(fault: &EvenFault, other: &EvenFault) -> bool
+    ensures { IsTrue result ↔ (fault.now ≡ other.now) }
+{
+    match (fault, other) {
+        (EvenFault::NoJobs, EvenFault::NoJobs) => true,
+        (EvenFault::SlackTooHigh(slack), EvenFault::SlackTooHigh(other)) => *slack == *other,
+        (EvenFault::WrongLengths, EvenFault::WrongLengths) => true,
+        (EvenFault::CoversOther(a, b), EvenFault::CoversOther(c, d)) => *a == *c && *b == *d,
+        (EvenFault::LeavesOther(a, b), EvenFault::LeavesOther(c, d)) => *a == *c && *b == *d,
+        (EvenFault::Witness(fault), EvenFault::Witness(other)) => fault.same(other),
+        (EvenFault::LevelTooHigh(collector), EvenFault::LevelTooHigh(other)) => *collector
+            == *other,
+        (EvenFault::PriceTooLow(a, b), EvenFault::PriceTooLow(c, d)) => *a == *c && *b == *d,
+        (EvenFault::SumsDiffer(a, b), EvenFault::SumsDiffer(c, d)) => *a == *c && *b == *d,
+        (EvenFault::OffLevel(collector), EvenFault::OffLevel(other)) => *collector == *other,
+        (EvenFault::CapsTooHigh(collector), EvenFault::CapsTooHigh(other)) => *collector == *other,
+        _ => false,
     }
 }

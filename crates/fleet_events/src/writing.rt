@@ -12,6 +12,7 @@ ghost use Rattle.fleet_events.specs.Writing.{discover_data, unlimited_join_data,
 use crate::event::Event;
 use crate::ids::CollectorId;
 use crate::report::Report;
+use crate::spreads::spread_value;
 use json_values::{Spelled, text_of};
 use label_sets::{Target, finishes_again, map_laws};
 use lists::Text;
@@ -51,6 +52,7 @@ impl Event {
             Event::Drain(collector) => drain_value(alloc, *collector),
             Event::SetLimits { collector, limits } => set_limits_value(alloc, *collector, limits),
             Event::Install(plan) => install_value(alloc, plan),
+            Event::Spread(spread) => spread_value(alloc, spread),
             Event::NextRound => round_value(alloc),
             Event::Take(collector) => take_value(alloc, *collector),
             Event::Serve { collector, job } => serve_value(alloc, *collector, job),

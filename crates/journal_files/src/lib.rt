@@ -8,9 +8,11 @@ mod journals;
 mod names;
 mod opening;
 mod reading;
+mod rounds;
 
 pub use fault::Fault;
 pub use guarding::is_same_file;
 pub use journals::Journals;
 pub use names::{NamedCollector, with_names};
 pub use opening::{Opened, open_allocator};
+pub use rounds::round_age;

@@ -39,15 +39,26 @@ struct Written {
 }
 
 /// The allocator that the last of the journals leads to, under these jobs of a configuration. Where it has other jobs it is renewed under
-/// these, and another journal begins. A new journal begins with this line of the configuration, and so does an allocator without one.
+/// these, and another journal begins. A new journal begins with this line of the configuration, and so does an allocator without one. A round
+/// is so many milliseconds long.
 pub fn open_allocator<R: Files<File = File> + AllocGlobal + Clock + Eprint + Copy + Drop>(
     journals: &Journals<R>,
     line: &str,
     jobs: &[Job],
+    round: u64,
 ) -> Result<Opened<File>, Fault> {
     let epoch = next_epoch(&journals.rt, 0);
     match journals.path() {
-        Some(path) => open_at(journals, path, Wanted { line, jobs, epoch }),
+        Some(path) => open_at(
+            journals,
+            path,
+            Wanted {
+                line,
+                jobs,
+                epoch,
+                round,
+            },
+        ),
         None => Ok(Opened {
             core: configured(journals.alloc, line.as_bytes())?,
             epoch,

@@ -2,6 +2,7 @@
 use crate::fault::Fault;
 use crate::guarding::{altered, no_journal, too_long};
 use crate::names::{NamedCollector, names_in, with_names};
+use crate::rounds::round_age;
 use allocation_core::{Core, JobSpec, NotRenewed, RenewalError};
 use durable_journal::{FirstLine, Recovered, are_jobs_of, epoch_of, recover, with_epoch};
 use lists::copies;
@@ -49,8 +50,10 @@ pub(crate) struct Wanted<'a> {
     /// The document of the configuration, as one line.
     pub(crate) line: &'a str,
     pub(crate) jobs: &'a [Job],
-    /// The epoch of a journal that begins now, unless that before it is later.
+    /// The epoch of a journal that begins now, where there is none before it.
     pub(crate) epoch: u64,
+    /// How long a round is, in milliseconds.
+    pub(crate) round: u64,
 }
 
 /// What a journal tells beside its allocator.
@@ -201,7 +204,7 @@ fn jobs_in(alloc: Global, line: &str) -> Result<Vec<JobSpec>, Fault> {
 }
 
 fn replaced(alloc: Global, wanted: Wanted<'_>, past: Past, core: Core) -> Result<Begun, Fault> {
-    let epoch = wanted.epoch.max(past.epoch.saturating_add(1));
+    let epoch = epoch_behind(wanted, past.epoch);
     match renewed_line(alloc, wanted.line, epoch, past.names.as_slice(), &core) {
         Ok(first) => Ok(Begun {
             core,
@@ -213,6 +216,12 @@ fn replaced(alloc: Global, wanted: Wanted<'_>, past: Past, core: Core) -> Result
         }),
         Err(fault) => Err(fault),
     }
+}
+
+/// The epoch behind another: when the open round began, or the next number where that is not later.
+fn epoch_behind(wanted: Wanted<'_>, last: u64) -> u64 {
+    let age = round_age(last, wanted.epoch, wanted.round);
+    wanted.epoch.saturating_sub(age).max(last.saturating_add(1))
 }
 
 /// The first line of the journal of a renewed allocator.

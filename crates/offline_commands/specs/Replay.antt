@@ -18,7 +18,8 @@ ended_status ended.Done = Done
 ended_status ended.Unreadable = Unreadable
 
 -- The text is what the replay of the input says: the answers of a run of the machine over the events that the lines say,
--- where each published allocation is the best of its moment and each booked report is the holder's.
+-- where each published allocation is the best of its moment, or the best within caps that cost nothing, and each booked report is
+-- the holder's.
 pub record IsReplay (input text : List ℕ) (status : Status) : Type 0 where
   pub says : text ≡ (replay_of input).text
   pub ends : status ≡ ended_status (replay_of input).ended

@@ -13,7 +13,7 @@ use Rattle.fleet.specs.Jobs.{are_jobs, job_named}
 use Rattle.fleet.specs.declared.job.JobSpec.{JobSpec}
 use Rattle.fleet_assignment.specs.Best.{IsOnce}
 use Rattle.fleet_events.specs.declared.event.Event.{Event}
-use Rattle.fleet_events.specs.declared.event.Event.TheVariants.{Discover, Join, Leave, Drain, SetLimits, Install, NextRound, Take, Serve, Release, Report}
+use Rattle.fleet_events.specs.declared.event.Event.TheVariants.{Discover, Join, Leave, Drain, SetLimits, Install, Spread, NextRound, Take, Serve, Release, Report}
 use Rattle.fleet_events.specs.declared.refusal.Refusal.{Refusal}
 use Rattle.fleet_renewal.specs.Renewed.{carried, renewed_fleet}
 use Rattle.fleet_renewal.proofs.Gets.{all_at}
@@ -65,6 +65,7 @@ changed_jobs m (Leave id) = refl
 changed_jobs m (Drain id) = refl
 changed_jobs m (SetLimits id limits) = refl
 changed_jobs m (Install plan) = refl
+changed_jobs m (Spread spread) = refl
 changed_jobs m NextRound = refl
 changed_jobs m (Take id) = refl
 changed_jobs m (Serve id name) = refl
@@ -90,6 +91,7 @@ changed_round m (Leave id) = omega arith
 changed_round m (Drain id) = omega arith
 changed_round m (SetLimits id limits) = omega arith
 changed_round m (Install plan) = omega arith
+changed_round m (Spread spread) = omega arith
 changed_round m NextRound = omega arith
 changed_round m (Take id) = omega arith
 changed_round m (Serve id name) = omega arith

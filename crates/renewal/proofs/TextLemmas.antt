@@ -16,7 +16,7 @@ use Rattle.fleet.specs.declared.job.JobSpec.{JobSpec}
 use Rattle.fleet.specs.declared.known_target.KnownTarget.{KnownTarget}
 use Rattle.fleet_events.specs.declared.answer.Answer.TheVariants.{Booked}
 use Rattle.fleet_events.specs.declared.event.Event.{Event}
-use Rattle.fleet_events.specs.declared.event.Event.TheVariants.{Discover, Join, Leave, Drain, SetLimits, Install, NextRound, Take, Serve, Release, Report}
+use Rattle.fleet_events.specs.declared.event.Event.TheVariants.{Discover, Join, Leave, Drain, SetLimits, Install, Spread, NextRound, Take, Serve, Release, Report}
 use Rattle.fleet_events.specs.declared.refusal.Refusal.{Refusal}
 use Rattle.fleet_events.specs.declared.refusal.Refusal.TheVariants.{NotTaken, UnknownCollector, UnknownTarget}
 use Rattle.handover.specs.Handover.{holder_in}
@@ -64,6 +64,7 @@ changed_known m (Leave id) = omega arith
 changed_known m (Drain id) = omega arith
 changed_known m (SetLimits id limits) = omega arith
 changed_known m (Install plan) = omega arith
+changed_known m (Spread spread) = omega arith
 changed_known m NextRound = omega arith
 changed_known m (Take id) = omega arith
 changed_known m (Serve id name) = omega arith

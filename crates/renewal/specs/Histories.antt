@@ -6,7 +6,7 @@ use Rattle.fleet.specs.Jobs.{are_jobs}
 use Rattle.fleet.specs.declared.job.JobSpec.{JobSpec}
 use Rattle.fleet_assignment.specs.Best.{IsOnce}
 use Rattle.fleet_events.specs.declared.event.Event.{Event}
-use Rattle.allocation_core.specs.Best.{WasBest}
+use Rattle.allocation_core.specs.Best.{WasPublished}
 use Rattle.allocation_core.specs.Booked.{WasBooked}
 use Rattle.allocation_core.specs.Kept.{IsKept}
 use Rattle.allocation_core.specs.Renewed.{renewal_refusal, renewed}
@@ -33,11 +33,12 @@ abbrev pub IsOnceByText : State → Type 0
 IsOnceByText m =
     (i j : ℕ) (a b : ℕ × Entry) → i < j → slice_get m.booked i ≡ Some a → slice_get m.booked j ≡ Some b → job_name m.fleet a.0 ≡ job_name m.fleet b.0 → text_of m.fleet a.0 ≡ text_of m.fleet b.0 → a.1.round < b.1.round
 
--- A stretch from a state: each allocation that it published was the best of its moment, and each report that it booked was booked
--- as it should be, in a later round than the target's others. Allocations that were there before are not of it.
+-- A stretch from a state: each allocation that it published was the best of its moment, or the best within caps that cost nothing, and
+-- each report that it booked was booked as it should be, in a later round than the target's others. Allocations that were there before
+-- are not of it.
 pub record IsGood (start : State) (events : List Event) : Type 0 where
   pub kept : IsKept (state_of start events)
-  pub best : (place : ℕ) → length start.published ≤ place → place < length (state_of start events).published → WasBest start events place (slice_index_or (state_of start events).published place [])
+  pub best : (place : ℕ) → length start.published ≤ place → place < length (state_of start events).published → WasPublished start events place (slice_index_or (state_of start events).published place [])
   pub booked : (place : ℕ) (b : ℕ × Entry) → slice_get (state_of start events).booked place ≡ Some b → WasBooked start events place b
   pub held : All (λ (b : ℕ × Entry). holder_in (state_of start events).published b.1.number b.0 ≡ Some b.1.collector) (state_of start events).booked
   pub once : IsOnceByText (state_of start events)

@@ -30,7 +30,7 @@ pub record IsRunFrom (m : State) (events : List Event) (written : Written) : Typ
   pub text : written.text ≡ answered_lines (answers_of m events) ++ last
   pub total : written.ended ≡ Done → last ≡ total_line (state_of m events)
 
--- and each allocation is the best of its moment, each report booked as it should be
+-- and each allocation is the best of its moment, or the best within caps that cost nothing, and each report booked as it should be
 pub record IsRun (jobs : List JobSpec) (events : List Event) (written : Written) : Type 0 where
   pub run : IsRunFrom (first_state jobs) events written
   pub best : AllBest (first_state jobs) events (state_of (first_state jobs) events)

@@ -1,7 +1,7 @@
 //! What requests ask for.
 use fleet_events::Event;
 use http::{Method, Uri};
-use sd_routes::{Ask, RequestError, Routes, event_of, misshapen_member, route};
+use sd_routes::{Acknowledgement, Ask, RequestError, Routes, event_of, misshapen_member, route};
 use std::alloc::{AllocError, Global};
 use std::str;
 
@@ -100,6 +100,7 @@ fn spelled(alloc: Global, ask: &Ask) -> Result<String, AllocError> {
             format!(in alloc; "targets of <{}> {at} <{}>", job.as_str(), name.as_str())
         }
         Ask::Uncovered(job) => format!(in alloc; "uncovered of <{}>", job.as_str()),
+        Ask::Acknowledged(told) => spelled_acknowledgement(alloc, told),
         Ask::Certificate => String::from_str(alloc, "certificate"),
         Ask::Join => String::from_str(alloc, "join"),
         Ask::Leave(collector) => format!(in alloc; "leave {collector}"),
@@ -114,4 +115,10 @@ fn spelled(alloc: Global, ask: &Ask) -> Result<String, AllocError> {
         Ask::Reload => String::from_str(alloc, "reload"),
         Ask::Quit => String::from_str(alloc, "quit"),
     }
+}
+
+fn spelled_acknowledgement(alloc: Global, told: &Acknowledgement) -> Result<String, AllocError> {
+    let (collector, list, epoch) = (told.collector, told.list, told.epoch);
+    let job = told.job.as_str();
+    format!(in alloc; "{collector} follows list {list} of <{job}> of epoch {epoch}")
 }

@@ -13,7 +13,9 @@ use Rattle.json_values.specs.Spelling.{list_data}
 use Rattle.label_sets.specs.Labels.{LabelList}
 use Rattle.sd_documents.specs.declared.config.Job.{Job}
 use Rattle.sd_routes.specs.Responses.{misshapen_data}
+use Rattle.sd_routes.specs.declared.list_head.ListHead.{ListHead}
 use Rattle.sd_routes.specs.Pages.{job_data, with_jobs, jobs_data, with_labels, group_data, share_data, with_shares, shares_data, uncovered_data}
+use Rattle.sd_routes.specs.Acknowledging.{own_group}
 use Rattle.alloc_desk.specs.declared.view.NumberedTarget.{NumberedTarget}
 use Rattle.alloc_desk.specs.declared.view.Share.{Share}
 
@@ -52,6 +54,9 @@ group_no_float numbered =
 
 pub groups_no_float : (targets : List NumberedTarget) → has_float (list_data group_data targets) ≡ false
 groups_no_float = no_float group_data group_no_float
+
+pub own_no_float : (at job : List ℕ) (head : ListHead) → has_float (own_group at job head) ≡ false
+own_no_float at job head = refl
 
 pub uncovered_no_float : (full handing_over unreached : List NumberedTarget) → has_float (uncovered_data full handing_over unreached) ≡ false
 uncovered_no_float full handing_over unreached =

@@ -3,4 +3,5 @@ pub mod Lookup
 pub mod Places
 pub mod Reaches
 pub mod Floats
+pub mod Acknowledged
 pub mod Escapes

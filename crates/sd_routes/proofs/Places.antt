@@ -31,28 +31,28 @@ agrees-text w t h a = agrees-prefix w t (text-from w h) a
 -- ---- the routes by number, as a tree
 
 abbrev with_lr : Rows
-with_lr = prepend (codes "limits") (ends (Some 6)) ++ prepend (codes "release") (ends (Some 7))
+with_lr = prepend (codes "limits") (ends (Some 7)) ++ prepend (codes "release") (ends (Some 8))
 
 abbrev orders : Rows
-orders = prepend (codes "drain") (ends (Some 5)) ++ with_lr
+orders = prepend (codes "drain") (ends (Some 6)) ++ with_lr
 
 abbrev of_collector : Rows
-of_collector = prepend (256 ∷ []) (after orders (Some 8))
+of_collector = prepend (256 ∷ []) (after orders (Some 9))
 
 abbrev collectors : Rows
-collectors = prepend (codes "/") of_collector ++ ends (Some 9)
+collectors = prepend (codes "/") of_collector ++ ends (Some 10)
 
 abbrev lists : Rows
-lists = prepend (codes "targets") (ends (Some 10)) ++ prepend (codes "uncovered") (ends (Some 11))
+lists = prepend (codes "targets") (ends (Some 11)) ++ prepend (codes "uncovered") (ends (Some 12))
 
 abbrev of_job : Rows
 of_job = prepend (256 ∷ []) (after lists None)
 
 abbrev jobs : Rows
-jobs = prepend (codes "/") of_job ++ ends (Some 12)
+jobs = prepend (codes "/") of_job ++ ends (Some 13)
 
 abbrev with_c : Rows
-with_c = prepend (codes "ertificate") (ends (Some 4)) ++ prepend (codes "ollectors") collectors
+with_c = prepend (codes "ertificate") (ends (Some 5)) ++ prepend (codes "ollectors") collectors
 
 abbrev with_al : Rows
 with_al = prepend (codes "ady") (ends (Some 2)) ++ prepend (codes "load") (ends (Some 3))
@@ -64,19 +64,19 @@ abbrev with_hqr : Rows
 with_hqr = prepend (codes "healthy") (ends (Some 0)) ++ with_qr
 
 abbrev with_re : Rows
-with_re = prepend (codes "adyz") (ends (Some 15)) ++ prepend (codes "ports") (ends (Some 16))
+with_re = prepend (codes "adyz") (ends (Some 16)) ++ prepend (codes "ports") (ends (Some 17))
 
 abbrev with_s : Rows
-with_s = prepend (codes "scrape_configs") (ends (Some 17)) ++ ends (Some 18)
+with_s = prepend (codes "scrape_configs") (ends (Some 18)) ++ ends (Some 19)
 
 abbrev with_rs : Rows
 with_rs = prepend (codes "re") with_re ++ with_s
 
 abbrev with_mrs : Rows
-with_mrs = prepend (codes "metrics") (ends (Some 14)) ++ with_rs
+with_mrs = prepend (codes "metrics") (ends (Some 15)) ++ with_rs
 
 abbrev with_lmrs : Rows
-with_lmrs = prepend (codes "livez") (ends (Some 13)) ++ with_mrs
+with_lmrs = prepend (codes "livez") (ends (Some 14)) ++ with_mrs
 
 abbrev with_jlmrs : Rows
 with_jlmrs = prepend (codes "jobs") jobs ++ with_lmrs
@@ -84,41 +84,44 @@ with_jlmrs = prepend (codes "jobs") jobs ++ with_lmrs
 abbrev with_cjlmrs : Rows
 with_cjlmrs = prepend (codes "c") with_c ++ with_jlmrs
 
+abbrev with_acjlmrs : Rows
+with_acjlmrs = prepend (codes "acknowledged") (ends (Some 4)) ++ with_cjlmrs
+
 abbrev tree : Rows
-tree = prepend (codes "/") (prepend (codes "-/") with_hqr ++ with_cjlmrs)
+tree = prepend (codes "/") (prepend (codes "-/") with_hqr ++ with_acjlmrs)
 
 agrees-word : (w : List ℕ) (k : ℕ) → all_bytes w ≡ true → Agrees (prepend w (ends (Some k)))
 agrees-word w k h = agrees-text w (ends (Some k)) h (agrees-end k)
 
 agrees-with_lr : Agrees with_lr
 agrees-with_lr =
-    agrees-or 108 (codes "imits") (ends (Some 6)) (prepend (codes "release") (ends (Some 7))) (omega arith) refl
-    (agrees-word (codes "limits") 6 refl) (agrees-word (codes "release") 7 refl)
+    agrees-or 108 (codes "imits") (ends (Some 7)) (prepend (codes "release") (ends (Some 8))) (omega arith) refl
+    (agrees-word (codes "limits") 7 refl) (agrees-word (codes "release") 8 refl)
 
 agrees-orders : Agrees orders
-agrees-orders = agrees-or 100 (codes "rain") (ends (Some 5)) with_lr (omega arith) refl (agrees-word (codes "drain") 5 refl) agrees-with_lr
+agrees-orders = agrees-or 100 (codes "rain") (ends (Some 6)) with_lr (omega arith) refl (agrees-word (codes "drain") 6 refl) agrees-with_lr
 
 agrees-collectors : Agrees collectors
 agrees-collectors =
-    agrees-or 47 [] of_collector (ends (Some 9)) (omega arith) refl
-    (agrees-text (codes "/") of_collector refl (agrees-segment orders (Some 8) (omega arith) (agrees-text (codes "/") orders refl agrees-orders)))
-    (agrees-end 9)
+    agrees-or 47 [] of_collector (ends (Some 10)) (omega arith) refl
+    (agrees-text (codes "/") of_collector refl (agrees-segment orders (Some 9) (omega arith) (agrees-text (codes "/") orders refl agrees-orders)))
+    (agrees-end 10)
 
 agrees-lists : Agrees lists
 agrees-lists =
-    agrees-or 116 (codes "argets") (ends (Some 10)) (prepend (codes "uncovered") (ends (Some 11))) (omega arith) refl
-    (agrees-word (codes "targets") 10 refl) (agrees-word (codes "uncovered") 11 refl)
+    agrees-or 116 (codes "argets") (ends (Some 11)) (prepend (codes "uncovered") (ends (Some 12))) (omega arith) refl
+    (agrees-word (codes "targets") 11 refl) (agrees-word (codes "uncovered") 12 refl)
 
 agrees-jobs : Agrees jobs
 agrees-jobs =
-    agrees-or 47 [] of_job (ends (Some 12)) (omega arith) refl
+    agrees-or 47 [] of_job (ends (Some 13)) (omega arith) refl
     (agrees-text (codes "/") of_job refl (agrees-segment lists None (omega arith) (agrees-text (codes "/") lists refl agrees-lists)))
-    (agrees-end 12)
+    (agrees-end 13)
 
 agrees-with_c : Agrees with_c
 agrees-with_c =
-    agrees-or 101 (codes "rtificate") (ends (Some 4)) (prepend (codes "ollectors") collectors) (omega arith) refl
-    (agrees-word (codes "ertificate") 4 refl) (agrees-text (codes "ollectors") collectors refl agrees-collectors)
+    agrees-or 101 (codes "rtificate") (ends (Some 5)) (prepend (codes "ollectors") collectors) (omega arith) refl
+    (agrees-word (codes "ertificate") 5 refl) (agrees-text (codes "ollectors") collectors refl agrees-collectors)
 
 agrees-with_al : Agrees with_al
 agrees-with_al =
@@ -135,13 +138,13 @@ agrees-with_hqr = agrees-or 104 (codes "ealthy") (ends (Some 0)) with_qr (omega 
 
 agrees-with_re : Agrees with_re
 agrees-with_re =
-    agrees-or 97 (codes "dyz") (ends (Some 15)) (prepend (codes "ports") (ends (Some 16))) (omega arith) refl
-    (agrees-word (codes "adyz") 15 refl) (agrees-word (codes "ports") 16 refl)
+    agrees-or 97 (codes "dyz") (ends (Some 16)) (prepend (codes "ports") (ends (Some 17))) (omega arith) refl
+    (agrees-word (codes "adyz") 16 refl) (agrees-word (codes "ports") 17 refl)
 
 agrees-with_s : Agrees with_s
 agrees-with_s =
-    agrees-or 115 (codes "crape_configs") (ends (Some 17)) (ends (Some 18)) (omega arith) refl
-    (agrees-word (codes "scrape_configs") 17 refl) (agrees-end 18)
+    agrees-or 115 (codes "crape_configs") (ends (Some 18)) (ends (Some 19)) (omega arith) refl
+    (agrees-word (codes "scrape_configs") 18 refl) (agrees-end 19)
 
 agrees-with_rs : Agrees with_rs
 agrees-with_rs =
@@ -149,10 +152,10 @@ agrees-with_rs =
     (agrees-text (codes "re") with_re refl agrees-with_re) agrees-with_s
 
 agrees-with_mrs : Agrees with_mrs
-agrees-with_mrs = agrees-or 109 (codes "etrics") (ends (Some 14)) with_rs (omega arith) refl (agrees-word (codes "metrics") 14 refl) agrees-with_rs
+agrees-with_mrs = agrees-or 109 (codes "etrics") (ends (Some 15)) with_rs (omega arith) refl (agrees-word (codes "metrics") 15 refl) agrees-with_rs
 
 agrees-with_lmrs : Agrees with_lmrs
-agrees-with_lmrs = agrees-or 108 (codes "ivez") (ends (Some 13)) with_mrs (omega arith) refl (agrees-word (codes "livez") 13 refl) agrees-with_mrs
+agrees-with_lmrs = agrees-or 108 (codes "ivez") (ends (Some 14)) with_mrs (omega arith) refl (agrees-word (codes "livez") 14 refl) agrees-with_mrs
 
 agrees-with_jlmrs : Agrees with_jlmrs
 agrees-with_jlmrs = agrees-or 106 (codes "obs") jobs with_lmrs (omega arith) refl (agrees-text (codes "jobs") jobs refl agrees-jobs) agrees-with_lmrs
@@ -160,10 +163,13 @@ agrees-with_jlmrs = agrees-or 106 (codes "obs") jobs with_lmrs (omega arith) ref
 agrees-with_cjlmrs : Agrees with_cjlmrs
 agrees-with_cjlmrs = agrees-or 99 [] with_c with_jlmrs (omega arith) refl (agrees-text (codes "c") with_c refl agrees-with_c) agrees-with_jlmrs
 
+agrees-with_acjlmrs : Agrees with_acjlmrs
+agrees-with_acjlmrs = agrees-or 97 (codes "cknowledged") (ends (Some 4)) with_cjlmrs (omega arith) refl (agrees-word (codes "acknowledged") 4 refl) agrees-with_cjlmrs
+
 agrees-tree : Agrees tree
 agrees-tree =
-    agrees-text (codes "/") (prepend (codes "-/") with_hqr ++ with_cjlmrs) refl
-    (agrees-or 45 (codes "/") with_hqr with_cjlmrs (omega arith) refl (agrees-text (codes "-/") with_hqr refl agrees-with_hqr) agrees-with_cjlmrs)
+    agrees-text (codes "/") (prepend (codes "-/") with_hqr ++ with_acjlmrs) refl
+    (agrees-or 45 (codes "/") with_hqr with_acjlmrs (omega arith) refl (agrees-text (codes "-/") with_hqr refl agrees-with_hqr) agrees-with_acjlmrs)
 
 -- ---- the routes themselves
 

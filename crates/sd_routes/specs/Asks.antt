@@ -2,11 +2,13 @@
 use Rattle.std.specs.Prelude.{ℕ, List, codes, bytes_eq, Bool, true, false, Option, Some, None, Result, Ok, Err, if◌then◌else◌}
 use Rattle.reach_rules.specs.Name.{is_collector_name}
 use Rattle.sd_routes.specs.Decimals.{decimal_in}
-use Rattle.sd_routes.specs.Queries.{flag_of, value_of}
+use Rattle.sd_routes.specs.Queries.{flag_of, number_of, value_of}
 use Rattle.sd_routes.specs.Segments.{second_segment, text_in}
 use Rattle.sd_routes.specs.Table.{place_of, method_of}
+use Rattle.sd_routes.specs.declared.decimal.TheConstants.{MOST_OF_32_BITS, MOST_OF_64_BITS}
+use Rattle.sd_routes.specs.declared.acknowledgement.Acknowledgement.{Acknowledgement}
 use Rattle.sd_routes.specs.declared.ask.Ask.{Ask}
-use Rattle.sd_routes.specs.declared.ask.Ask.TheVariants.{Status, ScrapeConfigs, Jobs, JobTargets, CollectorTargets, Uncovered, Certificate, Join, Leave, Drain, Release, SetLimits, Report, Healthy, Live, Ready, Metrics, Reload, Quit}
+use Rattle.sd_routes.specs.declared.ask.Ask.TheVariants.{Status, ScrapeConfigs, Jobs, JobTargets, CollectorTargets, Uncovered, Acknowledged, Certificate, Join, Leave, Drain, Release, SetLimits, Report, Healthy, Live, Ready, Metrics, Reload, Quit}
 use Rattle.sd_routes.specs.declared.place.Place.{Place}
 use Rattle.sd_routes.specs.declared.place.Place.TheVariants as place
 use Rattle.sd_routes.specs.declared.request_error.RequestError.{RequestError}
@@ -54,13 +56,27 @@ uncovered_of (Some job) = Ok (Uncovered job)
 abbrev pub uncovered_asked : List ℕ → Result Ask RequestError
 uncovered_asked path = uncovered_of (text_in (second_segment path))
 
+-- that a collector follows a list
+abbrev pub followed : Option ℕ → Option ℕ → Option ℕ → Option (List ℕ) → Result Ask RequestError
+followed None list epoch job = Err Shape
+followed (Some collector) None epoch job = Err Shape
+followed (Some collector) (Some list) None job = Err Shape
+followed (Some collector) (Some list) (Some epoch) None = Err Shape
+followed (Some collector) (Some list) (Some epoch) (Some job) = Ok (Acknowledged (record { collector = collector; job = job; list = list; epoch = epoch }))
+
+-- which list, the query says
+abbrev pub acknowledged_asked : Option (List ℕ) → Result Ask RequestError
+acknowledged_asked query =
+    followed (number_of MOST_OF_32_BITS (codes "collector") query) (number_of MOST_OF_32_BITS (codes "list") query)
+    (number_of MOST_OF_64_BITS (codes "epoch") query) (value_of (codes "job") query)
+
 -- the collector's number in a path
 abbrev pub id_or_shape : Option ℕ → Result ℕ RequestError
 id_or_shape None = Err Shape
 id_or_shape (Some id) = Ok id
 
 abbrev pub id_in : List ℕ → Result ℕ RequestError
-id_in path = id_or_shape (decimal_in (second_segment path))
+id_in path = id_or_shape (decimal_in MOST_OF_32_BITS (second_segment path))
 
 abbrev pub asked_of : (ℕ → Ask) → Result ℕ RequestError → Result Ask RequestError
 asked_of ask (Ok id) = Ok (ask id)
@@ -73,6 +89,7 @@ asked_at place.ScrapeConfigs path query = scrape_configs_asked query
 asked_at place.Jobs path query = Ok Jobs
 asked_at place.JobTargets path query = job_targets_asked path query
 asked_at place.Uncovered path query = uncovered_asked path
+asked_at place.Acknowledged path query = acknowledged_asked query
 asked_at place.Certificate path query = Ok Certificate
 asked_at place.Collectors path query = Ok Join
 asked_at place.Collector path query = asked_of Leave (id_in path)

@@ -12,3 +12,4 @@ pub mod Responses
 pub mod Links
 pub mod Notices
 pub mod Pages
+pub mod Acknowledging

@@ -2,6 +2,7 @@
 use Rattle.std.specs.Prelude.{ℕ, List, [], ◌∷◌, codes, bytes_eq, Bool, true, false, Option, Some, None, Result, Ok, Err, option_and_then, if◌then◌else◌}
 use Rattle.std.specs.Str.Lossy.{utf8_lossy}
 use Rattle.form_urlencoded.specs.Form.{raw_pairs, decode}
+use Rattle.sd_routes.specs.Decimals.{decimal_in}
 use Rattle.sd_routes.specs.declared.request_error.RequestError.{RequestError}
 use Rattle.sd_routes.specs.declared.request_error.RequestError.TheVariants.{Shape}
 
@@ -30,3 +31,7 @@ flag_spelled default (Some text) = if bytes_eq text (codes "true") then Ok true 
 -- the flag of this name
 abbrev pub flag_of : List ℕ → Bool → Option (List ℕ) → Result Bool RequestError
 flag_of name default query = flag_spelled default (value_of name query)
+
+-- the number that the first value of this name writes in decimal, where it is at most this
+abbrev pub number_of : ℕ → List ℕ → Option (List ℕ) → Option ℕ
+number_of most name query = option_and_then (decimal_in most) (value_of name query)

@@ -1,7 +1,7 @@
 -- The table of paths: which place each names, and the method of the place.
 use Rattle.std.specs.Prelude.{ℕ, ◌==◌, ◌&&◌, ◌++◌, List, [], ◌∷◌, Bool, true, false, not, codes, Option, Some, None, if◌then◌else◌}
 use Rattle.sd_routes.specs.declared.place.Place.{Place}
-use Rattle.sd_routes.specs.declared.place.Place.TheVariants.{Status, ScrapeConfigs, Jobs, JobTargets, Uncovered, Certificate, Collectors, Collector, Drain, Release, Limits, Reports, Healthy, Live, Ready, Metrics, Reload, Quit}
+use Rattle.sd_routes.specs.declared.place.Place.TheVariants.{Status, ScrapeConfigs, Jobs, JobTargets, Uncovered, Acknowledged, Certificate, Collectors, Collector, Drain, Release, Limits, Reports, Healthy, Live, Ready, Metrics, Reload, Quit}
 
 -- in a route, what stands for one segment of a path. It is no byte
 abbrev pub segment : ℕ
@@ -17,6 +17,7 @@ table =
     ∷ (codes "/-/quit", Quit)
     ∷ (codes "/-/ready", Ready)
     ∷ (codes "/-/reload", Reload)
+    ∷ (codes "/acknowledged", Acknowledged)
     ∷ (codes "/certificate", Certificate)
     ∷ (codes "/collectors/" ++ segment ∷ codes "/drain", Drain)
     ∷ (codes "/collectors/" ++ segment ∷ codes "/limits", Limits)
@@ -40,6 +41,7 @@ method_of ScrapeConfigs = codes "GET"
 method_of Jobs = codes "GET"
 method_of JobTargets = codes "GET"
 method_of Uncovered = codes "GET"
+method_of Acknowledged = codes "GET"
 method_of Certificate = codes "GET"
 method_of Collectors = codes "POST"
 method_of Collector = codes "DELETE"

@@ -1,4 +1,5 @@
 //! What a request asks for.
+use crate::acknowledgement::Acknowledgement;
 use fleet_events::CollectorId;
 use lists::Text;
 use reach_rules::CollectorName;
@@ -24,6 +25,8 @@ pub enum Ask {
     },
     /// The live targets of a job that nobody holds.
     Uncovered(Text),
+    /// A collector tells that it follows a list.
+    Acknowledged(Acknowledgement),
     /// The certificate of the last published allocation.
     Certificate,
     /// A collector joins; the body says which.

@@ -5,6 +5,8 @@
 //! bodies of pages being made by functions of their own.
 #![tactic(auto)]
 
+mod acknowledgement;
+mod acknowledging;
 mod ask;
 mod decimal;
 mod event;
@@ -22,6 +24,8 @@ mod routes;
 mod routing;
 mod segment;
 
+pub use acknowledgement::Acknowledgement;
+pub use acknowledging::acknowledged_list;
 pub use ask::Ask;
 pub use event::event_of;
 pub use join_members::{LONGEST_LABEL, LONGEST_VALUE};

@@ -11,6 +11,7 @@ pub enum Place {
     Jobs,
     JobTargets,
     Uncovered,
+    Acknowledged,
     Certificate,
     Collectors,
     Collector,
@@ -34,7 +35,7 @@ impl Place {
     {
         match self {
             Place::ScrapeConfigs | Place::Jobs | Place::JobTargets | Place::Uncovered => "GET",
-            Place::Certificate | Place::Status => "GET",
+            Place::Acknowledged | Place::Certificate | Place::Status => "GET",
             Place::Healthy | Place::Live | Place::Ready | Place::Metrics => "GET",
             Place::Collectors | Place::Drain | Place::Release | Place::Reports => "POST",
             Place::Reload | Place::Quit => "POST",

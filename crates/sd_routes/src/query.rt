@@ -1,8 +1,9 @@
 //! The query of a request.
-ghost use Rattle.std.specs.Prelude.{◌≡◌, IfOk, option_copied};
-ghost use Rattle.sd_routes.specs.Queries.{flag_of, value_in, value_of};
+ghost use Rattle.std.specs.Prelude.{◌≡◌, ◌≤◌, IfOk, IfSome, option_copied};
+ghost use Rattle.sd_routes.specs.Queries.{flag_of, number_of, value_in, value_of};
 ghost use Rattle.sd_routes.specs.Gives.{Gives};
 
+use crate::decimal::decimal;
 use crate::request_error::RequestError;
 use form_urlencoded::parse;
 use lists::Text;
@@ -24,6 +25,22 @@ pub(crate) fn flag_of(
         "true" => Ok(true),
         "false" => Ok(false),
         _ => Err(RequestError::Shape),
+    }
+}
+
+/// The number that the first value of a name writes in decimal, where it is at most this.
+pub(crate) fn number_of(
+    alloc: Global,
+    query: Option<&str>,
+    name: &str,
+    most: u64,
+) -> Result<Option<u64>, AllocError>
+    ensures number { IfOk result (λ found. found ≡ number_of most name.now (option_copied query.entry)) }
+    ensures most { IfOk result (λ found. IfSome found (λ n. n ≤ most)) }
+{
+    match value_of(alloc, query, name)? {
+        Some(digits) => Ok(decimal(digits.as_str().as_bytes(), most)),
+        None => Ok(None),
     }
 }
 

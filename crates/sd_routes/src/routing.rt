@@ -1,13 +1,14 @@
 //! What a method and a target ask for.
 ghost use Rattle.http_uri.specs.Uri.{uri_path, uri_query};
 ghost use Rattle.std.specs.Prelude.{option_copied};
-ghost use Rattle.sd_routes.specs.Asks.{asked, asked_at, scrape_configs_asked, job_targets_asked, held_asked, uncovered_asked, id_in, name_said};
+ghost use Rattle.sd_routes.specs.Asks.{acknowledged_asked, asked, asked_at, scrape_configs_asked, job_targets_asked, held_asked, uncovered_asked, id_in, name_said};
 ghost use Rattle.sd_routes.specs.Gives.{Gives};
 
+use crate::acknowledgement::Acknowledgement;
 use crate::ask::Ask;
-use crate::decimal::decimal;
+use crate::decimal::{MOST_OF_32_BITS, MOST_OF_64_BITS, decimal_of_32_bits};
 use crate::place::Place;
-use crate::query::{flag_of, value_of};
+use crate::query::{flag_of, number_of, value_of};
 use crate::request_error::RequestError;
 use crate::routes::Routes;
 use crate::segment::{decoded, second_segment};
@@ -44,6 +45,7 @@ fn ask_at(alloc: Global, place: Place, path: &str, query: Option<&str>) -> Resul
         Place::Jobs => Ok(Ask::Jobs),
         Place::JobTargets => job_targets(alloc, path, query),
         Place::Uncovered => uncovered(alloc, path),
+        Place::Acknowledged => acknowledged(alloc, query),
         Place::Certificate => Ok(Ask::Certificate),
         Place::Collectors => Ok(Ask::Join),
         Place::Collector => Ok(Ask::Leave(collector_id(path)?)),
@@ -84,6 +86,24 @@ fn uncovered(alloc: Global, path: &str) -> Result<Ask, RequestError>
     Ok(Ask::Uncovered(job))
 }
 
+fn acknowledged(alloc: Global, query: Option<&str>) -> Result<Ask, RequestError>
+    ensures { Gives result (acknowledged_asked (option_copied query.entry)) }
+{
+    let collector = number_of(alloc, query, "collector", MOST_OF_32_BITS)?;
+    let collector = collector.ok_or(RequestError::Shape)?;
+    let list = number_of(alloc, query, "list", MOST_OF_32_BITS)?;
+    let list = list.ok_or(RequestError::Shape)?;
+    let epoch = number_of(alloc, query, "epoch", MOST_OF_64_BITS)?;
+    let epoch = epoch.ok_or(RequestError::Shape)?;
+    let job = value_of(alloc, query, "job")?.ok_or(RequestError::Shape)?;
+    Ok(Ask::Acknowledged(Acknowledgement {
+        collector: collector as u32,
+        job,
+        list: list as u32,
+        epoch,
+    }))
+}
+
 fn held(alloc: Global, job: Text, name: &Text, query: Option<&str>) -> Result<Ask, RequestError>
     ensures { Gives result (held_asked job name.now (option_copied query.entry)) }
 {
@@ -106,5 +126,5 @@ fn collector_id(path: &str) -> Result<CollectorId, RequestError>
     ensures { Gives result (id_in path.now) }
 {
     let digits = second_segment(path).as_bytes();
-    decimal(digits).ok_or(RequestError::Shape)
+    decimal_of_32_bits(digits).ok_or(RequestError::Shape)
 }

@@ -4,3 +4,5 @@ pub mod Says
 pub mod Listing
 pub mod Texts
 pub mod Looks
+pub mod Yaml
+pub mod Keeping

@@ -1,5 +1,5 @@
 -- What a reply may be.
-use Rattle.std.specs.Prelude.{◌≡◌, ◌⊎◌, ℕ, List, [], Option, Some, None, Result, Ok, Err, IfOk, IsSome, Bool, true, false, IsTrue}
+use Rattle.std.specs.Prelude.{◌≡◌, ◌⊎◌, ℕ, List, [], Option, Some, None, Result, Ok, Err, IfOk, IsSome, Bool, ◌&&◌, true, false, IsTrue}
 use Rattle.std.specs.Arc.{arc_value}
 use Rattle.std.specs.declared.alloc.AllocError.{AllocError}
 use Rattle.std.specs.declared.sync.ledger.Ledger as Ledger
@@ -17,6 +17,7 @@ use Rattle.sd_routes.specs.declared.responding.Said.{Said}
 use Rattle.sd_routes.specs.declared.responding.Said.TheVariants.{Refused}
 use Rattle.sd_server.specs.Entries.{Leads, MaySayEntry}
 use Rattle.sd_server.specs.Says.{Says}
+use Rattle.sd_server.specs.Yaml.{is_page, told_as}
 use Rattle.service_state.specs.declared.config_pages.ConfigPages.{ConfigPages}
 use Rattle.sd_server.specs.declared.reply.Reply.{Reply}
 use Rattle.sd_server.specs.declared.reply.Stage.{Stage}
@@ -24,9 +25,10 @@ use Rattle.sd_server.specs.declared.reply.Stage.TheVariants as stage
 use Rattle.sd_server.specs.declared.service.Begun.{Begun}
 use Rattle.sd_server.specs.declared.service.Begun.TheVariants as begun
 
--- the written form of what is said, where the connection ends with it or not
-abbrev pub Writes : Bool → Said → Response (Full (List ℕ)) → Type 0
-Writes closes said response = IsResponse (status_said said) (closing closes (headers_said said)) (body_said said) response
+-- the written form of what is said, where YAML is asked for or not, and where the connection ends with it or not: the bytes are the same
+abbrev pub Writes : Bool → Bool → Said → Response (Full (List ℕ)) → Type 0
+Writes yaml closes said response =
+    IsResponse (status_said said) (told_as (yaml && is_page said) (closing closes (headers_said said))) (body_said said) response
 
 -- what is said once a body was read, or could not be
 abbrev pub SaysRead : State → ConfigPages → Ask → Said → Type 0
@@ -79,7 +81,7 @@ module _ {R L B N I : Type 0} {l : Ledger.Ghosts L} {b : Ledger.Ghosts B} {n : D
 
   -- the written form of something that it may say
   abbrev pub Gives : Reply R L B N I l b n → Result (Response (Full (List ℕ))) AllocError → Type 0
-  Gives reply given = IfOk given (λ response. (said : Said) × MaySay reply.stage said × Writes reply.closes said response)
+  Gives reply given = IfOk given (λ response. (said : Said) × MaySay reply.stage said × Writes reply.is_yaml reply.closes said response)
 
   -- whatever the reply to such a request says is what is said to it
   abbrev pub IsReplyTo : State → ConfigPages → Result Ask RequestError → Reply R L B N I l b n → Type 0

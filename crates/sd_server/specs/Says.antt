@@ -1,5 +1,5 @@
 -- What a request is told.
-use Rattle.std.specs.Prelude.{◌≡◌, ◌⊎◌, ℕ, List, Option, Some, None, Result, Ok, Err, codes, length, if◌then◌else◌}
+use Rattle.std.specs.Prelude.{◌≡◌, ◌⊎◌, ℕ, List, [], Option, Some, None, Result, Ok, Err, IsSome, codes, length, if◌then◌else◌}
 use Rattle.fleet.specs.Fleet.{id_named}
 use Rattle.fleet_events.specs.declared.event.Event.{Event}
 use Rattle.fleet_events.specs.declared.event.Event.TheVariants.{Take, Serve}
@@ -21,13 +21,14 @@ use Rattle.sd_routes.specs.declared.ask.Ask.TheVariants as ask
 use Rattle.sd_routes.specs.declared.list_head.ListHead.{ListHead}
 use Rattle.sd_routes.specs.declared.notice.Notice.TheVariants.{Healthy, Broken, Ready, NotReady, Quitting, NoLifecycle}
 use Rattle.sd_routes.specs.declared.request_error.RequestError.{RequestError}
-use Rattle.sd_routes.specs.declared.request_error.RequestError.TheVariants.{Shape, JournalFull, NotKept, Memory}
+use Rattle.sd_routes.specs.declared.request_error.RequestError.TheVariants.{NoRoute, Shape, JournalFull, NotKept, Memory}
 use Rattle.sd_routes.specs.declared.responding.Said.{Said}
 use Rattle.sd_routes.specs.declared.responding.Said.TheVariants.{Answer as Answered, Page, List as ListOf, Refused, Misshapen, Notice as Noticed, Metrics, Document, Reloaded, NotReloaded}
 use Rattle.service_state.specs.Jobs.{place_of}
+use Rattle.sd_server.specs.Keeping.{FindsKept}
 use Rattle.sd_server.specs.Looks.{HeadIs, IsLook}
 use Rattle.sd_server.specs.declared.look.Look.{Look}
-use Rattle.sd_server.specs.Texts.{certificate_text, groups_text, job_text}
+use Rattle.sd_server.specs.Texts.{certificate_text, job_text, list_text}
 use Rattle.service_state.specs.declared.config_pages.ConfigPages.{ConfigPages}
 
 -- this holds of some history that is legal from the opening state
@@ -62,39 +63,55 @@ IsTold id (HasTaken allocation round held) head targets = HeadIs id allocation r
 IsTold id (HasServed allocation round listed others) head targets = HeadIs id allocation round (Some (length others)) head × (targets ≡ listed)
 IsTold id _ head targets = ⊥
 
--- a list with this head and the groups of those of these targets that are of a job; unless memory ran out
-abbrev pub SaysGroups : State → ℕ → ListHead → List ℕ → Said → Type 0
-SaysGroups opening place head targets (ListOf told groups) = (told ≡ head) × OfSome opening (λ h. groups ≡ groups_text place targets h)
-SaysGroups opening place head targets (Refused error) = error ≡ Memory
-SaysGroups opening place head targets _ = ⊥
+-- a list with this head and the groups of those of these targets that are of a job, acknowledged where that is told to; unless memory ran
+-- out
+abbrev pub SaysGroups : State → Option (List ℕ) → List ℕ → ℕ → ListHead → List ℕ → Said → Type 0
+SaysGroups opening at job place head targets (ListOf told groups) = (told ≡ head) × OfSome opening (λ h. groups ≡ list_text at job head place targets h)
+SaysGroups opening at job place head targets (Refused error) = error ≡ Memory
+SaysGroups opening at job place head targets _ = ⊥
+
+-- where a list is acknowledged: one that is served
+abbrev pub at_of : Option (List ℕ) → Answer → Option (List ℕ)
+at_of at (HasServed allocation round listed others) = at
+at_of at _ = None
 
 -- what the answer to a Take or a Serve of a collector is told as: the groups of a job's targets; unless memory ran out
-abbrev pub SaysTold : State → ℕ → ℕ → Answer → Said → Type 0
-SaysTold opening place id answer (ListOf head groups) =
-    (targets : List ℕ) × IsTold id answer head targets × OfSome opening (λ h. groups ≡ groups_text place targets h)
-SaysTold opening place id answer (Answered told) = told ≡ answer
-SaysTold opening place id answer (Refused error) = error ≡ Memory
-SaysTold opening place id answer _ = ⊥
+abbrev pub SaysTold : State → Option (List ℕ) → List ℕ → ℕ → ℕ → Answer → Said → Type 0
+SaysTold opening at job place id answer (ListOf head groups) =
+    (targets : List ℕ) × IsTold id answer head targets × OfSome opening (λ h. groups ≡ list_text (at_of at answer) job head place targets h)
+SaysTold opening at job place id answer (Answered told) = told ≡ answer
+SaysTold opening at job place id answer (Refused error) = error ≡ Memory
+SaysTold opening at job place id answer _ = ⊥
 
 -- there is no answer to an event
 abbrev pub SaysNoAnswer : State → Said → Type 0
 SaysNoAnswer opening said = (error : RequestError) × SaysNot opening error × (said ≡ Refused error)
 
 -- what a collector is told of a job by the answer to an event
-abbrev pub SaysGiven : State → ℕ → ℕ → Event → Said → Type 0
-SaysGiven opening place id event said = ((answer : Answer) × IsAnswered opening event answer × SaysTold opening place id answer said) ⊎ SaysNoAnswer opening said
+abbrev pub SaysGiven : State → Option (List ℕ) → List ℕ → ℕ → ℕ → Event → Said → Type 0
+SaysGiven opening at job place id event said =
+    ((answer : Answer) × IsAnswered opening event answer × SaysTold opening at job place id answer said) ⊎ SaysNoAnswer opening said
 
 -- what a look is told as: the groups of a job's targets; unless memory ran out
-abbrev pub SaysLookOf : State → ℕ → ℕ → Look → Said → Type 0
-SaysLookOf opening place id look (ListOf head groups) =
-    HeadIs id look.allocation look.round look.left_out head × OfSome opening (λ h. groups ≡ groups_text place look.targets h)
-SaysLookOf opening place id look (Refused error) = error ≡ Memory
-SaysLookOf opening place id look _ = ⊥
+abbrev pub SaysLookOf : State → Option (List ℕ) → List ℕ → ℕ → ℕ → Look → Said → Type 0
+SaysLookOf opening at job place id look (ListOf head groups) =
+    HeadIs id look.allocation look.round look.left_out head × OfSome opening (λ h. groups ≡ list_text at job head place look.targets h)
+SaysLookOf opening at job place id look (Refused error) = error ≡ Memory
+SaysLookOf opening at job place id look _ = ⊥
 
 -- what is shown to who only looks: what a look finds; unless memory ran out
 abbrev pub SaysLook : State → ℕ → List ℕ → ℕ → Said → Type 0
 SaysLook opening place job id said =
-    ((look : Look) × OfSome opening (λ h. IsLook h.state job id look) × SaysLookOf opening place id look said) ⊎ (said ≡ Refused Memory)
+    ((look : Look) × OfSome opening (λ h. IsLook h.state job id look) × SaysLookOf opening None job place id look said) ⊎ (said ≡ Refused Memory)
+
+-- what a collector is told of a job whose last list is to let targets go, until it is acknowledged: what that list keeps
+abbrev pub SaysKept : State → Option (List ℕ) → List ℕ → ℕ → ℕ → Said → Type 0
+SaysKept opening at job place id said =
+    IsSome at × ((look : Look) × OfSome opening (λ h. FindsKept h.state place id look) × SaysLookOf opening at job place id look said)
+
+-- what a collector is served of a job, or what its list keeps
+abbrev pub SaysServed : State → Option (List ℕ) → List ℕ → ℕ → ℕ → Said → Type 0
+SaysServed opening at job place id said = SaysGiven opening at job place id (Serve id job) said ⊎ SaysKept opening at job place id said
 
 -- a text that does not change, unless memory ran out
 abbrev pub SaysCopy : List ℕ → Said → Type 0
@@ -106,15 +123,15 @@ abbrev pub SaysGone : State → Said → Type 0
 SaysGone opening said = (said ≡ Answered (Not UnknownCollector)) ⊎ (SaysCopy (codes "[]") said ⊎ SaysNoAnswer opening said)
 
 -- what a collector is told of a job: it takes, or is served, or looks
-abbrev pub SaysList : State → ℕ → List ℕ → ℕ → Said → Type 0
-SaysList opening place job id said =
-    SaysGiven opening place id (Take id) said ⊎ (SaysGiven opening place id (Serve id job) said ⊎ SaysLook opening place job id said)
+abbrev pub SaysList : State → Option (List ℕ) → ℕ → List ℕ → ℕ → Said → Type 0
+SaysList opening at place job id said =
+    SaysGiven opening at job place id (Take id) said ⊎ (SaysServed opening at job place id said ⊎ SaysLook opening place job id said)
 
 -- nobody has the name, or its collector has a list
-unfoldable pub SaysHeld : State → ℕ → List ℕ → List ℕ → Said → Type 0
-SaysHeld opening place job name said =
+unfoldable pub SaysHeld : State → Option (List ℕ) → ℕ → List ℕ → List ℕ → Said → Type 0
+SaysHeld opening at place job name said =
     (OfSome opening (λ h. id_named h.state.fleet.collectors name ≡ None) × SaysGone opening said)
-    ⊎ ((id : ℕ) × OfSome opening (λ h. id_named h.state.fleet.collectors name ≡ Some id) × SaysList opening place job id said)
+    ⊎ ((id : ℕ) × OfSome opening (λ h. id_named h.state.fleet.collectors name ≡ Some id) × SaysList opening at place job id said)
 
 -- a page, unless memory ran out
 abbrev pub SaysText : State → (History → List ℕ) → Said → Type 0
@@ -127,9 +144,14 @@ abbrev pub SaysJob : State → List ℕ → Option ℕ → Said → Type 0
 SaysJob opening job None said = said ≡ Answered (Not UnknownJob)
 SaysJob opening job (Some place) said = SaysText opening (job_text job place) said
 
-abbrev pub SaysCollector : State → List ℕ → List ℕ → Option ℕ → Said → Type 0
-SaysCollector opening job name None said = said ≡ Answered (Not UnknownJob)
-SaysCollector opening job name (Some place) said = SaysHeld opening place job name said
+abbrev pub SaysCollector : State → Option (List ℕ) → List ℕ → List ℕ → Option ℕ → Said → Type 0
+SaysCollector opening at job name None said = said ≡ Answered (Not UnknownJob)
+SaysCollector opening at job name (Some place) said = SaysHeld opening at place job name said
+
+-- what a collector is told that follows a list: no figures, or that there is no such path where no list is acknowledged
+abbrev pub SaysAcknowledged : Option (List ℕ) → Said → Type 0
+SaysAcknowledged None said = said ≡ Refused NoRoute
+SaysAcknowledged (Some at) said = said ≡ Metrics []
 
 abbrev pub SaysLive : Said → Type 0
 SaysLive said = (said ≡ Noticed Healthy) ⊎ (said ≡ Noticed Broken)
@@ -190,7 +212,8 @@ SaysPage opening pages ask.Quit said = SaysQuit said
 SaysPage opening pages ask.Status said = SaysDocument said
 SaysPage opening pages (ask.Uncovered job) said = SaysUncovered (place_of job pages.names) said
 SaysPage opening pages (ask.JobTargets job) said = SaysJob opening job (place_of job pages.names) said
-SaysPage opening pages (ask.CollectorTargets job name takes) said = SaysCollector opening job name (place_of job pages.names) said
+SaysPage opening pages (ask.CollectorTargets job name takes) said = SaysCollector opening pages.acknowledge job name (place_of job pages.names) said
+SaysPage opening pages (ask.Acknowledged told) said = SaysAcknowledged pages.acknowledge said
 SaysPage opening pages _ said = Unit {0}
 
 -- what is asked waits for nothing

@@ -7,6 +7,7 @@ ghost use Rattle.allocation_core.specs.Idle.{IsIdle};
 ghost use Rattle.alloc_desk.specs.Views.{numbered_of};
 ghost use Rattle.service_state.specs.Jobs.{place_of};
 ghost use Rattle.sd_server.specs.Listing.{IsGroups};
+ghost use Rattle.sd_server.specs.Texts.{acknowledged_text, list_text};
 ghost use Rattle.sd_server.specs.Entries.{Leads};
 ghost use Rattle.sd_server.specs.Looks.{HeadIs, IsLook};
 ghost use Rattle.sd_server.specs.Says.{IsAnswered, OfSome, SaysCollector, SaysCopy, SaysGiven, SaysGone, SaysHeld, SaysList, SaysLook, SaysLookOf, SaysNot, SaysGroups, SaysTold};
@@ -21,7 +22,7 @@ use bytes::Bytes;
 use fleet_events::{AllocationNumber, CollectorId, Round, TargetId};
 use lists::{List, Plain, Text};
 use reach_rules::CollectorName;
-use sd_routes::{ListHead, RequestError, Said, targets_page};
+use sd_routes::{ListHead, RequestError, Said, acknowledged_list, targets_page};
 use std::alloc::AllocError;
 use std::sync::ledger::Ledger;
 use std::sync::{Arc, Wait};
@@ -30,7 +31,7 @@ use std::time::Clock;
 impl<R: Wait + Clock + Copy, L: Ledger, B: Ledger, N: DeskName> Handler<R, L, B, N> {
     /// What is told of a job to who asks under a name: by an event that changes something where there is one to be, or without one.
     pub(crate) fn collector(&self, job: &Text, name: &CollectorName, takes: bool) -> Entry
-        ensures { Leads (SaysCollector N.opening job.now name.now (place_of job.now (arc_value self.now.pages).names)) result }
+        ensures { Leads (SaysCollector N.opening (arc_value self.now.pages).acknowledge job.now name.now (place_of job.now (arc_value self.now.pages).names)) result }
     {
         let Some(place) = self.pages.place(job.as_str()) else {
             return Entry::Now(Said::Answer(Answer::Not(Refusal::UnknownJob)));
@@ -39,7 +40,7 @@ impl<R: Wait + Clock + Copy, L: Ledger, B: Ledger, N: DeskName> Handler<R, L, B,
     }
 
     fn told_under(&self, place: usize, job: &Text, name: &str, takes: bool) -> Entry
-        ensures { Leads (SaysHeld N.opening place job.now name.now) result }
+        ensures { Leads (SaysHeld N.opening (arc_value self.now.pages).acknowledge place job.now name.now) result }
     {
         if takes {
             self.held(place, job, name)
@@ -50,11 +51,11 @@ impl<R: Wait + Clock + Copy, L: Ledger, B: Ledger, N: DeskName> Handler<R, L, B,
 
     #[tactic(auto, unfolding(crate::specs::Says::SaysHeld))]
     fn held(&self, place: usize, job: &Text, name: &str) -> Entry
-        ensures { Leads (SaysHeld N.opening place job.now name.now) result }
+        ensures { Leads (SaysHeld N.opening (arc_value self.now.pages).acknowledge place job.now name.now) result }
     {
         match self.named(name) {
             Some(id) => {
-                self.state.note_live(&self.rt, name, id);
+                self.state.note_asked(&self.rt, name, id);
                 self.state.note_taker(&self.rt, id);
                 self.list(place, job, name, id)
             }
@@ -71,36 +72,43 @@ impl<R: Wait + Clock + Copy, L: Ledger, B: Ledger, N: DeskName> Handler<R, L, B,
 
     /// What a collector is told of a job.
     fn list(&self, place: usize, job: &Text, name: &str, id: CollectorId) -> Entry
-        ensures { Leads (SaysList N.opening place job.now id) result }
+        ensures { Leads (SaysList N.opening (arc_value self.now.pages).acknowledge place job.now id) result }
     {
         if !self.state.is_ordered() {
-            return self.given(place, id, Event::Take(id));
+            return self.given(place, job, id, Event::Take(id));
         }
         if let Some(earlier) = self.state.earlier(&self.rt, name, id) {
             // Its list of the job is the one that it is served under its number of now.
             let _ = self.let_go(job, earlier);
         }
-        self.served(place, job, id)
+        match &self.pages.acknowledge {
+            Some(_) => self.acknowledged_list(place, job, id),
+            None => self.served(place, job, id),
+        }
     }
 
-    fn served(&self, place: usize, job: &Text, id: CollectorId) -> Entry
-        ensures { Leads (SaysGiven N.opening place id (Serve id job.now)) result }
+    pub(crate) fn served(&self, place: usize, job: &Text, id: CollectorId) -> Entry
+        ensures { Leads (SaysGiven N.opening (arc_value self.now.pages).acknowledge job.now place id (Serve id job.now)) result }
     {
         match job.copy() {
-            Ok(job) => {
+            Ok(copy) => {
                 let collector = id;
-                self.given(place, id, Event::Serve { collector, job })
+                let event = Event::Serve {
+                    collector,
+                    job: copy,
+                };
+                self.given(place, job, id, event)
             }
             Err(_) => Entry::Now(Said::Refused(RequestError::Memory)),
         }
     }
 
     /// What a collector is told of a job by the answer to an event.
-    fn given(&self, place: usize, id: CollectorId, event: Event) -> Entry
-        ensures { Leads (SaysGiven N.opening place id event) result }
+    fn given(&self, place: usize, job: &Text, id: CollectorId, event: Event) -> Entry
+        ensures { Leads (SaysGiven N.opening (arc_value self.now.pages).acknowledge job.now place id event) result }
     {
         match self.answered(event) {
-            Ok((rests, answer)) => self.once_kept(rests, self.told(place, id, answer)),
+            Ok((rests, answer)) => self.once_kept(rests, self.told(place, job, id, answer)),
             Err(error) => Entry::Now(Said::Refused(error)),
         }
     }
@@ -181,8 +189,8 @@ impl<R: Wait + Clock + Copy, L: Ledger, B: Ledger, N: DeskName> Handler<R, L, B,
     }
 
     /// What the answer to a Take or a Serve of a collector is told as.
-    fn told(&self, place: usize, id: CollectorId, answer: Answer) -> Said
-        ensures { SaysTold N.opening place id answer result }
+    fn told(&self, place: usize, job: &Text, id: CollectorId, answer: Answer) -> Said
+        ensures { SaysTold N.opening (arc_value self.now.pages).acknowledge job.now place id answer result }
     {
         match answer {
             Answer::Taken {
@@ -191,7 +199,7 @@ impl<R: Wait + Clock + Copy, L: Ledger, B: Ledger, N: DeskName> Handler<R, L, B,
                 held,
             } => {
                 let head = self.head(id, allocation, round, None);
-                self.groups_told(place, head, held.as_slice())
+                self.groups_told(&None, job.as_str(), place, head, held.as_slice())
             }
             Answer::Served {
                 allocation,
@@ -201,7 +209,13 @@ impl<R: Wait + Clock + Copy, L: Ledger, B: Ledger, N: DeskName> Handler<R, L, B,
             } => match u32::try_from(left_out.len()) {
                 Ok(left_out) => {
                     let head = self.head(id, allocation, round, Some(left_out));
-                    self.groups_told(place, head, listed.as_slice())
+                    self.groups_told(
+                        &self.pages.acknowledge,
+                        job.as_str(),
+                        place,
+                        head,
+                        listed.as_slice(),
+                    )
                 }
                 Err(_) => Said::Refused(RequestError::Memory),
             },
@@ -231,10 +245,18 @@ impl<R: Wait + Clock + Copy, L: Ledger, B: Ledger, N: DeskName> Handler<R, L, B,
         }
     }
 
-    fn groups_told(&self, place: usize, head: ListHead, targets: &[TargetId]) -> Said
-        ensures { SaysGroups N.opening place head targets.now result }
+    /// A list with this head, which is acknowledged where that is told to.
+    fn groups_told(
+        &self,
+        at: &Option<Text>,
+        job: &str,
+        place: usize,
+        head: ListHead,
+        targets: &[TargetId],
+    ) -> Said
+        ensures { SaysGroups N.opening at.now job.now place head targets.now result }
     {
-        match self.groups(place, head.collector, head.allocation, targets) {
+        match self.text_of_list(at, job, place, &head, targets) {
             Ok(groups) => Said::List { head, groups },
             Err(_) => Said::Refused(RequestError::Memory),
         }
@@ -243,7 +265,7 @@ impl<R: Wait + Clock + Copy, L: Ledger, B: Ledger, N: DeskName> Handler<R, L, B,
     /// What is shown to who only looks, and takes nothing.
     #[tactic(auto, unfolding(crate::specs::Says::SaysHeld))]
     fn looked(&self, place: usize, job: &Text, name: &str) -> Said
-        ensures { SaysHeld N.opening place job.now name.now result }
+        ensures { SaysHeld N.opening (arc_value self.now.pages).acknowledge place job.now name.now result }
     {
         match self.named(name) {
             Some(id) => self.look(place, job, id),
@@ -256,16 +278,24 @@ impl<R: Wait + Clock + Copy, L: Ledger, B: Ledger, N: DeskName> Handler<R, L, B,
         ensures { SaysLook N.opening place job.now id result }
     {
         match self.look_now(job, id) {
-            Ok(look) => self.look_told(place, id, &look),
+            Ok(look) => self.look_told(&None, place, job, id, &look),
             Err(_) => Said::Refused(RequestError::Memory),
         }
     }
 
-    fn look_told(&self, place: usize, id: CollectorId, look: &Look) -> Said
-        ensures { SaysLookOf N.opening place id look.now result }
+    /// What a look is told as, which is acknowledged where that is told to.
+    pub(crate) fn look_told(
+        &self,
+        at: &Option<Text>,
+        place: usize,
+        job: &Text,
+        id: CollectorId,
+        look: &Look,
+    ) -> Said
+        ensures { SaysLookOf N.opening at.now job.now place id look.now result }
     {
         let head = self.head(id, look.allocation, look.round, look.left_out);
-        self.groups_told(place, head, look.targets.as_slice())
+        self.groups_told(at, job.as_str(), place, head, look.targets.as_slice())
     }
 
     fn look_now(&self, job: &Text, id: CollectorId) -> Result<Look, AllocError>
@@ -276,6 +306,38 @@ impl<R: Wait + Clock + Copy, L: Ledger, B: Ledger, N: DeskName> Handler<R, L, B,
         self.desk.read(&self.rt, &mut *pass, |record| {
             look_at(record.core(), job.as_str(), id, is_ordered)
         })
+    }
+
+    fn text_of_list(
+        &self,
+        at: &Option<Text>,
+        job: &str,
+        place: usize,
+        head: &ListHead,
+        targets: &[TargetId],
+    ) -> Result<Bytes, AllocError>
+        ensures { IfOk result (λ t. OfSome N.opening (λ h. t ≡ list_text at.now job.now head.now place targets.now h)) }
+    {
+        match at {
+            Some(at) => self.acknowledged_text(at.as_str(), job, place, head, targets),
+            None => self.groups(place, head.collector, head.allocation, targets),
+        }
+    }
+
+    /// The text of a list that is acknowledged.
+    #[tactic(auto, using(crate::proofs::TextLemmas::acknowledged_of))]
+    fn acknowledged_text(
+        &self,
+        at: &str,
+        job: &str,
+        place: usize,
+        head: &ListHead,
+        targets: &[TargetId],
+    ) -> Result<Bytes, AllocError>
+        ensures { IfOk result (λ t. OfSome N.opening (λ h. t ≡ acknowledged_text at.now job.now head.now place targets.now h)) }
+    {
+        let groups = self.groups(place, head.collector, head.allocation, targets)?;
+        acknowledged_list(self.alloc, at, job, head, groups.as_slice())
     }
 
     /// The text of these targets of a collector in an allocation.

@@ -227,6 +227,7 @@ impl<R: Wait + Clock + Copy, L: Ledger, B: Ledger, N: DeskName> Handler<R, L, B,
             Ask::Status => self.status(),
             Ask::Uncovered(job) => self.uncovered(job.as_str()),
             Ask::JobTargets(job) => self.job(job.as_str()),
+            Ask::Acknowledged(told) => self.acknowledged(told),
             Ask::Reload
             | Ask::CollectorTargets { .. }
             | Ask::Join

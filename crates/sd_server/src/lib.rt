@@ -5,12 +5,14 @@
 //! opening state. Of connections, time and order they say nothing.
 #![tactic(auto)]
 
+mod acknowledging;
 mod by_loops;
 mod certificate_page;
 mod collector_lists;
 mod counter;
 mod entry;
 mod handler;
+mod keeping;
 mod list_text;
 mod list_texts;
 mod look;
@@ -19,6 +21,7 @@ mod reply;
 mod service;
 mod spoken;
 mod uncovered;
+mod yaml;
 
 pub use by_loops::{DEFAULT_LOOPS, serve_by_loops};
 pub use entry::Entry;

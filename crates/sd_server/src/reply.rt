@@ -10,6 +10,7 @@ ghost use Rattle.sd_server.specs.Replies.{CanRead, Gives, MaySay, SaysRead, Writ
 use crate::counter::Counter;
 use crate::entry::Entry;
 use crate::handler::Handler;
+use crate::yaml::{as_yaml, is_page};
 use admission::LONGEST_BODY;
 use alloc_desk::DeskName;
 use bytes::Bytes;
@@ -33,6 +34,8 @@ pub struct Reply<R, L: Ledger, B: Ledger, N: DeskName, I> {
     stage: Stage<R, L, B, N, I>,
     /// Whether there is a body that is not read.
     closes: bool,
+    /// Whether a page is told as YAML.
+    is_yaml: bool,
     /// What counts the request once it is told something.
     counter: Option<Counter<R>>,
 }
@@ -52,12 +55,13 @@ struct Reading<R, L: Ledger, B: Ledger, N: DeskName, I> {
 }
 
 impl<R, L: Ledger, B: Ledger, N: DeskName, I: Drop> Reply<R, L, B, N, I> {
-    /// A reply to a request whose body is not read.
+    /// A reply to a request whose body is not read. A page is told as YAML where that is asked for.
     pub(crate) fn of(
         alloc: Global,
         counter: Option<Counter<R>>,
         entry: Entry,
         closes: bool,
+        is_yaml: bool,
     ) -> Reply<R, L, B, N, I>
         ensures can_read { CanRead result }
         ensures says { (said : Said) → MaySay result.stage said → MaySayEntry entry said }
@@ -66,6 +70,7 @@ impl<R, L: Ledger, B: Ledger, N: DeskName, I: Drop> Reply<R, L, B, N, I> {
             alloc,
             stage: Stage::Told(entry),
             closes,
+            is_yaml,
             counter,
         }
     }
@@ -88,18 +93,24 @@ impl<R: Wait + Clock + Copy, L: Ledger, B: Ledger, N: DeskName, I: Drop> Reply<R
             alloc,
             stage: Stage::Reading(Reading { handler, ask, body }),
             closes: false,
+            is_yaml: false,
             counter,
         }
     }
 
     /// The response that says it. The request is counted.
     fn answered(&self, said: Said) -> Result<Response<Full<Bytes>>, AllocError>
-        ensures { IfOk result (Writes self.now.closes said) }
+        ensures { IfOk result (Writes self.now.is_yaml self.now.closes said) }
     {
         if let Some(counter) = &self.counter {
             counter.count(&said);
         }
-        answer(self.alloc, said, self.closes)
+        let is_yaml = self.is_yaml && is_page(&said);
+        let response = answer(self.alloc, said, self.closes)?;
+        if is_yaml {
+            return as_yaml(response);
+        }
+        Ok(response)
     }
 }
 

@@ -9,11 +9,11 @@ use std::io::Read;
 use std::rt::Files;
 use std::time::Clock;
 
-/// How many descriptors a service keeps for its files, sources and loops.
-const KEPT: u64 = 64;
+/// How many descriptors a service keeps: 48 for its files and loops, and 7 for each of 16 sources that are asked at once.
+const KEPT: u64 = 160;
 
 /// How many descriptors a service needs, so that it serves some connections at once, one for each.
-const NEEDED: u64 = 128;
+const NEEDED: u64 = 224;
 
 /// What the kernel says of the limits of this process.
 const LIMITS: &str = "/proc/self/limits";

@@ -104,7 +104,8 @@ fn journals_at<R: Files<File = File> + AllocGlobal + Clock + Eprint + Copy + Dro
 ) -> Result<(Opened<File>, Journals<R>), Fault> {
     let path = copied(alloc, journal)?;
     let journals = Journals::open(*rt, alloc, path, Some(service.keep()))?;
-    match open_allocator(&journals, service.line(), service.jobs()) {
+    let round = service.scrape_interval();
+    match open_allocator(&journals, service.line(), service.jobs(), round) {
         Ok(opened) => Ok((opened, journals)),
         Err(fault) => Err(fault),
     }

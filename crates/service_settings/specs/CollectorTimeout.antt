@@ -1,5 +1,5 @@
 -- After how long without a word a collector counts as gone.
-use Rattle.std.specs.Prelude.{Option, Some, None, Result, option_map, if◌then◌else◌}
+use Rattle.std.specs.Prelude.{Option, Some, Result, option_map, if◌then◌else◌}
 use Rattle.serde_json.specs.Data.{Data}
 use Rattle.service_settings.specs.declared.error.SettingsError.{SettingsError}
 use Rattle.service_settings.specs.declared.error.Member.TheVariants as part

@@ -12,6 +12,8 @@ pub mod Doors
 pub mod ReachChanges
 pub mod CollectorTimeout
 pub mod Handover
+pub mod Acknowledge
 pub mod ReleaseAfter
+pub mod Spread
 pub mod Settings
 pub mod Beside

@@ -4,7 +4,7 @@ use Rattle.std.specs.Fmt.{decimal}
 use Rattle.service_settings.specs.declared.error.SettingsError.{SettingsError}
 use Rattle.service_settings.specs.declared.error.SettingsError.TheVariants.{NotJson, Shape, Unknown, RepeatedCollector, Memory}
 use Rattle.service_settings.specs.declared.error.Member.{Member}
-use Rattle.service_settings.specs.declared.error.Member.TheVariants.{Document, Global, ScrapeInterval, ScrapeConfigs, ScrapeConfig, HttpSdConfigs, HttpSdConfig, RefreshInterval, Allocator, Listen, Lifecycle, Journal, Keep, Settle, GiveUp, Connections, Hosts, Host, Tokens, AdminTokens, CollectorTokens, OpenToAll, AllowNoJobs, Collectors, Collector, CollectorName, CollectorReach, CollectorLimits, JoinByAsking, JoiningPattern, Pattern, PatternReach, PatternLimits, ReachChanges, Rejoin, CollectorTimeout, Handover, ReleaseAfter, FetchTimeout}
+use Rattle.service_settings.specs.declared.error.Member.TheVariants.{Document, Global, ScrapeInterval, ScrapeConfigs, ScrapeConfig, HttpSdConfigs, HttpSdConfig, RefreshInterval, Allocator, Listen, Lifecycle, Journal, Keep, Settle, GiveUp, Connections, Hosts, Host, Tokens, AdminTokens, CollectorTokens, OpenToAll, AllowNoJobs, Collectors, Collector, CollectorName, CollectorReach, CollectorLimits, JoinByAsking, JoiningPattern, Pattern, PatternReach, PatternLimits, ReachChanges, Rejoin, CollectorTimeout, Handover, Acknowledge, ReleaseAfter, Spread, Slack, MostMoves, FetchTimeout}
 
 -- without indices
 abbrev pub member_path : Member → List ℕ
@@ -45,7 +45,11 @@ member_path ReachChanges = codes "allocator.reach_changes"
 member_path Rejoin = codes "allocator.rejoin"
 member_path CollectorTimeout = codes "allocator.collector_timeout"
 member_path Handover = codes "allocator.handover"
+member_path Acknowledge = codes "allocator.acknowledge"
 member_path ReleaseAfter = codes "allocator.release_after"
+member_path Spread = codes "allocator.spread"
+member_path Slack = codes "allocator.spread.slack"
+member_path MostMoves = codes "allocator.spread.most_moves"
 member_path FetchTimeout = codes "allocator.fetch_timeout"
 
 -- the way to the member from the document
@@ -104,7 +108,11 @@ missing ReachChanges = codes "neither \"drained\" nor \"now\""
 missing Rejoin = codes "neither true nor false"
 missing CollectorTimeout = codes "no duration above 0"
 missing Handover = codes "neither \"ordered\" nor \"free\""
+missing Acknowledge = codes "no host with a port"
 missing ReleaseAfter = codes "neither a duration above 0 nor \"never\""
+missing Spread = codes "no object"
+missing Slack = codes "no whole number from 0 to 1000"
+missing MostMoves = codes "no whole number of 32 bits above 0"
 missing FetchTimeout = codes "no duration above 0"
 
 abbrev pub error_line : SettingsError → List ℕ

@@ -1,5 +1,5 @@
 -- When what a collector's list has is let go.
-use Rattle.std.specs.Prelude.{Option, Some, None, Result, option_map, if◌then◌else◌}
+use Rattle.std.specs.Prelude.{Option, Some, Result, option_map, if◌then◌else◌}
 use Rattle.serde_json.specs.Data.{Data}
 use Rattle.service_settings.specs.declared.error.SettingsError.{SettingsError}
 use Rattle.service_settings.specs.declared.error.Member.TheVariants as part

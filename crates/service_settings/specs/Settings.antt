@@ -17,8 +17,10 @@ use Rattle.service_settings.specs.Doors.{doors_said}
 use Rattle.service_settings.specs.ReachChanges.{reach_changes_said}
 use Rattle.service_settings.specs.CollectorTimeout.{collector_timeout_said}
 use Rattle.service_settings.specs.Handover.{handover_said}
+use Rattle.service_settings.specs.Acknowledge.{acknowledge_said}
 use Rattle.service_settings.specs.JoiningPattern.{join_by_asking_said}
 use Rattle.service_settings.specs.ReleaseAfter.{release_after_said}
+use Rattle.service_settings.specs.Spread.{spread_said}
 use Rattle.service_settings.specs.Members.{known_said}
 use Rattle.service_settings.specs.Reading.{◌>>=◌, json_said, member_at, duration_in, time_in, address_in, connections_in, said_or, said_or_none, object_said, items_said, each_from}
 
@@ -66,9 +68,11 @@ collecting_said allocator =
     said_or true as_bool part.Rejoin (member_at (codes "rejoin") allocator) >>= λ rejoin.
     collector_timeout_said (member_at (codes "collector_timeout") allocator) >>= λ collector_timeout.
     handover_said (member_at (codes "handover") allocator) >>= λ handover.
+    acknowledge_said (member_at (codes "acknowledge") allocator) >>= λ acknowledge.
     release_after_said (member_at (codes "release_after") allocator) >>= λ release_after.
+    spread_said (member_at (codes "spread") allocator) >>= λ spread.
     said_or DEFAULT_FETCH_TIMEOUT time_in part.FetchTimeout (member_at (codes "fetch_timeout") allocator) >>= λ fetch_timeout.
-    Ok (record { allow_no_jobs = allow_no_jobs; collectors = collectors; join_by_asking = join_by_asking; reach_changes = reach_changes; rejoin = rejoin; collector_timeout = collector_timeout; handover = handover; release_after = release_after; fetch_timeout = fetch_timeout })
+    Ok (record { allow_no_jobs = allow_no_jobs; collectors = collectors; join_by_asking = join_by_asking; reach_changes = reach_changes; rejoin = rejoin; collector_timeout = collector_timeout; handover = handover; acknowledge = acknowledge; release_after = release_after; spread = spread; fetch_timeout = fetch_timeout })
 
 -- ---- all of them
 
@@ -91,7 +95,9 @@ settings_of scrape_interval refresh house doors fleet = record {
   rejoin = fleet.rejoin;
   collector_timeout = fleet.collector_timeout;
   handover = fleet.handover;
+  acknowledge = fleet.acknowledge;
   release_after = fleet.release_after;
+  spread = fleet.spread;
   fetch_timeout = fleet.fetch_timeout;
 }
 

@@ -25,7 +25,7 @@ pub fn address_of(text: &str) -> Option<Address>
 }
 
 /// What stands before the first colon, and what behind it.
-fn parts_of(text: &str) -> Option<(&str, &str)>
+pub(crate) fn parts_of(text: &str) -> Option<(&str, &str)>
     ensures host { IfSome result (λ parts. parts.0.now ≡ before_first (λ b. b == 58) text.now) }
     ensures port { option_map (λ parts. parts.1.now) result ≡ behind 58 text.now }
 {
@@ -89,7 +89,7 @@ fn has_leading_zero(text: &[u8]) -> bool
     }
 }
 
-fn port_of(digits: &[u8]) -> Option<u16>
+pub(crate) fn port_of(digits: &[u8]) -> Option<u16>
     ensures { result ≡ port_said digits.now }
 {
     if !begins_with_digit(digits) || !past_digits(digits).is_empty() {

@@ -60,7 +60,11 @@ pub enum Member {
     Rejoin,
     CollectorTimeout,
     Handover,
+    Acknowledge,
     ReleaseAfter,
+    Spread,
+    Slack,
+    MostMoves,
     FetchTimeout,
 }
 
@@ -184,7 +188,11 @@ impl Member {
             Member::Rejoin => "allocator.rejoin",
             Member::CollectorTimeout => "allocator.collector_timeout",
             Member::Handover => "allocator.handover",
+            Member::Acknowledge => "allocator.acknowledge",
             Member::ReleaseAfter => "allocator.release_after",
+            Member::Spread => "allocator.spread",
+            Member::Slack => "allocator.spread.slack",
+            Member::MostMoves => "allocator.spread.most_moves",
             Member::FetchTimeout => "allocator.fetch_timeout",
         }
     }
@@ -200,6 +208,7 @@ impl Member {
             | Member::HttpSdConfig(_, _)
             | Member::Allocator
             | Member::Tokens
+            | Member::Spread
             | Member::Collector(_)
             | Member::JoiningPattern(_) => "no object",
             Member::ScrapeConfigs
@@ -214,6 +223,7 @@ impl Member {
             | Member::FetchTimeout => "no duration above 0",
             Member::Settle => "no duration",
             Member::Listen => "no address with a port",
+            Member::Acknowledge => "no host with a port",
             Member::Lifecycle | Member::OpenToAll | Member::AllowNoJobs | Member::Rejoin =>
                 "neither true nor false",
             Member::Journal => "no text",
@@ -223,6 +233,8 @@ impl Member {
             Member::Handover => "neither \"ordered\" nor \"free\"",
             Member::ReleaseAfter => "neither a duration above 0 nor \"never\"",
             Member::Keep => "no whole number of 32 bits",
+            Member::Slack => "no whole number from 0 to 1000",
+            Member::MostMoves => "no whole number of 32 bits above 0",
             Member::Connections => "no whole number from 64 to 65535",
             Member::CollectorName(_) => "no name of a collector",
             Member::Pattern(_) => "no pattern of collectors' names",

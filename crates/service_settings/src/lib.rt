@@ -17,6 +17,7 @@ pub use error::{Member, SettingsError};
 pub use reading::{LEAST_CONNECTIONS, MOST_CONNECTIONS};
 pub use settings::{
     Collector, CollectorTimeout, DEFAULT_CONNECTIONS, DEFAULT_FETCH_TIMEOUT, DEFAULT_GIVE_UP,
-    DEFAULT_INTERVAL, DEFAULT_KEEP, DEFAULT_LISTEN, DEFAULT_SETTLE, Doors, Handover,
-    JoiningPattern, LONGEST_PATTERN, ReachChanges, ReleaseAfter, Settings, read_settings,
+    DEFAULT_INTERVAL, DEFAULT_KEEP, DEFAULT_LISTEN, DEFAULT_SETTLE, DEFAULT_SLACK, Doors, Handover,
+    JoiningPattern, LONGEST_PATTERN, MOST_SLACK, ReachChanges, ReleaseAfter, Settings, Spread,
+    read_settings,
 };

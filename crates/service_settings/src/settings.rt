@@ -5,6 +5,7 @@ ghost use Rattle.service_settings.specs.Reading.{Gives};
 ghost use Rattle.service_settings.specs.Beside.{AreBeside, AreBesideUrls};
 ghost use Rattle.service_settings.specs.Settings.{settings_of as settings_made, settings_said, settings_read};
 
+mod acknowledge;
 mod allocator;
 mod collector_timeout;
 mod collectors;
@@ -15,6 +16,7 @@ mod members;
 mod reach_changes;
 mod release_after;
 mod scrapes;
+mod spread;
 
 use crate::address::Address;
 use crate::error::{Member, SettingsError};
@@ -32,6 +34,7 @@ pub use reach_changes::ReachChanges;
 pub use release_after::ReleaseAfter;
 use scrapes::{refresh_in, scrape_interval_in};
 use serde_json::Value;
+pub use spread::{MOST_SLACK, Spread};
 use std::alloc::Global;
 
 /// How long a round is, and how often a source is asked, in milliseconds.
@@ -44,6 +47,8 @@ pub const DEFAULT_KEEP: u32 = 16;
 pub const DEFAULT_GIVE_UP: u64 = 30_000;
 /// How many connections there may be at once.
 pub const DEFAULT_CONNECTIONS: u32 = 4_096;
+/// By how many percent a collector may have more targets than where the loads are the most even.
+pub const DEFAULT_SLACK: u32 = 10;
 /// How long a fetch may take, in milliseconds.
 pub const DEFAULT_FETCH_TIMEOUT: u64 = 10_000;
 /// Where HTTP is served.
@@ -90,8 +95,12 @@ pub struct Settings {
     pub collector_timeout: CollectorTimeout,
     /// When a target that moved is in the list of the collector that it moved to.
     pub handover: Handover,
+    /// Where collectors tell that they follow their lists, as they reach it: a host, a colon and a port.
+    pub acknowledge: Option<Text>,
     /// How long after a collector was last heard of its lists count as let go.
     pub release_after: ReleaseAfter,
+    /// How even the collectors' loads are made; nothing is evened where there is nothing here.
+    pub spread: Option<Spread>,
     /// How long a fetch may take. Above 0.
     pub fetch_timeout: u64,
 }
@@ -151,7 +160,9 @@ fn settings_of(
         rejoin: collecting.rejoin,
         collector_timeout: collecting.collector_timeout,
         handover: collecting.handover,
+        acknowledge: collecting.acknowledge,
         release_after: collecting.release_after,
+        spread: collecting.spread,
         fetch_timeout: collecting.fetch_timeout,
     }
 }

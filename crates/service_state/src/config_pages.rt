@@ -1,5 +1,5 @@
 //! What requests are told of the configuration. It does not change while a desk is served.
-ghost use Rattle.std.specs.Prelude.{◌≡◌, IfOk, map};
+ghost use Rattle.std.specs.Prelude.{◌≡◌, None, IfOk, map};
 ghost use Rattle.serde_json.specs.View.{view};
 ghost use Rattle.serde_json.specs.Written.{compact_text};
 ghost use Rattle.sd_documents.specs.declared.config.Job.{Job};
@@ -21,10 +21,12 @@ pub struct ConfigPages {
     /// The JSON of `/jobs`.
     pub jobs: Text,
     pub names: List<Text>,
+    /// Where a collector tells that it follows a list, as collectors reach it: a host, a colon and a port.
+    pub acknowledge: Option<Text>,
 }
 
 impl ConfigPages {
-    /// What a configuration is told by, with the text of its scrape configs as collectors are to use them.
+    /// What a configuration is told by under which no list is acknowledged, with the text of its scrape configs as collectors are to use them.
     pub fn of(
         alloc: Global,
         config: &Config,
@@ -33,6 +35,7 @@ impl ConfigPages {
         ensures scrape_configs { IfOk result (λ p. p.scrape_configs ≡ scrape_configs) }
         ensures as_read { IfOk result (λ p. p.as_read ≡ compact_text (view config.now.as_read)) }
         ensures jobs { IfOk result (λ p. p.jobs ≡ compact_text (jobs_data config.now.jobs)) }
+        ensures acknowledge { IfOk result (λ p. p.acknowledge ≡ None) }
         ensures names { IfOk result (λ p. p.names ≡ map (λ (j : Job). j.name) config.now.jobs) }
     {
         let as_read = scrape_configs_text(alloc, config)?;
@@ -46,6 +49,7 @@ impl ConfigPages {
             as_read,
             jobs,
             names,
+            acknowledge: None,
         })
     }
 

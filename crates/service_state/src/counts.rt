@@ -2,14 +2,24 @@
 use fleet_events::{Answer, Event, Refusal};
 use sd_routes::Ask;
 
+/// How many routes there are, what no route has among them.
+const ROUTE_COUNT: usize = 21;
+/// How many status codes are told apart.
+const STATUS_COUNT: usize = 15;
+/// How many kinds of events there are.
+const KIND_COUNT: usize = 12;
+/// How many names answers have.
+const ANSWER_COUNT: usize = 32;
+
 /// The routes as they are told, and what no route has.
-pub(crate) const ROUTES: [&str; 20] = [
+pub(crate) const ROUTES: [&str; ROUTE_COUNT] = [
     "/",
     "/scrape_configs",
     "/jobs",
     "/jobs/{job}/targets",
     "/jobs/{job}/targets?collector_id",
     "/jobs/{job}/uncovered",
+    "/acknowledged",
     "/certificate",
     "POST /collectors",
     "DELETE /collectors/{id}",
@@ -27,18 +37,18 @@ pub(crate) const ROUTES: [&str; 20] = [
 ];
 
 /// The status codes of responses, and 0 for any other.
-pub(crate) const STATUSES: [u16; 15] = [
+pub(crate) const STATUSES: [u16; STATUS_COUNT] = [
     200, 400, 401, 403, 404, 405, 409, 413, 415, 417, 500, 501, 503, 507, 0,
 ];
 
 /// The kinds of events by the names of their JSON.
-pub(crate) const KINDS: [&str; 11] = [
-    "discover", "join", "leave", "drain", "limits", "install", "round", "take", "serve", "release",
-    "report",
+pub(crate) const KINDS: [&str; KIND_COUNT] = [
+    "discover", "join", "leave", "drain", "limits", "install", "spread", "round", "take", "serve",
+    "release", "report",
 ];
 
 /// The names of answers: first those of events that were done, and then those of refusals.
-pub(crate) const ANSWERS: [&str; 31] = [
+pub(crate) const ANSWERS: [&str; ANSWER_COUNT] = [
     "Discovered",
     "Joined",
     "Left",
@@ -60,6 +70,7 @@ pub(crate) const ANSWERS: [&str; 31] = [
     "UnknownCollector",
     "AlreadyDraining",
     "Refused",
+    "RefusedSpread",
     "Unchanged",
     "NumbersSpent",
     "RoundsSpent",
@@ -102,6 +113,7 @@ pub enum EventKind {
     Drain,
     SetLimits,
     Install,
+    Spread,
     NextRound,
     Take,
     Serve,
@@ -118,6 +130,7 @@ impl EventKind {
             Event::Drain(_) => EventKind::Drain,
             Event::SetLimits { .. } => EventKind::SetLimits,
             Event::Install(_) => EventKind::Install,
+            Event::Spread(_) => EventKind::Spread,
             Event::NextRound => EventKind::NextRound,
             Event::Take(_) => EventKind::Take,
             Event::Serve { .. } => EventKind::Serve,
@@ -143,11 +156,12 @@ impl EventKind {
             EventKind::Drain => 3,
             EventKind::SetLimits => 4,
             EventKind::Install => 5,
-            EventKind::NextRound => 6,
-            EventKind::Take => 7,
-            EventKind::Serve => 8,
-            EventKind::Release => 9,
-            EventKind::Report => 10,
+            EventKind::Spread => 6,
+            EventKind::NextRound => 7,
+            EventKind::Take => 8,
+            EventKind::Serve => 9,
+            EventKind::Release => 10,
+            EventKind::Report => 11,
         }
     }
 }
@@ -156,16 +170,16 @@ impl EventKind {
 #[derive(Clone, Copy, Debug, Drop)]
 pub(crate) struct Counts {
     /// Of requests that were answered, at the places of their routes and statuses.
-    pub(crate) requests: [[u64; 15]; 20],
+    pub(crate) requests: [[u64; STATUS_COUNT]; ROUTE_COUNT],
     /// Of events, at the places of their kinds and answers.
-    pub(crate) events: [[u64; 31]; 11],
+    pub(crate) events: [[u64; ANSWER_COUNT]; KIND_COUNT],
 }
 
 impl Counts {
     pub(crate) fn new() -> Counts {
         Counts {
-            requests: [[0; 15]; 20],
-            events: [[0; 31]; 11],
+            requests: [[0; STATUS_COUNT]; ROUTE_COUNT],
+            events: [[0; ANSWER_COUNT]; KIND_COUNT],
         }
     }
 
@@ -215,19 +229,20 @@ fn place_of(ask: &Ask) -> usize {
         Ask::JobTargets(_) => 3,
         Ask::CollectorTargets { .. } => 4,
         Ask::Uncovered(_) => 5,
-        Ask::Certificate => 6,
-        Ask::Join => 7,
-        Ask::Leave(_) => 8,
-        Ask::Drain(_) => 9,
-        Ask::Release(_) => 10,
-        Ask::SetLimits(_) => 11,
-        Ask::Report => 12,
-        Ask::Healthy => 13,
-        Ask::Live => 14,
-        Ask::Ready => 15,
-        Ask::Metrics => 16,
-        Ask::Reload => 17,
-        Ask::Quit => 18,
+        Ask::Acknowledged(_) => 6,
+        Ask::Certificate => 7,
+        Ask::Join => 8,
+        Ask::Leave(_) => 9,
+        Ask::Drain(_) => 10,
+        Ask::Release(_) => 11,
+        Ask::SetLimits(_) => 12,
+        Ask::Report => 13,
+        Ask::Healthy => 14,
+        Ask::Live => 15,
+        Ask::Ready => 16,
+        Ask::Metrics => 17,
+        Ask::Reload => 18,
+        Ask::Quit => 19,
     }
 }
 
@@ -262,15 +277,16 @@ fn refusal_place(refusal: &Refusal) -> usize {
         Refusal::UnknownCollector => 7,
         Refusal::AlreadyDraining => 8,
         Refusal::Refused(_) => 9,
-        Refusal::Unchanged(_) => 10,
-        Refusal::NumbersSpent => 11,
-        Refusal::RoundsSpent => 12,
-        Refusal::NotTaken(_) => 13,
-        Refusal::UnknownTarget => 14,
-        Refusal::NotHolder(_) => 15,
-        Refusal::StillServed(_) => 16,
-        Refusal::RoundClosed(_) => 17,
-        Refusal::RoundNotOpen(_) => 18,
-        Refusal::AlreadyBooked => 19,
+        Refusal::RefusedSpread(_) => 10,
+        Refusal::Unchanged(_) => 11,
+        Refusal::NumbersSpent => 12,
+        Refusal::RoundsSpent => 13,
+        Refusal::NotTaken(_) => 14,
+        Refusal::UnknownTarget => 15,
+        Refusal::NotHolder(_) => 16,
+        Refusal::StillServed(_) => 17,
+        Refusal::RoundClosed(_) => 18,
+        Refusal::RoundNotOpen(_) => 19,
+        Refusal::AlreadyBooked => 20,
     }
 }

@@ -4,6 +4,7 @@ use crate::figures::{CollectorFigures, Figures, JobFigures};
 use crate::notes::{Notes, SourceNote};
 use crate::service_state::ServiceState;
 use exposition::{Exposition, Kind};
+use fleet_events::CollectorId;
 use lists::Text;
 use std::alloc::{AllocError, Global};
 
@@ -17,6 +18,11 @@ pub fn metrics_page(
     let mut page = Exposition::new(alloc);
     write_jobs(&mut page, figures.jobs.as_slice())?;
     write_collectors(&mut page, figures.collectors.as_slice())?;
+    write_last_takes(
+        &mut page,
+        figures.collectors.as_slice(),
+        notes.asked.as_slice(),
+    )?;
     write_allocation(&mut page, figures)?;
     write_last_allocation(&mut page, notes)?;
     write_waiting(&mut page, figures, state)?;
@@ -99,6 +105,34 @@ fn write_collectors(
         page.labelled_sample(taken, "collector", name, u128::from(collector.taken))?;
     }
     write_waited_for(page, collectors)
+}
+
+fn write_last_takes(
+    page: &mut Exposition,
+    collectors: &[CollectorFigures],
+    asked: &[(CollectorId, u64)],
+) -> Result<(), AllocError> {
+    let name = "allocd_collector_last_take_timestamp_seconds";
+    page.family(
+        name,
+        Kind::Gauge,
+        "When the collector asked for a list last, in seconds since 1970, or 0.",
+    )?;
+    for collector in collectors {
+        let at = u128::from(last_take(asked, collector.id));
+        page.labelled_sample(name, "collector", collector.name.as_str(), at)?;
+    }
+    Ok(())
+}
+
+/// When the collector of a number asked last. 0 where it did not.
+fn last_take(asked: &[(CollectorId, u64)], id: CollectorId) -> u64 {
+    for (other, at) in asked {
+        if *other == id {
+            return *at;
+        }
+    }
+    0
 }
 
 fn write_waited_for(
@@ -332,6 +366,26 @@ fn write_sources(
     for source in sources {
         let said = name_of(alloc, source)?;
         page.labelled_sample(name, "source", said.as_str(), u128::from(source.failures))?;
+    }
+    write_last_successes(page, alloc, sources)
+}
+
+fn write_last_successes(
+    page: &mut Exposition,
+    alloc: Global,
+    sources: &[SourceNote],
+) -> Result<(), AllocError> {
+    let name = "allocd_refresh_last_success_timestamp_seconds";
+    page.family(
+        name,
+        Kind::Gauge,
+        "When the discovery source last gave its list, in seconds since 1970, or 0.",
+    )?;
+    for source in sources {
+        let said = name_of(alloc, source)?;
+        let job = source.job.as_str();
+        let seconds = u128::from(source.succeeded);
+        page.twice_labelled_sample(name, "job", job, "source", said.as_str(), seconds)?;
     }
     Ok(())
 }

@@ -28,6 +28,8 @@ struct LiveName {
     id: CollectorId,
     /// The number before, where it joined anew.
     earlier: Option<CollectorId>,
+    /// When a list was asked for under it last, in seconds since 1970. 0 where none was.
+    asked: u64,
 }
 
 impl LiveName {
@@ -60,6 +62,31 @@ impl Names {
         self.add(name, id)
     }
 
+    /// The live collector of this number asked for a list under this name then, in seconds since 1970.
+    pub(crate) fn note_asked(
+        &mut self,
+        name: &str,
+        id: CollectorId,
+        at: u64,
+    ) -> Result<(), AllocError> {
+        self.note_live(name, id)?;
+        for known in &mut self.live {
+            if known.id == id {
+                known.asked = known.asked.max(at);
+            }
+        }
+        Ok(())
+    }
+
+    /// When lists were asked for last, by the last numbers of all names.
+    pub(crate) fn asked(&self, alloc: Global) -> Result<Vec<(CollectorId, u64)>, AllocError> {
+        let mut asked = Vec::with_capacity(alloc, self.live.len())?;
+        for known in &self.live {
+            asked.push((known.id, known.asked))?;
+        }
+        Ok(asked)
+    }
+
     /// A name that is not known.
     fn add(&mut self, name: &str, id: CollectorId) -> Result<(), AllocError> {
         let name = Text::from_str(self.alloc, name)?;
@@ -70,6 +97,7 @@ impl Names {
             name,
             id,
             earlier: None,
+            asked: 0,
         })?;
         Ok(())
     }

@@ -1,5 +1,6 @@
 //! What a service tells of its sources and of its last allocations.
 use crate::counts::Counts;
+use fleet_events::CollectorId;
 use lists::{Plain, Text};
 use std::alloc::{AllocError, Global};
 
@@ -14,7 +15,9 @@ pub struct SourceNote {
     pub number: u32,
     pub refreshes: u64,
     pub failures: u64,
-    /// When it was refreshed last, as a timestamp (RFC 3339).
+    /// When it last gave its list, in seconds since 1970. 0 where it gave none.
+    pub succeeded: u64,
+    /// When it was refreshed last, as a timestamp (RFC 3339). Empty where it was not.
     pub at: Text,
     /// Why the last refresh failed. Empty where it did not.
     pub fault: Text,
@@ -45,6 +48,8 @@ pub struct Notes {
     pub(crate) allocations: Vec<AllocationNote>,
     /// How long all reallocations took together, in milliseconds.
     pub(crate) milliseconds: u64,
+    /// When collectors asked for a list last, in seconds since 1970. 0 where they did not.
+    pub(crate) asked: Vec<(CollectorId, u64)>,
 }
 
 impl Notes {
@@ -54,15 +59,22 @@ impl Notes {
             sources: Vec::new(alloc),
             allocations: Vec::new(alloc),
             milliseconds: 0,
+            asked: Vec::new(alloc),
         }
     }
 
-    pub(crate) fn copy(&self, alloc: Global) -> Result<Notes, AllocError> {
+    /// A copy of what is noted, with these times.
+    pub(crate) fn copy_with(
+        &self,
+        alloc: Global,
+        asked: Vec<(CollectorId, u64)>,
+    ) -> Result<Notes, AllocError> {
         Ok(Notes {
             counts: self.counts,
             sources: copied_sources(alloc, self.sources.as_slice())?,
             allocations: copied_allocations(alloc, self.allocations.as_slice())?,
             milliseconds: self.milliseconds,
+            asked,
         })
     }
 
@@ -72,6 +84,7 @@ impl Notes {
             if note.number == refresh.number && note.job.same(&refresh.job) {
                 note.refreshes = note.refreshes.saturating_add(refresh.refreshes);
                 note.failures = note.failures.saturating_add(refresh.failures);
+                note.succeeded = note.succeeded.max(refresh.succeeded);
                 note.at = refresh.at;
                 note.fault = refresh.fault;
                 return Ok(());
@@ -109,6 +122,19 @@ fn copied_allocations(
 }
 
 impl SourceNote {
+    /// What is told of a source that was not asked yet.
+    pub fn unasked(alloc: Global, job: Text, number: u32) -> SourceNote {
+        SourceNote {
+            job,
+            number,
+            refreshes: 0,
+            failures: 0,
+            succeeded: 0,
+            at: Text::from_string(String::new(alloc)),
+            fault: Text::from_string(String::new(alloc)),
+        }
+    }
+
     fn copy(&self) -> Result<SourceNote, AllocError> {
         let job = self.job.copy()?;
         let at = self.at.copy()?;
@@ -118,6 +144,7 @@ impl SourceNote {
             number: self.number,
             refreshes: self.refreshes,
             failures: self.failures,
+            succeeded: self.succeeded,
             at,
             fault,
         })

@@ -1,6 +1,27 @@
 //! The open round, as requests are told of it.
 use std::time::{Clock, Duration, Instant};
 
+/// When a round was opened, said by a later moment: how long it was open then. A monotonic clock that began later tells that too.
+#[derive(Clone, Copy, Debug)]
+pub struct RoundStart {
+    at: Instant,
+    /// For how long it was open by then.
+    age: Duration,
+}
+
+impl RoundStart {
+    /// That of a round that is open for so long at a moment.
+    pub fn open_for(at: Instant, age: Duration) -> RoundStart {
+        RoundStart { at, age }
+    }
+
+    /// For how long it is open.
+    pub fn age(self, now: Instant) -> Duration {
+        now.saturating_duration_since(self.at)
+            .saturating_add(self.age)
+    }
+}
+
 /// How long the open round is open, and how long it is to be, in milliseconds.
 #[derive(Clone, Copy, Debug, PartialEq, Eq)]
 pub struct RoundTimes {
@@ -12,7 +33,7 @@ pub struct RoundTimes {
 #[derive(Debug, Drop)]
 pub(crate) struct OpenRound {
     /// When it was opened, where that is known.
-    opened: Option<Instant>,
+    start: Option<RoundStart>,
     length: Duration,
 }
 
@@ -20,14 +41,14 @@ impl OpenRound {
     /// One of which nothing is known.
     pub(crate) fn unknown() -> OpenRound {
         OpenRound {
-            opened: None,
+            start: None,
             length: Duration::ZERO,
         }
     }
 
-    pub(crate) fn of(opened: Instant, length: Duration) -> OpenRound {
+    pub(crate) fn of(start: RoundStart, length: Duration) -> OpenRound {
         OpenRound {
-            opened: Some(opened),
+            start: Some(start),
             length,
         }
     }
@@ -41,8 +62,8 @@ impl OpenRound {
 
     /// How long it is open. Nothing where no clock tells.
     fn age(&self, rt: &impl Clock) -> Duration {
-        match (self.opened, Instant::now(rt)) {
-            (Some(opened), Ok(now)) => now.saturating_duration_since(opened),
+        match (self.start, Instant::now(rt)) {
+            (Some(start), Ok(now)) => start.age(now),
             _ => Duration::ZERO,
         }
     }

@@ -1,17 +1,18 @@
 //! What a service says of itself beside its desk.
 use crate::changes::{ChangeNote, Changes};
 use crate::counts::{EventKind, Route};
+use crate::followed::{Followed, FollowedList};
 use crate::names::Names;
 use crate::notes::{AllocationNote, Notes, SourceNote};
-use crate::open_round::{OpenRound, RoundTimes};
+use crate::open_round::{OpenRound, RoundStart, RoundTimes};
 use crate::reloading::Reloading;
 use crate::takers::Takers;
-use fleet_events::{Answer, CollectorId};
+use fleet_events::{Answer, CollectorId, TargetId};
 use lists::Text;
 use std::alloc::{AllocError, Global};
 use std::sync::atomic::{AtomicBool, AtomicU64, Ordering};
 use std::sync::{Arc, Mutex, Wait};
-use std::time::{Clock, Duration, Instant};
+use std::time::{Clock, Duration};
 
 /// What a service says of itself beside its desk. The threads of the service write it, and requests read it.
 #[derive(Drop)]
@@ -54,6 +55,8 @@ pub struct ServiceState {
     names: Mutex<Names>,
     /// The live collectors that asked for a list.
     takers: Mutex<Takers>,
+    /// The lists that are waited for until they are followed.
+    followed: Mutex<Followed>,
     round: Mutex<OpenRound>,
     /// Since when the target is handed over that is so for longest, in seconds since 1970. 0 where none is.
     handing_over_since: AtomicU64,
@@ -86,6 +89,7 @@ impl ServiceState {
             changes: Mutex::new(Changes::new(alloc)),
             names: Mutex::new(Names::new(alloc)),
             takers: Mutex::new(Takers::new(alloc)),
+            followed: Mutex::new(Followed::new(alloc)),
             round: Mutex::new(OpenRound::unknown()),
             handing_over_since: AtomicU64::new(0),
         }
@@ -238,6 +242,15 @@ impl ServiceState {
         let _ = self.names.lock(rt).note_live(name, id);
     }
 
+    /// The live collector of this number asks for a list under this name. What finds no memory is not noted.
+    pub fn note_asked<R: Wait + Clock>(&self, rt: &R, name: &str, id: CollectorId) {
+        let at = match rt.since_1970() {
+            Ok(now) => now.as_secs(),
+            Err(_) => 0,
+        };
+        let _ = self.names.lock(rt).note_asked(name, id, at);
+    }
+
     /// Somebody asks under a name that no live collector has. Gives the number that the last one had it under, where one had it.
     pub fn number_of(&self, rt: &impl Wait, name: &str) -> Option<CollectorId> {
         let mut names = self.names.lock(rt);
@@ -274,9 +287,31 @@ impl ServiceState {
         self.takers.lock(rt).take()
     }
 
-    /// A round was opened then, and is to be open for so long.
-    pub fn note_round(&self, rt: &impl Wait, opened: Instant, length: Duration) {
-        *self.round.lock(rt) = OpenRound::of(opened, length);
+    /// A collector tells that it follows this list.
+    pub fn note_followed(&self, rt: &impl Wait, list: FollowedList) {
+        self.followed.lock(rt).note(list);
+    }
+
+    /// Whether a collector told that it follows a list of the job without these targets, which are in order of number. Where it did not, or
+    /// there is no memory to know, it is given this one without them.
+    pub fn is_followed_without(
+        &self,
+        rt: &impl Wait,
+        list: FollowedList,
+        targets: &[TargetId],
+    ) -> bool {
+        let mut followed = self.followed.lock(rt);
+        followed.is_without(list, targets).unwrap_or(false)
+    }
+
+    /// A collector is given what it holds: no list of it of the job is waited for.
+    pub fn forget_followed(&self, rt: &impl Wait, list: FollowedList) {
+        self.followed.lock(rt).forget(list);
+    }
+
+    /// The round that was opened then is open, and is to be so for so long.
+    pub fn note_round(&self, rt: &impl Wait, start: RoundStart, length: Duration) {
+        *self.round.lock(rt) = OpenRound::of(start, length);
     }
 
     /// How long the open round is open, and how long it is to be.
@@ -371,6 +406,7 @@ impl ServiceState {
 
     /// What it notes, as it is now.
     pub fn notes(&self, rt: &impl Wait, alloc: Global) -> Result<Notes, AllocError> {
-        self.notes.lock(rt).copy(alloc)
+        let asked = self.names.lock(rt).asked(alloc)?;
+        self.notes.lock(rt).copy_with(alloc, asked)
     }
 }

@@ -10,6 +10,7 @@ use lists::{List, Plain};
 use relabel::{Found, Rules};
 use sd_documents::Job;
 use service_settings::Handover;
+use service_state::SourceNote;
 use std::alloc::{AllocError, Global};
 use std::sync::ledger::Ledger;
 use std::sync::{Arc, Wait};
@@ -24,6 +25,7 @@ impl<R: Wait + Clock + Eprint + Copy, L: Ledger, B: Ledger, N: DeskName> Shared<
         service: &Service,
         office: &mut Office<S, F, C>,
     ) -> Result<(), AllocError> {
+        self.note_round(&office.schedule);
         let was_ordered = self.state.is_ordered();
         let is_ordered = service.settings.handover == Handover::Ordered;
         self.state.set_ordered(is_ordered);
@@ -36,11 +38,24 @@ impl<R: Wait + Clock + Eprint + Copy, L: Ledger, B: Ledger, N: DeskName> Shared<
         }
         if office.is_new {
             self.state.forget_sources(&self.rt);
+            self.note_sources(service)?;
             self.enter_static_groups(pass, service.jobs())?;
             let schedule = &mut office.schedule;
             self.follow_collectors(pass, &service.settings, &mut schedule.roster)?;
             schedule.jobs = Arc::try_clone(&service.job_texts)?;
             office.is_new = false;
+        }
+        Ok(())
+    }
+
+    /// Notes for those who look at the service which sources it has, none of them asked yet.
+    fn note_sources(&self, service: &Service) -> Result<(), AllocError> {
+        for source in &service.sources {
+            if let Some(job) = service.jobs().get(source.job) {
+                let job = job.name.copy()?;
+                let note = SourceNote::unasked(self.alloc, job, source.number);
+                self.state.note_refresh(&self.rt, note)?;
+            }
         }
         Ok(())
     }

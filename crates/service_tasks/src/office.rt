@@ -6,16 +6,17 @@ use crate::refreshing::Watch;
 use crate::scheduling::Schedule;
 use crate::service::{JobText, Service};
 use crate::source::Source;
+use crate::sources::Sources;
 use admission::Admission;
 use http_get::Scrape;
+use journal_files::round_age;
 use lists::List;
-use sd_documents::Job;
-use service_state::{ConfigPages, Kept, ServiceState};
+use service_state::{ConfigPages, Kept, RoundStart, ServiceState};
 use std::alloc::{AllocError, Global};
 use std::io;
 use std::net::TcpListener;
 use std::sync::{Arc, Wait};
-use std::time::{Clock, Instant};
+use std::time::{Clock, Duration, Instant};
 
 /// What a service keeps from one desk to the next: where it listens, its sources as they are watched, and what it says of itself.
 #[derive(Drop)]
@@ -41,7 +42,7 @@ impl<S: Scrape + Drop, F: Drop, C: Configuration + Drop> Office<S, F, C> {
         service: &Service,
         listener: TcpListener,
         journal: Journal<F>,
-        scrape: S,
+        devices: Vec<S>,
         configuration: C,
     ) -> io::Result<Office<S, F, C>> {
         match Parts::of(rt, alloc, service, &journal) {
@@ -51,10 +52,9 @@ impl<S: Scrape + Drop, F: Drop, C: Configuration + Drop> Office<S, F, C> {
                 pages: parts.pages,
                 doors: parts.doors,
                 state: parts.state,
-                schedule: Schedule::new(alloc, parts.now, parts.job_texts, configuration),
+                schedule: Schedule::new(alloc, parts.start, parts.job_texts, configuration),
                 watch: Watch {
-                    jobs: parts.jobs,
-                    scrape,
+                    devices,
                     sources: parts.sources,
                 },
                 journal,
@@ -106,9 +106,8 @@ impl<S: Scrape + Drop, F: Drop, C: Configuration + Drop> Office<S, F, C> {
         self.pages = Arc::try_clone(&service.pages)?;
         self.doors = Arc::try_clone(&service.doors)?;
         self.connections = service.connections;
-        self.watch.jobs = Arc::try_clone(&service.jobs)?;
         self.state.await_sources(sources.len() as u64);
-        self.watch.sources = sources;
+        self.watch.sources = Sources::new(Arc::try_clone(&service.jobs)?, sources);
         self.is_new = true;
         Ok(())
     }
@@ -120,10 +119,9 @@ struct Parts {
     pages: Arc<ConfigPages>,
     doors: Arc<Admission>,
     state: Arc<ServiceState>,
-    now: Instant,
+    start: RoundStart,
     job_texts: Arc<List<JobText>>,
-    jobs: Arc<List<Job>>,
-    sources: Vec<Source>,
+    sources: Sources,
 }
 
 impl Parts {
@@ -140,19 +138,36 @@ impl Parts {
             state.note_live(rt, name.as_str(), *id);
         }
         let state = Arc::new(alloc, state)?;
-        let now = Instant::now(rt)?;
+        let start = round_start(rt, service, journal.epoch)?;
         let job_texts = Arc::try_clone(&service.job_texts)?;
         let jobs = Arc::try_clone(&service.jobs)?;
-        let sources = sources_of(alloc, service)?;
+        let sources = Sources::new(jobs, sources_of(alloc, service)?);
         Ok(Parts {
             pages,
             doors,
             state,
-            now,
+            start,
             job_texts,
-            jobs,
             sources,
         })
+    }
+}
+
+/// When the open round began of a service that begins: a whole number of rounds behind the epoch.
+fn round_start<R: Clock>(rt: &R, service: &Service, epoch: u64) -> io::Result<RoundStart> {
+    let now = Instant::now(rt)?;
+    let age = match milliseconds_now(rt) {
+        Some(time) => round_age(epoch, time, service.settings.scrape_interval),
+        None => 0,
+    };
+    Ok(RoundStart::open_for(now, Duration::from_millis(age)))
+}
+
+/// The milliseconds since 1970, where a clock tells them.
+fn milliseconds_now<R: Clock>(rt: &R) -> Option<u64> {
+    match rt.since_1970() {
+        Ok(now) => u64::try_from(now.as_millis()).ok(),
+        Err(_) => None,
     }
 }
 
@@ -177,6 +192,20 @@ fn state_of<R: Clock>(
 }
 
 impl<S, F, C> Office<S, F, C> {
+    /// The epoch of a journal that begins now: the time in milliseconds since 1970 at which the open round was opened, so that a start finds
+    /// when it ends, or the next number where that is no later one.
+    pub(crate) fn next_epoch<R: Clock>(&self, rt: &R) -> u64 {
+        let next = self.journal.epoch.saturating_add(1);
+        match (milliseconds_now(rt), Instant::now(rt)) {
+            (Some(time), Ok(now)) => {
+                let age = self.schedule.start.age(now).as_millis();
+                let age = u64::try_from(age).unwrap_or(u64::MAX);
+                time.saturating_sub(age).max(next)
+            }
+            _ => next,
+        }
+    }
+
     /// Whether there is a journal's file, and another one is to begin.
     pub(crate) fn is_long(&self) -> bool {
         match &self.journal.file {

@@ -7,7 +7,7 @@ use allocation_core::{Answer, Core};
 use fleet_events::{CollectorId, TargetId};
 use lists::{Text, copies};
 use logfmt::timestamp;
-use service_state::{AllocationNote, EventKind};
+use service_state::AllocationNote;
 use std::alloc::AllocError;
 use std::sync::Wait;
 use std::sync::ledger::Ledger;
@@ -45,7 +45,7 @@ impl<R: Wait + Clock + Eprint + Copy, L: Ledger, B: Ledger, N: DeskName> Shared<
         milliseconds: u64,
     ) {
         self.state
-            .count_event(&self.rt, EventKind::Install, &Answer::Published(number));
+            .count_event(&self.rt, self.published_by(), &Answer::Published(number));
         let changes = self.desk.read(&self.rt, pass, |record| {
             changes_of(record.core(), schedule.held.as_slice())
         });

@@ -1,11 +1,12 @@
 //! The threads that refresh what discovery sources list.
 use crate::logging::log_warning;
 use crate::shared::Shared;
-use crate::source::Source;
+use crate::source::Listed;
+use crate::sources::{Errand, Sources};
 use alloc_desk::{DeskName, Pass};
 use fleet_events::{Answer, Event};
 use http_get::{RefreshError, Scrape, refresh};
-use lists::{List, Plain, Text};
+use lists::{Plain, Text};
 use log::warn;
 use logfmt::{Logfmt, Quoted, timestamp};
 use relabel::Rules;
@@ -14,92 +15,83 @@ use service_state::SourceNote;
 use std::alloc::AllocError;
 use std::sync::atomic::Ordering;
 use std::sync::ledger::Ledger;
-use std::sync::{Arc, Wait};
-use std::time::{Clock, Duration, Instant};
+use std::sync::{Mutex, Wait};
+use std::time::{Clock, Duration};
 
-/// How long a refresher waits at most before it looks at its sources again, in seconds.
-const LONGEST_WAIT: u64 = 3_600;
-
-/// The sources of a service, and the device that asks them.
+/// The sources of a service, and the devices that ask them, one for each that is asked at once.
 #[derive(Drop)]
 pub struct Watch<S> {
-    /// The jobs of the configuration.
-    pub(crate) jobs: Arc<List<Job>>,
-    pub(crate) scrape: S,
-    pub(crate) sources: Vec<Source>,
+    pub devices: Vec<S>,
+    pub sources: Sources,
 }
 
 impl<R: Wait + Clock + Eprint + Copy, L: Ledger, B: Ledger, N: DeskName> Shared<R, L, B, N> {
-    /// Refreshes each source when it is due, one after the other, until the desk is to be closed.
-    pub fn refresh_sources<S: Scrape>(&self, pass: &mut Pass<L, B, N>, watch: &mut Watch<S>) {
+    /// Refreshes sources that are due, one after the other, until the desk is to be closed. Others do so beside it, each with a device of its
+    /// own.
+    pub fn refresh_sources<S: Scrape>(
+        &self,
+        pass: &Mutex<Pass<L, B, N>>,
+        sources: &Sources,
+        device: &mut S,
+    ) {
+        let mut wait = Duration::ZERO;
         for _ in self.rt.forever() {
-            let wait = self.refresh_due(pass, watch);
             if self.control.is_ended_within(&self.rt, wait) {
                 return;
             }
+            wait = self.refresh_next(pass, sources, device);
         }
     }
 
-    /// Refreshes the sources that are due, and says how long it is until the next one is.
-    fn refresh_due<S: Scrape>(&self, pass: &mut Pass<L, B, N>, watch: &mut Watch<S>) -> Duration {
-        let mut wait = Duration::from_secs(LONGEST_WAIT);
-        for source in &mut watch.sources {
-            let jobs = watch.jobs.as_slice();
-            let left = self.refresh_when_due(pass, jobs, &mut watch.scrape, source);
-            wait = wait.min(left);
-        }
-        wait
-    }
-
-    /// Refreshes a source if it is due, and says how long it is until it is due again.
-    fn refresh_when_due<S: Scrape>(
+    /// Refreshes the source that is due for longest, if one is, and says how long it is until the next look.
+    fn refresh_next<S: Scrape>(
         &self,
-        pass: &mut Pass<L, B, N>,
-        jobs: &[Job],
-        scrape: &mut S,
-        source: &mut Source,
+        pass: &Mutex<Pass<L, B, N>>,
+        sources: &Sources,
+        device: &mut S,
     ) -> Duration {
-        let Ok(now) = Instant::now(&self.rt) else {
-            return Duration::from_secs(LONGEST_WAIT);
-        };
-        let left = source.due_in(now);
-        if !left.is_zero() || self.control.ending(&self.rt).is_some() {
-            return left;
+        match sources.take_due(&self.rt) {
+            Ok(mut errand) => {
+                self.refresh_taken(pass, sources, device, &mut errand);
+                sources.put_back(&self.rt, errand);
+                Duration::ZERO
+            }
+            Err(wait) => wait,
         }
-        let is_first = source.is_untried();
-        source.begin(now);
-        if let Some(job) = jobs.get(source.settings.job) {
-            self.refresh(pass, job, scrape, source);
-        }
-        if is_first {
-            self.state.count_tried();
-        }
-        self.due_in(source)
     }
 
-    /// How long it is until a source is due.
-    fn due_in(&self, source: &Source) -> Duration {
-        match Instant::now(&self.rt) {
-            Ok(now) => source.due_in(now),
-            Err(_) => Duration::from_secs(LONGEST_WAIT),
+    /// Refreshes a source that was taken out.
+    fn refresh_taken<S: Scrape>(
+        &self,
+        pass: &Mutex<Pass<L, B, N>>,
+        sources: &Sources,
+        device: &mut S,
+        errand: &mut Errand,
+    ) {
+        if let Some(job) = sources.job(errand.settings) {
+            self.refresh(pass, job, device, errand);
+        }
+        if errand.is_first {
+            self.state.count_tried();
         }
     }
 
     fn refresh<S: Scrape>(
         &self,
-        pass: &mut Pass<L, B, N>,
+        pass: &Mutex<Pass<L, B, N>>,
         job: &Job,
-        scrape: &mut S,
-        source: &mut Source,
+        device: &mut S,
+        errand: &mut Errand,
     ) {
         self.state.count_refresh();
-        let list = self.list_of(job, scrape, source);
-        self.note_refresh(job, source, &list);
+        let number = errand.settings.number;
+        let list = self.list_of(job, device, number);
+        self.note_refresh(job, number, &list);
         match list {
-            Ok(event) => self.submit_news(pass, job.name.as_str(), source, event),
+            Ok(event) => self.submit_news(pass, job.name.as_str(), &mut errand.listed, event),
             Err(error) => {
                 self.state.count_failed_refresh();
-                self.log_failure(job.name.as_str(), source.settings.number, &error);
+                self.log_failure(job.name.as_str(), number, &error);
             }
         }
     }
@@ -110,8 +102,8 @@ impl<R: Wait + Clock + Eprint + Copy, L: Ledger, B: Ledger, N: DeskName> Shared<
     }
 
     /// Notes for those who look at the service how a refresh ended.
-    fn note_refresh(&self, job: &Job, source: &Source, list: &Result<Event, RefreshError>) {
-        let Ok(note) = self.note_of(job, source, list) else {
+    fn note_refresh(&self, job: &Job, number: u32, list: &Result<Event, RefreshError>) {
+        let Ok(note) = self.note_of(job, number, list) else {
             return;
         };
         if self.state.note_refresh(&self.rt, note).is_err() {
@@ -122,7 +114,7 @@ impl<R: Wait + Clock + Eprint + Copy, L: Ledger, B: Ledger, N: DeskName> Shared<
     fn note_of(
         &self,
         job: &Job,
-        source: &Source,
+        number: u32,
         list: &Result<Event, RefreshError>,
     ) -> Result<SourceNote, AllocError> {
         let job = job.name.copy()?;
@@ -134,42 +126,63 @@ impl<R: Wait + Clock + Eprint + Copy, L: Ledger, B: Ledger, N: DeskName> Shared<
         let at = timestamp(&self.rt, self.alloc).ok_or(AllocError)?;
         Ok(SourceNote {
             job,
-            number: source.settings.number,
+            number,
             refreshes: 1,
             failures: u64::from(list.is_err()),
+            succeeded: if list.is_ok() { self.seconds_now() } else { 0 },
             at: Text::from_string(at),
             fault,
         })
+    }
+
+    /// The seconds since 1970. 0 where no clock tells them.
+    fn seconds_now(&self) -> u64 {
+        match self.rt.since_1970() {
+            Ok(now) => now.as_secs(),
+            Err(_) => 0,
+        }
     }
 
     /// What a source lists now. The job's rules are compiled for each refresh, so that no threads share them.
     fn list_of<S: Scrape>(
         &self,
         job: &Job,
-        scrape: &mut S,
-        source: &Source,
+        device: &mut S,
+        number: u32,
     ) -> Result<Event, RefreshError> {
         match Rules::read(self.alloc, job.rules.as_slice()) {
-            Ok(rules) => refresh(self.alloc, job, &rules, source.settings.number, scrape),
+            Ok(rules) => refresh(self.alloc, job, &rules, number, device),
             Err(_) => Err(RefreshError::Memory),
         }
     }
 
     /// Submits a list that is another one than the last.
-    fn submit_news(&self, pass: &mut Pass<L, B, N>, job: &str, source: &mut Source, event: Event) {
+    fn submit_news(
+        &self,
+        pass: &Mutex<Pass<L, B, N>>,
+        job: &str,
+        listed: &mut Listed,
+        event: Event,
+    ) {
         let Ok(text) = event.to_json(self.alloc) else {
             log_warning(&self.rt, "no memory for a list of targets");
             return;
         };
-        if !source.is_news(text.as_str()) {
+        if !listed.is_news(text.as_str()) {
             return;
         }
         self.listed.fetch_add(targets_in(&event), Ordering::SeqCst);
-        if let Some(answer) = self.enter(pass, event) {
+        if let Some(answer) = self.enter_by(pass, event) {
             self.log_answer(job, &answer);
             let is_refused = matches!(answer, Answer::Not(_));
-            source.submitted(text, is_refused);
+            listed.submitted(text, is_refused);
         }
+    }
+
+    /// What an event is answered that is entered by a pass which several share.
+    fn enter_by(&self, pass: &Mutex<Pass<L, B, N>>, event: Event) -> Option<Answer> {
+        let mut pass = pass.lock(&self.rt);
+        self.enter(&mut *pass, event)
     }
 }
 

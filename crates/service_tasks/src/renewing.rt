@@ -10,7 +10,7 @@ use crate::office::{Office, sources_of};
 use crate::service::Service;
 use crate::source::Source;
 use allocation_core::{Core, JobSpec, NotRenewed};
-use durable_journal::{Archive, FirstLine, are_jobs_of, next_epoch, with_epoch};
+use durable_journal::{Archive, FirstLine, are_jobs_of, with_epoch};
 use http_get::Scrape;
 use journal_files::with_names;
 use lists::copies;
@@ -40,12 +40,14 @@ where
         office.stay(rt);
         return Ok(core);
     }
+    let epoch = office.next_epoch(rt);
     if !office.schedule.is_read {
-        return renewed(rt, alloc, service, archive, &mut office.journal, core);
+        let journal = &mut office.journal;
+        return renewed(rt, alloc, service, archive, journal, epoch, core);
     }
     office.schedule.is_read = false;
     match office.schedule.configuration.service() {
-        Some(next) => reloaded(rt, alloc, service, office, archive, next, core),
+        Some(next) => reloaded(rt, alloc, service, office, archive, next, epoch, core),
         None => {
             office.refuse(rt);
             Ok(core)
@@ -63,6 +65,7 @@ fn reloaded<R: Clock + Eprint + Copy, S, F, A, C>(
     office: &mut Office<S, F, C>,
     archive: &mut A,
     next: Service,
+    epoch: u64,
     core: Core,
 ) -> io::Result<Core>
 where
@@ -76,7 +79,8 @@ where
         office.refuse(rt);
         return Ok(core);
     };
-    let (core, is_under) = under(rt, alloc, &next, archive, &mut office.journal, jobs, core)?;
+    let journal = &mut office.journal;
+    let (core, is_under) = under(rt, alloc, &next, archive, journal, jobs, epoch, core)?;
     if is_under {
         office.follow(&next, sources)?;
         *service = next;
@@ -113,6 +117,7 @@ fn under<R: Clock + Eprint + Copy, F: Drop, A: Archive<F>>(
     archive: &mut A,
     journal: &mut Journal<F>,
     jobs: Vec<JobSpec>,
+    epoch: u64,
     core: Core,
 ) -> io::Result<(Core, bool)>
     ensures { IfOk result (λ r. IsLater core r.0) }
@@ -120,7 +125,7 @@ fn under<R: Clock + Eprint + Copy, F: Drop, A: Archive<F>>(
     if are_jobs_of(core.fleet().jobs(), service.jobs()) {
         return Ok((core, true));
     }
-    renewed_under(rt, alloc, service, archive, journal, jobs, core)
+    renewed_under(rt, alloc, service, archive, journal, jobs, epoch, core)
 }
 
 /// The allocator renewed under its own jobs.
@@ -131,6 +136,7 @@ fn renewed<R: Clock + Eprint + Copy, F: Drop, A: Archive<F>>(
     service: &Service,
     archive: &mut A,
     journal: &mut Journal<F>,
+    epoch: u64,
     core: Core,
 ) -> io::Result<Core>
     ensures { IfOk result (IsLater core) }
@@ -139,12 +145,12 @@ fn renewed<R: Clock + Eprint + Copy, F: Drop, A: Archive<F>>(
         log_warning(rt, "no memory to renew the allocator");
         return Ok(core);
     };
-    let (core, _) = renewed_under(rt, alloc, service, archive, journal, jobs, core)?;
+    let (core, _) = renewed_under(rt, alloc, service, archive, journal, jobs, epoch, core)?;
     Ok(core)
 }
 
-/// The allocator renewed under some jobs, with its journal begun anew where there is one, and whether it is. Where it is not renewed it
-/// is as it was.
+/// The allocator renewed under some jobs, with its journal begun anew, in this epoch, where there is one, and whether it is. Where it is not
+/// renewed it is as it was.
 #[tactic(auto, using(crate::proofs::Laters::renewed_is_later, crate::proofs::Laters::later_refl))]
 fn renewed_under<R: Clock + Eprint + Copy, F: Drop, A: Archive<F>>(
     rt: &R,
@@ -153,13 +159,14 @@ fn renewed_under<R: Clock + Eprint + Copy, F: Drop, A: Archive<F>>(
     archive: &mut A,
     journal: &mut Journal<F>,
     jobs: Vec<JobSpec>,
+    epoch: u64,
     core: Core,
 ) -> io::Result<(Core, bool)>
     ensures { IfOk result (λ r. IsLater core r.0) }
 {
     match core.renew(jobs) {
         Ok(renewed) => {
-            journal.epoch = next_epoch(rt, journal.epoch);
+            journal.epoch = epoch;
             begin_journal(rt, alloc, service, archive, journal, &renewed)?;
             log_info(rt, "the allocator is renewed");
             Ok((renewed, true))

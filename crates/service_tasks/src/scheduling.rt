@@ -5,15 +5,17 @@ use crate::control::Ending;
 use crate::failed_accepts::FailedAccepts;
 use crate::handovers::Handovers;
 use crate::logging::{log_error, log_info, log_warning};
+use crate::reallocating::NotReallocated;
 use crate::roster::Roster;
 use crate::service::JobText;
 use crate::shared::Shared;
-use alloc_desk::{DeskName, MOST_ENTRIES, Pass, ReallocateError, Reallocated};
+use alloc_desk::{DeskName, MOST_ENTRIES, Pass, Reallocated};
 use fleet::MOST_KNOWN_TARGETS;
-use fleet_events::{Answer, CollectorId, Event, Round, TargetId};
+use fleet_events::{Answer, CollectorId, Event, TargetId};
 use lists::List;
 use log::info;
 use logfmt::Logfmt;
+use service_state::RoundStart;
 use std::alloc::Global;
 use std::sync::atomic::Ordering;
 use std::sync::ledger::Ledger;
@@ -32,18 +34,15 @@ const SPARE_TARGETS: usize = 16_384;
 /// How many targets the events of a journal may list before the desk is closed, since the journal keeps them all.
 const MOST_LISTED: u64 = 1_048_576;
 
-/// How often a plan is searched again at once where other events came between.
-const TRIES: u32 = 4;
-
 /// When the thread did what.
 #[derive(Drop)]
 pub struct Schedule<C> {
-    /// When the open round was opened.
-    opened: Instant,
-    /// The round that was open at the last look.
-    round: Round,
-    /// Since when something is changed.
+    /// When the open round was opened. A renewal opens another one, and leaves this as it is.
+    pub(crate) start: RoundStart,
+    /// Since when something is changed, or loads may be made more even.
     changed: Option<Instant>,
+    /// Whether the last allocation made loads even with a bound on the moves, so that the next one may go on with it.
+    is_evening: bool,
     pub(crate) attendance: Attendance,
     pub(crate) handovers: Handovers,
     pub(crate) configuration: C,
@@ -62,17 +61,17 @@ pub struct Schedule<C> {
 }
 
 impl<C> Schedule<C> {
-    /// Of a service with these jobs that begins now.
+    /// Of a service with these jobs that begins, whose open round was opened then.
     pub(crate) fn new(
         alloc: Global,
-        now: Instant,
+        start: RoundStart,
         jobs: Arc<List<JobText>>,
         configuration: C,
     ) -> Schedule<C> {
         Schedule {
-            opened: now,
-            round: 0,
+            start,
             changed: None,
+            is_evening: false,
             attendance: Attendance::new(alloc),
             handovers: Handovers::new(alloc),
             configuration,
@@ -146,39 +145,33 @@ impl<R: Wait + Clock + Eprint + Copy, L: Ledger, B: Ledger, N: DeskName> Shared<
         schedule: &mut Schedule<C>,
         now: Instant,
     ) {
-        self.note_round(pass, schedule, now);
-        let open = now.saturating_duration_since(schedule.opened);
+        let open = schedule.start.age(now);
         if open < self.round {
             return;
         }
         let Some(answer) = self.enter(pass, Event::NextRound) else {
             return;
         };
-        // Where rounds were missed the next one begins now.
-        schedule.opened = match schedule.opened.checked_add(self.round) {
-            Some(next) if open < self.round.saturating_mul(2) => next,
-            _ => now,
-        };
-        schedule.round = self.round_now(pass);
-        self.state.note_round(&self.rt, schedule.opened, self.round);
+        schedule.start = RoundStart::open_for(now, self.age_of_next(open));
+        self.note_round(schedule);
         if matches!(answer, Answer::Not(_)) {
             self.log_answer("the next round", &answer);
         }
     }
 
-    /// Where another round is open than at the last look, which a start or a renewal has opened, it begins now.
-    fn note_round<C>(&self, pass: &mut Pass<L, B, N>, schedule: &mut Schedule<C>, now: Instant) {
-        let round = self.round_now(pass);
-        if round != schedule.round {
-            schedule.round = round;
-            schedule.opened = now;
-            self.state.note_round(&self.rt, now, self.round);
+    /// For how long the round is open that follows one which is open for so long. Where rounds were missed it begins now.
+    fn age_of_next(&self, open: Duration) -> Duration {
+        let late = open.saturating_sub(self.round);
+        if late < self.round {
+            late
+        } else {
+            Duration::ZERO
         }
     }
 
-    fn round_now(&self, pass: &mut Pass<L, B, N>) -> Round {
-        self.desk
-            .read(&self.rt, pass, |record| record.core().round())
+    /// Tells those who ask when the open round was opened.
+    pub(crate) fn note_round<C>(&self, schedule: &Schedule<C>) {
+        self.state.note_round(&self.rt, schedule.start, self.round);
     }
 
     fn reallocate_when_settled<C>(
@@ -188,9 +181,11 @@ impl<R: Wait + Clock + Eprint + Copy, L: Ledger, B: Ledger, N: DeskName> Shared<
         now: Instant,
     ) {
         if !self.desk.is_changed(&self.rt, pass) {
-            schedule.changed = None;
             self.state.settle();
-            return;
+            if !schedule.is_evening {
+                schedule.changed = None;
+                return;
+            }
         }
         let since = schedule.changed.unwrap_or(now);
         schedule.changed = Some(since);
@@ -203,26 +198,27 @@ impl<R: Wait + Clock + Eprint + Copy, L: Ledger, B: Ledger, N: DeskName> Shared<
     fn reallocate<C>(&self, pass: &mut Pass<L, B, N>, schedule: &mut Schedule<C>) {
         self.state.count_reallocation();
         let begun = Instant::now(&self.rt);
-        let found = self.desk.reallocate(&self.rt, self.alloc, pass, TRIES);
+        let found = self.search(pass);
         let milliseconds = self.milliseconds_since(begun.ok());
         self.state.count_search(&self.rt, milliseconds);
         match found {
             Ok(Reallocated::Published(number)) => {
+                schedule.is_evening = self.bounds_moves();
                 self.log_published(number);
                 self.note_published(pass, schedule, number, milliseconds);
             }
-            Ok(Reallocated::Unchanged(_)) => {}
-            Err(ReallocateError::Overtaken(_)) => {
+            Ok(Reallocated::Unchanged(_)) => schedule.is_evening = false,
+            Err(NotReallocated::Overtaken) => {
                 log_info(
                     &self.rt,
                     "reallocation overtaken by other changes, tried again",
                 );
             }
-            Err(ReallocateError::JournalFull) => self.control.end(&self.rt, Ending::Full),
-            Err(ReallocateError::NumbersSpent) => {
+            Err(NotReallocated::JournalFull) => self.control.end(&self.rt, Ending::Full),
+            Err(NotReallocated::NumbersSpent) => {
                 log_error(&self.rt, "the last number of an allocation is given");
             }
-            Err(ReallocateError::Memory) => {
+            Err(NotReallocated::Memory) => {
                 log_warning(&self.rt, "no memory for a reallocation");
             }
         }

@@ -147,6 +147,11 @@ impl Service {
         Duration::from_millis(self.settings.fetch_timeout)
     }
 
+    /// How long a round is, in milliseconds. Above 0.
+    pub fn scrape_interval(&self) -> u64 {
+        self.settings.scrape_interval
+    }
+
     /// How many old journals are kept.
     pub fn keep(&self) -> u32 {
         self.settings.keep
@@ -171,9 +176,17 @@ fn parts_of(
     check_rules(alloc, config.jobs.as_slice())?;
     let sources = sources_of(alloc, settings)?;
     let scrape_configs = collectors_text(alloc, line)?;
-    let pages = ConfigPages::of(alloc, config, scrape_configs)?;
+    let mut pages = ConfigPages::of(alloc, config, scrape_configs)?;
+    pages.acknowledge = copy_of(&settings.acknowledge)?;
     let pages = shared(alloc, pages)?;
     Ok((pages, sources))
+}
+
+fn copy_of(text: &Option<Text>) -> Result<Option<Text>, AllocError> {
+    match text {
+        Some(text) => Ok(Some(text.copy()?)),
+        None => Ok(None),
+    }
 }
 
 /// The text of the scrape configs of a document as its collectors are to use them.

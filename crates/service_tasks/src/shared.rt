@@ -4,6 +4,7 @@ use crate::office::Office;
 use crate::patience::Patience;
 use crate::service::Service;
 use alloc_desk::{Desk, DeskName};
+use service_settings::Spread;
 use service_state::{Kept, ServiceState};
 use std::alloc::{AllocError, Global};
 use std::sync::atomic::{AtomicBool, AtomicU64};
@@ -21,6 +22,8 @@ pub struct Shared<R, L: Ledger, B: Ledger, N: DeskName> {
     pub(crate) round: Duration,
     /// How long changes are gathered before a reallocation.
     pub(crate) settle: Duration,
+    /// How even the collectors' loads are made, if they are.
+    pub(crate) spread: Option<Spread>,
     /// How long a collector may ask for nothing.
     pub(crate) patience: Patience,
     /// Whether a collector of the configuration that is not live joins where its list is asked for.
@@ -55,6 +58,7 @@ impl<R: Wait + Copy, L: Ledger, B: Ledger, N: DeskName> Shared<R, L, B, N> {
             desk,
             round: Duration::from_millis(settings.scrape_interval),
             settle: Duration::from_millis(settings.settle),
+            spread: settings.spread,
             patience: Patience::of(settings),
             rejoin: settings.rejoin,
             give_up: Duration::from_millis(settings.give_up),

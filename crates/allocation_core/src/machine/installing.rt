@@ -1,16 +1,19 @@
 //! The instance of a moment, and the plans that are installed.
-ghost use Rattle.std.specs.Prelude.{◌≡◌, IfOk, OnOk, OnErr};
+ghost use Rattle.std.specs.Prelude.{◌≡◌, ◌+◌, IfOk, OnOk, OnErr, if◌then◌else◌, is_some};
 ghost use Rattle.price_certificate.specs.Faults.{fault_of};
-ghost use Rattle.allocation_core.specs.State.{instance_at};
-ghost use Rattle.allocation_core.specs.Steps.{answer_of, same_pairs, state_after};
-ghost use Rattle.allocation_core.specs.Installed.{IsCertifiedNow, IsInstalled};
+ghost use Rattle.fleet.specs.Fleet.{live_of};
+ghost use Rattle.allocation_core.specs.State.{allocation_at, current_of, instance_at};
+ghost use Rattle.allocation_core.specs.Steps.{answer_by, answer_of, number_refusal, same_pairs, state_after, with_plan};
+ghost use Rattle.allocation_core.specs.Installed.{IsCertifiedNow, IsCertifiedWithin, IsInstalled};
 ghost use Rattle.fleet_events.specs.declared.event.Event.TheVariants.{Install};
+ghost use Rattle.fleet_events.specs.declared.answer.Answer.TheVariants.{Published};
 
 use super::Core;
 use fleet_assignment::{build_allocation, build_instance, instances_are_problems};
-use fleet_events::{Answer, Refusal};
+use fleet_events::{Answer, Event, Refusal};
 use handover::HoldersError;
 use price_certificate::{Fault, Instance, Plan, Verdict, check, no_fault_is_certified};
+use spread_certificate::{Spread, check_spread, no_best_fault_is_certified};
 use std::alloc::{AllocError, Global};
 
 impl Core {
@@ -43,12 +46,46 @@ impl Core {
         if let Some(fault) = fault_in(self.alloc, &instance, &plan)? {
             return Ok(Answer::Not(Refusal::Refused(fault)));
         }
-        let pairs = build_allocation(
-            self.alloc,
-            &self.fleet,
-            live.as_slice(),
-            plan.pairs.as_slice(),
-        )?;
+        let answer = self.publish(live.as_slice(), instance, plan)?;
+        Ok(answer)
+    }
+
+    /// A plan within caps is published, where the judge finds no fault of it at the instance of this moment.
+    #[tactic(auto, using(crate::proofs::InstalledLemmas::caps_of_fine), unfolding(crate::specs::Steps::answer_of, crate::specs::Steps::state_after))]
+    pub(super) fn spread(&mut self, spread: Spread) -> Result<Answer, AllocError>
+        ensures answer { IfOk result (λ a. a ≡ answer_of self.old (Event.Spread spread)) }
+        ensures state { OnOk result (self.new ≡ state_after self.old (Event.Spread spread)) }
+        ensures err { OnErr result (self.new ≡ self.old) }
+        ensures certified { IsCertifiedWithin self.old spread → IfOk result (IsInstalled self.old) }
+    {
+        no_best_fault_is_certified();
+        instances_are_problems();
+        let live = self.fleet.live()?;
+        let before = self.holders.current_pairs();
+        let instance = build_instance(self.alloc, &self.fleet, live.as_slice(), before)?;
+        if let Some(fault) = check_spread(self.alloc, &instance, &spread)? {
+            return Ok(Answer::Not(Refusal::RefusedSpread(fault)));
+        }
+        let capped = instance.capped(self.alloc, spread.caps.as_slice())?;
+        let answer = self.publish(live.as_slice(), capped, spread.plan)?;
+        Ok(answer)
+    }
+
+    /// The allocation of a plan is published, with the instance that its prices certify it for, unless it is the current one. The live
+    /// targets are given.
+    fn publish(
+        &mut self,
+        live: &[usize],
+        instance: Instance,
+        plan: Plan,
+    ) -> Result<Answer, AllocError>
+        requires { live.now ≡ live_of self.old.fleet }
+        ensures answer { IfOk result (λ a. a ≡ answer_by (number_refusal self.old (allocation_at self.old plan.pairs)) (Published (current_of self.old + 1))) }
+        ensures state { OnOk result (self.new ≡ (if is_some (number_refusal self.old (allocation_at self.old plan.pairs)) then self.old else with_plan self.old instance plan)) }
+        ensures err { OnErr result (self.new ≡ self.old) }
+        ensures installed { IfOk result (IsInstalled self.old) }
+    {
+        let pairs = build_allocation(self.alloc, &self.fleet, live, plan.pairs.as_slice())?;
         if same_pairs(pairs.as_slice(), self.holders.current_pairs()) {
             return Ok(Answer::Not(Refusal::Unchanged(self.holders.current())));
         }

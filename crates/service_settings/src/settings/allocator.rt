@@ -9,12 +9,14 @@ use crate::error::{Member, SettingsError};
 use crate::reading::{
     address_or, connections_or, duration_or, flag_or, member_of, number_or, text_or_none, time_or,
 };
+use crate::settings::acknowledge::acknowledge_in;
 use crate::settings::collector_timeout::{CollectorTimeout, collector_timeout_in};
 use crate::settings::collectors::{Collector, collectors_in};
 use crate::settings::handover::{Handover, handover_in};
 use crate::settings::joining_pattern::{JoiningPattern, join_by_asking_in};
 use crate::settings::reach_changes::{ReachChanges, reach_changes_in};
 use crate::settings::release_after::{ReleaseAfter, release_after_in};
+use crate::settings::spread::{Spread, spread_in};
 use crate::settings::{
     DEFAULT_CONNECTIONS, DEFAULT_FETCH_TIMEOUT, DEFAULT_GIVE_UP, DEFAULT_KEEP, DEFAULT_LISTEN,
     DEFAULT_SETTLE,
@@ -45,7 +47,9 @@ pub(crate) struct Collecting {
     pub(crate) rejoin: bool,
     pub(crate) collector_timeout: CollectorTimeout,
     pub(crate) handover: Handover,
+    pub(crate) acknowledge: Option<Text>,
     pub(crate) release_after: ReleaseAfter,
+    pub(crate) spread: Option<Spread>,
     pub(crate) fetch_timeout: u64,
 }
 
@@ -94,7 +98,9 @@ pub(crate) fn collecting_in(
     let collector_timeout = member_of(allocator, "collector_timeout");
     let collector_timeout = collector_timeout_in(collector_timeout)?;
     let handover = handover_in(member_of(allocator, "handover"))?;
+    let acknowledge = acknowledge_in(alloc, member_of(allocator, "acknowledge"))?;
     let release_after = release_after_in(member_of(allocator, "release_after"))?;
+    let spread = spread_in(alloc, member_of(allocator, "spread"))?;
     let fetch_timeout = member_of(allocator, "fetch_timeout");
     let fetch_timeout = time_or(DEFAULT_FETCH_TIMEOUT, Member::FetchTimeout, fetch_timeout)?;
     Ok(Collecting {
@@ -105,7 +111,9 @@ pub(crate) fn collecting_in(
         rejoin,
         collector_timeout,
         handover,
+        acknowledge,
         release_after,
+        spread,
         fetch_timeout,
     })
 }

@@ -76,7 +76,7 @@ fn host_in(alloc: Global, index: usize, value: &Value) -> Result<Text, SettingsE
 }
 
 /// Whether the bytes may stand for a host: small letters, digits, dots and hyphens.
-fn is_host_name(name: &[u8]) -> bool
+pub(crate) fn is_host_name(name: &[u8]) -> bool
     ensures { result ≡ is_host_text name.now }
 {
     if name.is_empty() {

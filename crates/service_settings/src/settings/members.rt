@@ -16,6 +16,7 @@ pub(crate) enum Kind {
     Tokens,
     Collector,
     JoiningPattern,
+    Spread,
 }
 
 /// An object of this kind without a member that is not known, or nothing.
@@ -84,7 +85,9 @@ fn has_member(kind: Kind, name: &str) -> bool
             | "rejoin"
             | "collector_timeout"
             | "handover"
+            | "acknowledge"
             | "release_after"
+            | "spread"
             | "fetch_timeout" => true,
             _ => false,
         },
@@ -98,6 +101,10 @@ fn has_member(kind: Kind, name: &str) -> bool
         },
         Kind::JoiningPattern => match name {
             "pattern" | "reach" | "limits" => true,
+            _ => false,
+        },
+        Kind::Spread => match name {
+            "slack" | "most_moves" => true,
             _ => false,
         },
     }

@@ -1,6 +1,3 @@
-use Rattle.std.proofs.Common.{ℕ, ap, ◌∙◌}
-use Rattle.price_certificate.specs.Document.{marked_from}
-use Rattle.fleet_assignment.specs.Instance.{draining_for}
 use Rattle.fleet_assignment.proofs.Shapes.{parts_shaped, parts_make}
 use Rattle.fleet_assignment.proofs.instance.instance.Goals as goal
 

@@ -9,5 +9,6 @@ returns c =
       problems = c.instances_are_problems.ensures;
       carried = c.feasible_are_carried_over.ensures;
       best = c.optimal_is_best.ensures;
+      within = c.best_within_is_carried_over.ensures;
       once = c.allocations_are_once.ensures;
     })

@@ -1,0 +1,105 @@
+//! Reallocation that makes loads even: the search runs without the lock.
+ghost use Rattle.std.specs.Prelude.{◌≡◌, ◌+◌, ◌≤◌, Err, IfOk, OnOk, OnErr};
+ghost use Rattle.alloc_desk.specs.Reached.{IsFull, Reached};
+ghost use Rattle.alloc_desk.specs.Spreading.{CameToSpread, EndedSpread, IsFound};
+
+use crate::attempt::Reallocated;
+use crate::desk::Desk;
+use crate::name::DeskName;
+use crate::pass::Pass;
+use crate::record::EnterError;
+use crate::spread_attempt::{LostSpread, SpreadAttempt, SpreadError, spread_attempted};
+use allocation_core::{Event, answers_fit};
+use lists::Plain;
+use price_certificate::Instance;
+use spread_certificate::Spread;
+use spread_engine::spread_plan;
+use std::alloc::{AllocError, Global};
+use std::sync::Wait;
+use std::sync::ledger::Ledger;
+
+impl<L: Ledger, B: Ledger, N: DeskName> Desk<L, B, N> {
+    /// Finds caps that make loads even and cost no coverage, and the best plan within them, for the state at hand, and has them
+    /// published, again while they are refused since other events came between, and at most so many times. A collector may have so many
+    /// percent more targets than where the loads are the most even, and at most so many targets move for that. The lock is held for
+    /// the reading of the instance and for each Spread, with the check of it; not while one is searched. What was submitted stays in
+    /// the journal.
+    pub fn spread(
+        &self,
+        rt: &impl Wait,
+        alloc: Global,
+        pass: &mut Pass<L, B, N>,
+        tries: u32,
+        slack: u32,
+        most_moves: Option<u32>,
+    ) -> Result<Reallocated, SpreadError>
+        ensures least { pass.old.calls ≤ pass.new.calls }
+        ensures most { pass.new.calls ≤ pass.old.calls + tries }
+        ensures booked { pass.new.booked ≡ pass.old.booked }
+        ensures seat { pass.new.seat ≡ pass.old.seat }
+        ensures ended { EndedSpread N.opening pass.old pass.new tries most_moves result }
+    {
+        let mut lost: Option<LostSpread> = None;
+        for _turn in 0..tries {
+            match self.spread_once(rt, alloc, pass, slack, most_moves) {
+                Ok(SpreadAttempt::Published(number)) => return Ok(Reallocated::Published(number)),
+                Ok(SpreadAttempt::Unchanged(number)) => return Ok(Reallocated::Unchanged(number)),
+                Ok(SpreadAttempt::NumbersSpent) => return Err(SpreadError::NumbersSpent),
+                Ok(SpreadAttempt::Lost(last)) => lost = Some(last),
+                Err(EnterError::JournalFull) => return Err(SpreadError::JournalFull),
+                Err(EnterError::Memory) => return Err(SpreadError::Memory),
+            }
+        }
+        Err(SpreadError::Overtaken(lost))
+    }
+
+    /// One attempt: an instance, a spread for it without the lock, and its Spread.
+    fn spread_once(
+        &self,
+        rt: &impl Wait,
+        alloc: Global,
+        pass: &mut Pass<L, B, N>,
+        slack: u32,
+        most_moves: Option<u32>,
+    ) -> Result<SpreadAttempt, EnterError>
+        ensures came_to { IfOk result (λ a. CameToSpread N.opening pass.old most_moves a) }
+        ensures counts { OnOk result (pass.new ≡ record { seat = pass.old.seat; calls = pass.old.calls + 1; booked = pass.old.booked }) }
+        ensures full { result ≡ Err EnterError.JournalFull → Reached N.opening pass.old IsFull }
+        ensures err { OnErr result (pass.new ≡ pass.old) }
+    {
+        answers_fit();
+        let jobs = self.jobs(rt, pass);
+        let Ok(instance) = self.instance(rt, pass) else {
+            return Err(EnterError::Memory);
+        };
+        let Ok((spread, twin)) = spread_for(alloc, &instance, jobs, slack, most_moves) else {
+            return Err(EnterError::Memory);
+        };
+        let receipt = self.submit(rt, pass, Event::Spread(twin))?;
+        Ok(spread_attempted(&receipt.answer, instance, spread))
+    }
+
+    /// How many jobs there are: so many bins in a row are a collector's.
+    fn jobs(&self, rt: &impl Wait, pass: &mut Pass<L, B, N>) -> u32
+        ensures same { pass.new ≡ pass.old }
+    {
+        let jobs = self.read(rt, pass, |record| record.core().fleet().jobs().len());
+        u32::try_from(jobs).unwrap_or(u32::MAX)
+    }
+}
+
+/// A spread in which the judge finds no fault, twice.
+fn spread_for(
+    alloc: Global,
+    instance: &Instance,
+    jobs: u32,
+    slack: u32,
+    most_moves: Option<u32>,
+) -> Result<(Spread, Spread), AllocError>
+    ensures found { IfOk result (λ s. IsFound instance.now most_moves s.0) }
+    ensures copy { IfOk result (λ s. s.1 ≡ s.0) }
+{
+    let spread = spread_plan(alloc, instance, jobs, slack, most_moves)?;
+    let copy = spread.copy()?;
+    Ok((spread, copy))
+}
