@@ -411,6 +411,19 @@ def rounds_kept(folder):
     ends(service)
 
 
+# What a client says that it takes, and whether it is told YAML.
+ACCEPTS = [
+    ("application/yaml", True),
+    ("Application/YAML", True),
+    ("application/x-yaml;q=0.9", True),
+    ("text/html, text/yaml", True),
+    ("application/yaml, application/json", True),
+    ("application/json, application/yaml", False),
+    ("application/yamls", False),
+    ("*/*", False),
+]
+
+
 def yaml(folder):
     service = started(folder, [static("n", 2)])
     has(service, 'allocd_targets_covered{job="n"}', 2)
