@@ -13,11 +13,11 @@ use Rattle.alloc_desk.specs.Spreading.{Spreads, CameToSpread, spread_attempted_b
 
 pub came_to_spread :
     (opening : State) (counts : Counts) (most_moves : Option ℕ) (instance : Problem) (spread : SpreadPlan) (a : Answer)
-    → IsTrue (is_spread_answer a) → Spreads opening counts most_moves instance spread a → CameToSpread opening counts most_moves (spread_attempted_by a instance spread)
+    → IsTrue (is_spread_answer a) → Spreads opening counts most_moves instance spread a → CameToSpread opening counts most_moves (spread_attempted_by a)
 came_to_spread opening counts most_moves instance spread (Published number) h s = (instance, (spread, s))
 came_to_spread opening counts most_moves instance spread (Not (Unchanged number)) h s = (instance, (spread, s))
 came_to_spread opening counts most_moves instance spread (Not NumbersSpent) h s = (instance, (spread, s))
-came_to_spread opening counts most_moves instance spread (Not (RefusedSpread fault)) h s = s
+came_to_spread opening counts most_moves instance spread (Not (RefusedSpread fault)) h s = (instance, (spread, s))
 came_to_spread opening counts most_moves instance spread (Not (Refused fault)) h s = absurd (true≢false (sym h))
 came_to_spread opening counts most_moves instance spread (Not UnknownJob) h s = absurd (true≢false (sym h))
 came_to_spread opening counts most_moves instance spread (Not UnknownSource) h s = absurd (true≢false (sym h))

@@ -6,6 +6,7 @@ use Rattle.price_certificate.specs.Problem.{Problem}
 use Rattle.spread_certificate.specs.Judged.{spread_fault}
 use Rattle.spread_certificate.specs.Within.{AreCaps}
 use Rattle.spread_certificate.specs.declared.spread.Spread.{Spread as SpreadPlan}
+use Rattle.spread_certificate.specs.declared.verdict.SpreadFault.{SpreadFault}
 use Rattle.spread_engine.specs.Witness.{MovesFew}
 use Rattle.allocation_core.specs.State.{State, instance_at}
 use Rattle.fleet_events.specs.declared.event.Event.TheVariants.{Spread}
@@ -16,7 +17,6 @@ use Rattle.alloc_desk.specs.declared.attempt.Reallocated.{Reallocated}
 use Rattle.alloc_desk.specs.declared.attempt.Reallocated.TheVariants.{Published as HasPublished, Unchanged as HasLeft}
 use Rattle.alloc_desk.specs.declared.spread_attempt.SpreadAttempt.{SpreadAttempt}
 use Rattle.alloc_desk.specs.declared.spread_attempt.SpreadAttempt.TheVariants.{Published, Unchanged, NumbersSpent, Lost as IsLost}
-use Rattle.alloc_desk.specs.declared.spread_attempt.LostSpread.{LostSpread}
 use Rattle.alloc_desk.specs.declared.spread_attempt.SpreadError.{SpreadError}
 use Rattle.alloc_desk.specs.declared.spread_attempt.SpreadError.TheVariants.{JournalFull, Memory, Overtaken, NumbersSpent as NumbersRanOut}
 use Rattle.alloc_desk.specs.Counts.{Counts}
@@ -24,11 +24,11 @@ use Rattle.alloc_desk.specs.Reached.{Reached, IsFull}
 use Rattle.alloc_desk.specs.Reallocating.{EndsIn}
 
 -- what the answer to a Spread says of an attempt
-abbrev pub spread_attempted_by : Answer → Problem → SpreadPlan → SpreadAttempt
-spread_attempted_by (IsPublished number) instance spread = Published number
-spread_attempted_by (Not (IsUnchanged number)) instance spread = Unchanged number
-spread_attempted_by (Not (RefusedSpread fault)) instance spread = IsLost (record { fault = fault; instance = instance; spread = spread })
-spread_attempted_by _ instance spread = NumbersSpent
+abbrev pub spread_attempted_by : Answer → SpreadAttempt
+spread_attempted_by (IsPublished number) = Published number
+spread_attempted_by (Not (IsUnchanged number)) = Unchanged number
+spread_attempted_by (Not (RefusedSpread fault)) = IsLost fault
+spread_attempted_by _ = NumbersSpent
 
 -- A spread is certified for an instance: its plan within its caps, and the same pairs where nothing was before; the judge finds no
 -- fault in it, and where moves are bounded it moves at most so many more than any best plan.
@@ -49,25 +49,25 @@ pub record Spreads (opening : State) (counts : Counts) (most_moves : Option ℕ)
 abbrev pub InstalledSpread : State → Counts → Option ℕ → Answer → Type 0
 InstalledSpread opening counts most_moves answer = (instance : Problem) × ((spread : SpreadPlan) × Spreads opening counts most_moves instance spread answer)
 
--- this one was refused
-abbrev pub OvertookSpread : State → Counts → Option ℕ → LostSpread → Type 0
-OvertookSpread opening counts most_moves lost = Spreads opening counts most_moves lost.instance lost.spread (Not (RefusedSpread lost.fault))
+-- there is such a spread that was refused for this fault
+abbrev pub OvertookSpread : State → Counts → Option ℕ → SpreadFault → Type 0
+OvertookSpread opening counts most_moves fault = InstalledSpread opening counts most_moves (Not (RefusedSpread fault))
 
 -- what one attempt came to, by a pass that had these counts
 abbrev pub CameToSpread : State → Counts → Option ℕ → SpreadAttempt → Type 0
 CameToSpread opening counts most_moves (Published number) = InstalledSpread opening counts most_moves (IsPublished number)
 CameToSpread opening counts most_moves (Unchanged number) = InstalledSpread opening counts most_moves (Not (IsUnchanged number))
 CameToSpread opening counts most_moves NumbersSpent = InstalledSpread opening counts most_moves (Not AreSpent)
-CameToSpread opening counts most_moves (IsLost lost) = OvertookSpread opening counts most_moves lost
+CameToSpread opening counts most_moves (IsLost fault) = OvertookSpread opening counts most_moves fault
 
 -- it holds of the counts before the pass's last call
 abbrev pub OneBefore : Counts → (Counts → Type 0) → Type 0
 OneBefore counts Holds = (before : ℕ) × ((counts.calls ≡ before + 1) × Holds (record { seat = counts.seat; calls = before; booked = counts.booked }))
 
 -- what the last of so many lost attempts leaves
-abbrev pub LostSpreadIn : State → Counts → Option ℕ → ℕ → Option LostSpread → Type 0
+abbrev pub LostSpreadIn : State → Counts → Option ℕ → ℕ → Option SpreadFault → Type 0
 LostSpreadIn opening counts most_moves attempts None = attempts ≡ 0
-LostSpreadIn opening counts most_moves attempts (Some lost) = (0 < attempts) × OneBefore counts (λ before. OvertookSpread opening before most_moves lost)
+LostSpreadIn opening counts most_moves attempts (Some fault) = (0 < attempts) × OneBefore counts (λ before. OvertookSpread opening before most_moves fault)
 
 -- how such a reallocation ended, by the counts before and after it
 abbrev pub EndedSpread : State → Counts → Counts → ℕ → Option ℕ → Result Reallocated SpreadError → Type 0

@@ -35,5 +35,5 @@ pub use pass::Pass;
 pub use reallocation::reallocate;
 pub use receipt::Receipt;
 pub use record::{EnterError, Record};
-pub use spread_attempt::{LostSpread, SpreadError};
+pub use spread_attempt::SpreadError;
 pub use view::{CollectorView, NumberedTarget, Share, View};

@@ -5,11 +5,10 @@ ghost use Rattle.alloc_desk.specs.Spreading.{spread_attempted_by};
 
 use allocation_core::{Answer, Refusal};
 use fleet_events::AllocationNumber;
-use price_certificate::Instance;
-use spread_certificate::{Spread, SpreadFault};
+use spread_certificate::SpreadFault;
 
 /// Why a reallocation that makes loads even did not end.
-#[derive(Debug, Drop)]
+#[derive(Clone, Copy, Debug, PartialEq, Eq)]
 pub enum SpreadError {
     /// The journal has its most entries.
     JournalFull,
@@ -17,40 +16,29 @@ pub enum SpreadError {
     Memory,
     /// The last number of an allocation is given.
     NumbersSpent,
-    /// Each spread was refused, because other events came between its search and its Spread. None where nothing was tried.
-    Overtaken(Option<LostSpread>),
-}
-
-/// The last spread that was overtaken, the instance that it was found for, and why it was refused.
-#[derive(Debug, Drop)]
-pub struct LostSpread {
-    pub fault: SpreadFault,
-    pub instance: Instance,
-    pub spread: Spread,
+    /// Each spread was refused, because other events came between its search and its Spread; this is why the last one was. None
+    /// where nothing was tried.
+    Overtaken(Option<SpreadFault>),
 }
 
 /// What one attempt came to.
-#[derive(Debug, Drop)]
+#[derive(Clone, Copy)]
 pub(crate) enum SpreadAttempt {
     Published(AllocationNumber),
     Unchanged(AllocationNumber),
     NumbersSpent,
-    Lost(LostSpread),
+    Lost(SpreadFault),
 }
 
-/// What the answer to its Spread says of an attempt with this spread for this instance.
-pub(crate) fn spread_attempted(answer: &Answer, instance: Instance, spread: Spread) -> SpreadAttempt
+/// What the answer to its Spread says of an attempt.
+pub(crate) fn spread_attempted(answer: &Answer) -> SpreadAttempt
     requires { IsTrue (is_spread_answer answer.now) }
-    ensures { result ≡ spread_attempted_by answer.now instance spread }
+    ensures { result ≡ spread_attempted_by answer.now }
 {
     match answer {
         Answer::Published(number) => SpreadAttempt::Published(*number),
         Answer::Not(Refusal::Unchanged(number)) => SpreadAttempt::Unchanged(*number),
-        Answer::Not(Refusal::RefusedSpread(fault)) => SpreadAttempt::Lost(LostSpread {
-            fault: *fault,
-            instance,
-            spread,
-        }),
+        Answer::Not(Refusal::RefusedSpread(fault)) => SpreadAttempt::Lost(*fault),
         _ => SpreadAttempt::NumbersSpent,
     }
 }

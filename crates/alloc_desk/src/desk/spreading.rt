@@ -8,9 +8,8 @@ use crate::desk::Desk;
 use crate::name::DeskName;
 use crate::pass::Pass;
 use crate::record::EnterError;
-use crate::spread_attempt::{LostSpread, SpreadAttempt, SpreadError, spread_attempted};
+use crate::spread_attempt::{SpreadAttempt, SpreadError, spread_attempted};
 use allocation_core::{Event, answers_fit};
-use lists::Plain;
 use price_certificate::Instance;
 use spread_certificate::Spread;
 use spread_engine::spread_plan;
@@ -39,13 +38,13 @@ impl<L: Ledger, B: Ledger, N: DeskName> Desk<L, B, N> {
         ensures seat { pass.new.seat ≡ pass.old.seat }
         ensures ended { EndedSpread N.opening pass.old pass.new tries most_moves result }
     {
-        let mut lost: Option<LostSpread> = None;
+        let mut lost = None;
         for _turn in 0..tries {
             match self.spread_once(rt, alloc, pass, slack, most_moves) {
                 Ok(SpreadAttempt::Published(number)) => return Ok(Reallocated::Published(number)),
                 Ok(SpreadAttempt::Unchanged(number)) => return Ok(Reallocated::Unchanged(number)),
                 Ok(SpreadAttempt::NumbersSpent) => return Err(SpreadError::NumbersSpent),
-                Ok(SpreadAttempt::Lost(last)) => lost = Some(last),
+                Ok(SpreadAttempt::Lost(fault)) => lost = Some(fault),
                 Err(EnterError::JournalFull) => return Err(SpreadError::JournalFull),
                 Err(EnterError::Memory) => return Err(SpreadError::Memory),
             }
@@ -72,11 +71,11 @@ impl<L: Ledger, B: Ledger, N: DeskName> Desk<L, B, N> {
         let Ok(instance) = self.instance(rt, pass) else {
             return Err(EnterError::Memory);
         };
-        let Ok((spread, twin)) = spread_for(alloc, &instance, jobs, slack, most_moves) else {
+        let Ok(spread) = spread_for(alloc, &instance, jobs, slack, most_moves) else {
             return Err(EnterError::Memory);
         };
-        let receipt = self.submit(rt, pass, Event::Spread(twin))?;
-        Ok(spread_attempted(&receipt.answer, instance, spread))
+        let receipt = self.submit(rt, pass, Event::Spread(spread))?;
+        Ok(spread_attempted(&receipt.answer))
     }
 
     /// How many jobs there are: so many bins in a row are a collector's.
@@ -88,18 +87,16 @@ impl<L: Ledger, B: Ledger, N: DeskName> Desk<L, B, N> {
     }
 }
 
-/// A spread in which the judge finds no fault, twice.
+/// A spread in which the judge finds no fault.
 fn spread_for(
     alloc: Global,
     instance: &Instance,
     jobs: u32,
     slack: u32,
     most_moves: Option<u32>,
-) -> Result<(Spread, Spread), AllocError>
-    ensures found { IfOk result (λ s. IsFound instance.now most_moves s.0) }
-    ensures copy { IfOk result (λ s. s.1 ≡ s.0) }
+) -> Result<Spread, AllocError>
+    ensures { IfOk result (λ s. IsFound instance.now most_moves s) }
 {
     let spread = spread_plan(alloc, instance, jobs, slack, most_moves)?;
-    let copy = spread.copy()?;
-    Ok((spread, copy))
+    Ok(spread)
 }
