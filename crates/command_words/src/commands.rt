@@ -13,7 +13,7 @@ pub(crate) const VERSION: &str = "0.1.0";
 const PROGRAM: &str = "Allocates the scrape targets of Prometheus to its collectors";
 
 const PROGRAM_ENDS: &str = "\
-All commands but audit, seal and serve read standard input; docs/FORMATS.md tells what they read and write.
+All commands but audit, seal and serve read standard input; docs/understand/FORMATS.md tells what they read and write.
 
 Exit status of all commands:
   0  it is done, or what was to be judged is right

@@ -85,13 +85,18 @@ fn even_spread_value(alloc: Global, spread: &Spread, even: &Even) -> Result<Valu
     ensures form { IfOk result (λ v. view v ≡ told_spread_data spread.now (Some even.now)) }
     ensures reads_back { IfOk result (λ v. event_in (view v) ≡ Some (Event.Spread (told_spread spread.now (Some even.now)))) }
 {
-    let bin_prices = spread.plan.bin_prices.write(alloc)?;
-    let caps = spread.caps.write(alloc)?;
     let even = even.write(alloc)?;
-    let free_bin_prices = spread.free_bin_prices.write(alloc)?;
-    let free_item_prices = spread.free_item_prices.write(alloc)?;
-    let item_prices = spread.plan.item_prices.write(alloc)?;
-    let pairs = spread.plan.pairs.write(alloc)?;
+    let (caps, pairs) = written(alloc, &spread.caps, &spread.plan.pairs)?;
+    let (bin_prices, item_prices) = written(
+        alloc,
+        &spread.plan.bin_prices,
+        &spread.plan.item_prices,
+    )?;
+    let (free_bin_prices, free_item_prices) = written(
+        alloc,
+        &spread.free_bin_prices,
+        &spread.free_item_prices,
+    )?;
     json!(in alloc; {
         "bin_prices": bin_prices,
         "caps": caps,
@@ -110,12 +115,17 @@ fn plain_spread_value(alloc: Global, spread: &Spread) -> Result<Value, AllocErro
     ensures form { IfOk result (λ v. view v ≡ told_spread_data spread.now None) }
     ensures reads_back { IfOk result (λ v. event_in (view v) ≡ Some (Event.Spread (told_spread spread.now None))) }
 {
-    let bin_prices = spread.plan.bin_prices.write(alloc)?;
-    let caps = spread.caps.write(alloc)?;
-    let free_bin_prices = spread.free_bin_prices.write(alloc)?;
-    let free_item_prices = spread.free_item_prices.write(alloc)?;
-    let item_prices = spread.plan.item_prices.write(alloc)?;
-    let pairs = spread.plan.pairs.write(alloc)?;
+    let (caps, pairs) = written(alloc, &spread.caps, &spread.plan.pairs)?;
+    let (bin_prices, item_prices) = written(
+        alloc,
+        &spread.plan.bin_prices,
+        &spread.plan.item_prices,
+    )?;
+    let (free_bin_prices, free_item_prices) = written(
+        alloc,
+        &spread.free_bin_prices,
+        &spread.free_item_prices,
+    )?;
     json!(in alloc; {
         "bin_prices": bin_prices,
         "caps": caps,
@@ -125,4 +135,20 @@ fn plain_spread_value(alloc: Global, spread: &Spread) -> Result<Value, AllocErro
         "item_prices": item_prices,
         "pairs": pairs
     })
+}
+
+/// Two values that are written as JSON.
+fn written<A: Spelled, B: Spelled>(
+    alloc: Global,
+    first: &A,
+    second: &B,
+) -> Result<(Value, Value), AllocError>
+    ensures first_form { IfOk result (λ v. view v.0 ≡ A.spelling first.now) }
+    ensures first_reads_back { IfOk result (λ v. A.spelled (view v.0) ≡ Some first.now) }
+    ensures second_form { IfOk result (λ v. view v.1 ≡ B.spelling second.now) }
+    ensures second_reads_back { IfOk result (λ v. B.spelled (view v.1) ≡ Some second.now) }
+{
+    let first = first.write(alloc)?;
+    let second = second.write(alloc)?;
+    Ok((first, second))
 }

@@ -106,7 +106,7 @@ pub struct Settings {
 }
 
 /// Reads the settings out of the document of a configuration. What the document says of jobs is not looked at. The first fault is
-/// that of the member that stands first in `docs/FORMATS.md`.
+/// that of the member that stands first in `docs/understand/FORMATS.md`.
 pub fn read_settings(alloc: Global, bytes: &[u8]) -> Result<Settings, SettingsError>
     ensures said { Gives (λ s. s) result (settings_read bytes.now) }
     ensures beside { IfOk result (λ s. AreBesideUrls bytes.now s.refresh) }

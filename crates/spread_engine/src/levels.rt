@@ -1,4 +1,7 @@
 //! Levels and prices that are to show that pairs are the most even. Whoever publishes them judges them.
+ghost use Rattle.std.specs.Prelude.{IfOk};
+ghost use Rattle.spread_engine.specs.Telling.{IsTold};
+
 use crate::board::{loads_of, owners_of};
 use crate::evenest::Evenest;
 use crate::numbers::{NONE, count_of, number_at, put, repeated};
@@ -49,7 +52,9 @@ pub(crate) fn even_beside(
     slack: u32,
     evenest: Evenest,
     plan: &[(u32, u32)],
-) -> Result<Even, AllocError> {
+) -> Result<Even, AllocError>
+    ensures { IfOk result (IsTold jobs slack) }
+{
     let Evenest {
         pairs,
         loads,

@@ -6,7 +6,7 @@ ghost use Rattle.price_certificate.specs.Certificate.{IsCertified};
 ghost use Rattle.price_certificate.specs.Derived.{bare, capped};
 ghost use Rattle.spread_certificate.specs.Judged.{best_fault, spread_fault};
 ghost use Rattle.spread_certificate.specs.Within.{AreCaps, AreFree, IsBestWithin};
-ghost use Rattle.spread_engine.specs.Telling.{telling};
+ghost use Rattle.spread_engine.specs.Telling.{IsTold, telling};
 ghost use Rattle.spread_engine.specs.Witness.{AreNear, MovesFew};
 
 use crate::bounded::shifts_within;
@@ -37,6 +37,7 @@ pub fn spread_plan(
     ensures free { IfOk result (λ s. IsCertified (bare instance.now) s.plan.pairs s.free_item_prices s.free_bin_prices) }
     ensures judged { IfOk result (λ s. spread_fault instance.now s ≡ None) }
     ensures moves { IfOk result (λ s. IfSome most_moves (λ most. MovesFew instance.now s.plan.pairs most)) }
+    ensures told { IfOk result (λ s. IfSome s.even (IsTold jobs slack)) }
 {
     instance.is_problem();
     let (start, _work) = solve(alloc, instance)?;
@@ -152,6 +153,7 @@ fn with_even(
     requires best { best_fault instance.now spread ≡ None }
     requires feasible { IsFeasible instance.now spread.plan.pairs }
     ensures judged { IfOk result (λ s. spread_fault instance.now s ≡ None) }
+    ensures told { IfOk result (λ s. IfSome s.even (λ e. e ≡ even)) }
     ensures caps { IfOk result (λ s. s.caps ≡ spread.caps) }
     ensures plan { IfOk result (λ s. s.plan ≡ spread.plan) }
     ensures free { IfOk result (λ s. (s.free_item_prices ≡ spread.free_item_prices) × (s.free_bin_prices ≡ spread.free_bin_prices)) }
