@@ -5,7 +5,7 @@ use alloc_desk::{DeskName, Pass};
 use event_loops::Gate;
 use http_get::Scrape;
 use sd_server::{DEFAULT_LOOPS, Handler, serve_by_loops};
-use service_tasks::{Configuration, Crew, JournalFile, Office, Schedule, Shared, Watch};
+use service_tasks::{Configuration, Crew, JournalFile, Office, Schedule, Shared, Sources, Watch};
 use std::alloc::{AllocGlobal, Global};
 use std::fs::OpenFile;
 use std::io::Write;
@@ -109,11 +109,19 @@ where
         served
     }
 
-    /// Refreshes sources until the desk is to be closed.
+    /// Refreshes sources side by side until the desk is to be closed, on a thread for each, as far as there are devices.
     fn refresh<S: Scrape + Send>(&self, pass: &Mutex<Pass<L, B, N>>, watch: &mut Watch<S>) {
         let Watch { devices, sources } = watch;
-        if let Some(device) = devices.first_mut() {
-            self.shared.refresh_sources(pass, sources, device);
+        let sources: &Sources = sources;
+        let shared = self.shared;
+        let threads = sources.count().min(devices.len());
+        if threads > 0 {
+            thread::for_each_mut(
+                &self.rt,
+                &mut devices.as_mut_slice()[..threads],
+                threads,
+                &|_, device| shared.refresh_sources(pass, sources, device),
+            );
         }
     }
 
