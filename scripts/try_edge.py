@@ -537,6 +537,10 @@ def spreads(folder):
     tell("with no more moves than that takes", moved == 3, moved)
     time.sleep(0.5)
     tell("and then nothing moves", service.figure("allocd_allocation") == number)
+    told = lambda what: [service.figure(f'allocd_collector_targets_{what}{{collector="{name}"}}') for name in "abc"]
+    tell("it tells the most even loads, and what each may have", (told("even"), told("cap")) == ([3] * 3, [3] * 3), (told("even"), told("cap")))
+    page = service.ask("GET", "/")[1]
+    tell("the page does, too", page.count("<td>3</td><td>no limit</td><td></td><td>3</td><td>3</td>") == 3)
     status, document = service.ask("GET", "/certificate")
     judged = run(["check"], document.encode())
     tell("its certificate is that of the best within the caps", (status, judged[0], judged[1][:4]) == (200, 0, b"best"), judged)
@@ -551,6 +555,7 @@ def spreads(folder):
     tell("the last time, too", service.figure("allocd_allocation_moved") == 1, service.figure("allocd_allocation_moved"))
     tell("without the setting", reloaded(service, config([static("n", 9)], collectors=three[:2])) == 200)
     service.ask("DELETE", "/collectors/3")
+    tell("it tells no loads any more", comes(lambda: told("cap") == [None] * 3, 5), told("cap"))
     tell("only what has to move does", comes(lambda: sum(loads()) == 9 and loads()[0] == 0, 10) and service.figure("allocd_allocation_moved") == 0, loads())
     ends(service)
     status, out = run(["audit", f"{folder}/journal"])

@@ -201,6 +201,7 @@ impl<R: Wait + Clock + Eprint + Copy, L: Ledger, B: Ledger, N: DeskName> Shared<
         let found = self.search(pass);
         let milliseconds = self.milliseconds_since(begun.ok());
         self.state.count_search(&self.rt, milliseconds);
+        self.note_loads(pass);
         match found {
             Ok(Reallocated::Published(number)) => {
                 schedule.is_evening = self.bounds_moves();
