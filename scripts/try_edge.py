@@ -590,8 +590,25 @@ def evens(folder):
     ends(service)
 
 
+def evens_in_turn(folder):
+    both = [{"name": name, "reach": ANY} for name in "ab"]
+    loads = lambda: tuple(service.figure(f'allocd_collector_targets{{collector="{name}"}}') for name in "ab")
+    service = started(folder, [static("node", 8)])
+    has(service, "allocd_allocation", 1)
+    held(service, "node")
+    reloaded(service, config([static("node", 8)], collectors=both, spread={"slack": 0, "most_moves": 1}))
+    first = comes(lambda: loads() == (7, 1), 20)
+    time.sleep(1)
+    tell("what moves next waits until what moved last is handed over", (first, loads()) == (True, (7, 1)), loads())
+    held(service, "node")
+    second = comes(lambda: loads() == (6, 2), 10)
+    time.sleep(1)
+    tell("and moves then", (second, loads()) == (True, (6, 2)), loads())
+    ends(service)
+
+
 SOURCE = http.server.ThreadingHTTPServer(("127.0.0.1", 0), Source)
 SOURCE.daemon_threads = True
 threading.Thread(target=SOURCE.serve_forever, daemon=True).start()
-PARTS = (settings, relabels, reloads, uncovered, texts, figures, talks, requests, held_rows, stalls, rounds, rounds_kept, silences, yaml, acknowledge, spreads, evens)
+PARTS = (settings, relabels, reloads, uncovered, texts, figures, talks, requests, held_rows, stalls, rounds, rounds_kept, silences, yaml, acknowledge, spreads, evens, evens_in_turn)
 run_parts(PARTS, sys.argv[1:])
