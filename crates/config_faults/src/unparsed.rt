@@ -20,7 +20,10 @@ pub(crate) fn unparsed(
     match first_of(document) {
         None => String::from_str(alloc, "no JSON: nothing stands in the file"),
         Some(b'{' | b'[') => placed(alloc, error),
-        Some(_) => String::from_str(alloc, "YAML is not read: convert it, see docs/operate/CONFIG.md"),
+        Some(_) => String::from_str(
+            alloc,
+            "YAML is not read: convert it, see docs/operate/CONFIG.md",
+        ),
     }
 }
 
