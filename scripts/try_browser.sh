@@ -3,7 +3,7 @@
 # It needs Debian's packages chromium and curl, and ports 8080 and 9100 to 9106 of loopback.
 set -eu
 root=$(cd "$(dirname "$0")/.." && pwd)
-picture=$(realpath -m "${1:-$root/docs/page.png}")
+picture=$(realpath -m "${1:-$root/docs/operate/page.png}")
 python3 "$root/examples/targets.py" &
 targets=$!
 until curl -sf http://127.0.0.1:9100/targets > /dev/null; do sleep 0.1; done

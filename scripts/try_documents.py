@@ -70,7 +70,7 @@ def prepared():
         ("docs/operate/MONITOR.md", "Ask it"): readme(2),
         ("docs/operate/RUNBOOK.md", "What it says, and what to do"): readme(2),
         ("docs/operate/RUNBOOK.md", "A damaged journal"): ["curl -s -X POST localhost:8080/-/quit; sleep 1; rm -f allocator.journal*", *DAMAGED],
-        ("docs/RENEWAL.md", "An audit"): readme(4),
+        ("docs/understand/RENEWAL.md", "An audit"): readme(4),
     }
 
 
@@ -207,7 +207,7 @@ def main():
         return 2
     before = standing()
     pages = sorted(os.path.relpath(path, ROOT) for path in glob.glob(f"{ROOT}/docs/operate/*.md"))
-    for document in sys.argv[1:] or ["README.md", *pages, "docs/CONFIG.md", "docs/RENEWAL.md"]:
+    for document in sys.argv[1:] or ["README.md", *pages, "docs/operate/CONFIG.md", "docs/understand/RENEWAL.md"]:
         tried(document)
     tell("nothing is left behind in the repository", standing() == before)
     return tell.end()
