@@ -1,6 +1,6 @@
 #!/usr/bin/env bash
 # Has headless Chromium take a picture of the service's page on examples/serve.json: try_browser.sh [PICTURE]
-# It needs Debian's packages chromium and curl, and ports 8080 and 9100 to 9106 of loopback.
+# It needs Debian's packages chromium and curl, and ports 8080 and 9100 to 9107 of loopback.
 set -eu
 root=$(cd "$(dirname "$0")/.." && pwd)
 picture=$(realpath -m "${1:-$root/docs/operate/page.png}")

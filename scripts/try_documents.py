@@ -181,7 +181,7 @@ def own_network():
 
 
 def ports_are_free():
-    for port in (8080, *range(9100, 9107)):
+    for port in (8080, *range(9100, 9108)):
         with socket.socket() as it:
             if it.connect_ex(("127.0.0.1", port)) == 0:
                 return False
@@ -203,7 +203,7 @@ def main():
         return 2
     own_network()
     if not ports_are_free():
-        print("try_documents: the ports 8080 and 9100 to 9106 are not free, and no network of its own can be made", file=sys.stderr)
+        print("try_documents: the ports 8080 and 9100 to 9107 are not free, and no network of its own can be made", file=sys.stderr)
         return 2
     before = standing()
     pages = sorted(os.path.relpath(path, ROOT) for path in glob.glob(f"{ROOT}/docs/operate/*.md"))
