@@ -1,9 +1,11 @@
 #!/usr/bin/env python3
-"""Reads the documents as text: try_pages.py
+"""Reads the documents as text, and tells of each what it should be: try_pages.py
 
-Each path that one names, in backquotes or by a link, is in the repository. No sentence of README and of docs/operate has more than 30 words, where what
-stands in backquotes is one word, and rows and cells of tables are sentences of their own. These pages have no words that only the sources have."""
+Each path that a page names, in backquotes or by a link, is in the repository. No sentence of README and of docs/operate has more than 30 words: what
+stands in backquotes is one word, and each cell of a table is a passage of its own. These pages say nothing by a word that only the sources have. README
+has a screen or two. It needs git, and no program."""
 
+import glob
 import os
 import re
 import subprocess
@@ -13,10 +15,13 @@ import told_rows
 from allocd_service import ROOT
 
 MOST_WORDS = 30
-# Words of the sources, and how README may not be longer.
+MOST_LINES_OF_README = 90
+# A word of the sources that says nothing to who runs the program.
 INNER = re.compile(r"\bdesks?\b", re.I)
-README_LINES = 90
-PATH = re.compile(r"^(?:\.github|\.ci|bench|crates|dist|docs|edits|examples|scripts|tests)/[\w./-]*\w$|^[A-Z][A-Z-]*\.md$|^crates\.txt$")
+PATH = re.compile(
+    r"(?:\.ci|bench|crates|dist|docs|edits|examples|scripts|tests)(?:/[\w.*-]+)+/?|[a-z_]+/(?:src|specs|proofs)/[\w./*-]+|[A-Z][A-Z-]*\.md|crates\.txt")
+# CRATE and NAME stand for any.
+HOLDER = re.compile(r"(?:^|/)[A-Z]+(?:/|$)")
 
 
 def text_of(name):
@@ -36,16 +41,21 @@ def for_operators():
 def named_paths(text):
     """What stands in backquotes, or behind a link, and has the form of a path of the repository."""
     for span in re.findall(r"`([^`\n]+)`", text):
-        # The first word of a command counts, and its `./`.
-        yield from (word for word in span.removeprefix("./").split()[:1] if PATH.match(word))
-    for goal in re.findall(r"\]\(([^)\s]+)\)", text):
-        if not re.match(r"[a-z]+:|#", goal):
+        # Of a command its first word.
+        word = span.removeprefix("./").split(" ")[0]
+        if PATH.fullmatch(word) and not HOLDER.search(word):
+            yield word
+    for goal in re.findall(r"\]\(([^)\s#]+)", text):
+        if not re.match(r"[a-z]+:", goal):
             yield goal
 
 
+def is_there(path, folder):
+    return any(glob.glob(f"{ROOT}/{top}/{path}") for top in ("", "crates", folder))
+
+
 def dead_paths(name):
-    folder = os.path.dirname(name)
-    return sorted({path for path in named_paths(text_of(name)) if not any(os.path.exists(f"{ROOT}/{top}/{path}") for top in ("", folder))})
+    return sorted(path for path in set(named_paths(text_of(name))) if not is_there(path, os.path.dirname(name)))
 
 
 def passages(text):
@@ -84,7 +94,7 @@ def rows():
         yield f"{name}: no sentence has more than {MOST_WORDS} words", long_sentences(name)
         yield f"{name}: no word that only the sources have", inner_words(name)
     count = text_of("README.md").count("\n")
-    yield f"README.md: at most {README_LINES} lines", [] if count <= README_LINES else [count]
+    yield f"README.md: at most {MOST_LINES_OF_README} lines", [] if count <= MOST_LINES_OF_README else [count]
 
 
 def main():
