@@ -216,7 +216,7 @@ def histories():
         begun = re.search(r"`\./allocd replay < (\S+)`", line)
         name = begun.group(1) if begun else name
         if name and line.startswith("    "):
-            answers += re.split(r"  +", line[4:])[1].split(", ")
+            answers += [answer for column in re.split(r"  +", line[4:])[1:2] for answer in column.split(", ")]
         elif name and answers:
             yield name, answers
             name, answers = None, []
