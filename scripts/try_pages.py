@@ -1,7 +1,7 @@
 #!/usr/bin/env python3
 """Reads the documents as text, and tells of each what it should be: try_pages.py
 
-Each path that a page names, in backquotes or by a link, is in the repository. No sentence of README and of docs/operate has more than 30 words: what
+Each path that a page names, in backquotes or by a link, is in the repository, and each section that it names of a page. No sentence of README and of docs/operate has more than 30 words: what
 stands in backquotes is one word, and each cell of a table is a passage of its own. These pages say nothing by a word that only the sources have. README
 has a screen or two. It needs git, and no program."""
 
@@ -58,6 +58,16 @@ def dead_paths(name):
     return sorted(path for path in set(named_paths(text_of(name))) if not is_there(path, os.path.dirname(name)))
 
 
+def headings(name):
+    return re.findall(r"^#+ (.*)$", text_of(name).replace("`", ""), re.M)
+
+
+def dead_sections(name):
+    """Sections that are named behind a page, as `docs/operate/SERVE.md`, *Rounds*, and that it does not have."""
+    named = re.findall(r"`((?:docs|bench)/[\w/]+\.md)`,\s+\*([^*]+)\*", text_of(name))
+    return [f"{page}, {title}" for page, title in named if is_there(page, "") and " ".join(title.split()) not in headings(page)]
+
+
 def passages(text):
     """The paragraphs, items, cells and headings of a page, without what it shows of commands and files."""
     lines, shown = [], False
@@ -90,6 +100,7 @@ def inner_words(name):
 def rows():
     for name in pages():
         yield f"{name}: each path is there", dead_paths(name)
+        yield f"{name}: each section is there", dead_sections(name)
     for name in for_operators():
         yield f"{name}: no sentence has more than {MOST_WORDS} words", long_sentences(name)
         yield f"{name}: no word that only the sources have", inner_words(name)
