@@ -537,6 +537,10 @@ def spreads(folder):
     tell("with no more moves than that takes", moved == 3, moved)
     time.sleep(0.5)
     tell("and then nothing moves", service.figure("allocd_allocation") == number)
+    told = lambda what: [service.figure(f'allocd_collector_targets_{what}{{collector="{name}"}}') for name in "abc"]
+    tell("it tells the most even loads, and what each may have", (told("even"), told("cap")) == ([3] * 3, [3] * 3), (told("even"), told("cap")))
+    page = service.ask("GET", "/")[1]
+    tell("the page does, too", page.count("<td>3</td><td>no limit</td><td></td><td>3</td><td>3</td>") == 3)
     status, document = service.ask("GET", "/certificate")
     judged = run(["check"], document.encode())
     tell("its certificate is that of the best within the caps", (status, judged[0], judged[1][:4]) == (200, 0, b"best"), judged)
@@ -551,6 +555,7 @@ def spreads(folder):
     tell("the last time, too", service.figure("allocd_allocation_moved") == 1, service.figure("allocd_allocation_moved"))
     tell("without the setting", reloaded(service, config([static("n", 9)], collectors=three[:2])) == 200)
     service.ask("DELETE", "/collectors/3")
+    tell("it tells no loads any more", comes(lambda: told("cap") == [None] * 3, 5), told("cap"))
     tell("only what has to move does", comes(lambda: sum(loads()) == 9 and loads()[0] == 0, 10) and service.figure("allocd_allocation_moved") == 0, loads())
     ends(service)
     status, out = run(["audit", f"{folder}/journal"])
@@ -585,8 +590,25 @@ def evens(folder):
     ends(service)
 
 
+def evens_in_turn(folder):
+    both = [{"name": name, "reach": ANY} for name in "ab"]
+    loads = lambda: tuple(service.figure(f'allocd_collector_targets{{collector="{name}"}}') for name in "ab")
+    service = started(folder, [static("node", 8)])
+    has(service, "allocd_allocation", 1)
+    held(service, "node")
+    reloaded(service, config([static("node", 8)], collectors=both, spread={"slack": 0, "most_moves": 1}))
+    first = comes(lambda: loads() == (7, 1), 20)
+    time.sleep(1)
+    tell("what moves next waits until what moved last is handed over", (first, loads()) == (True, (7, 1)), loads())
+    held(service, "node")
+    second = comes(lambda: loads() == (6, 2), 10)
+    time.sleep(1)
+    tell("and moves then", (second, loads()) == (True, (6, 2)), loads())
+    ends(service)
+
+
 SOURCE = http.server.ThreadingHTTPServer(("127.0.0.1", 0), Source)
 SOURCE.daemon_threads = True
 threading.Thread(target=SOURCE.serve_forever, daemon=True).start()
-PARTS = (settings, relabels, reloads, uncovered, texts, figures, talks, requests, held_rows, stalls, rounds, rounds_kept, silences, yaml, acknowledge, spreads, evens)
+PARTS = (settings, relabels, reloads, uncovered, texts, figures, talks, requests, held_rows, stalls, rounds, rounds_kept, silences, yaml, acknowledge, spreads, evens, evens_in_turn)
 run_parts(PARTS, sys.argv[1:])

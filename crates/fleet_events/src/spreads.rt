@@ -85,18 +85,13 @@ fn even_spread_value(alloc: Global, spread: &Spread, even: &Even) -> Result<Valu
     ensures form { IfOk result (λ v. view v ≡ told_spread_data spread.now (Some even.now)) }
     ensures reads_back { IfOk result (λ v. event_in (view v) ≡ Some (Event.Spread (told_spread spread.now (Some even.now)))) }
 {
+    let bin_prices = spread.plan.bin_prices.write(alloc)?;
+    let caps = spread.caps.write(alloc)?;
     let even = even.write(alloc)?;
-    let (caps, pairs) = written(alloc, &spread.caps, &spread.plan.pairs)?;
-    let (bin_prices, item_prices) = written(
-        alloc,
-        &spread.plan.bin_prices,
-        &spread.plan.item_prices,
-    )?;
-    let (free_bin_prices, free_item_prices) = written(
-        alloc,
-        &spread.free_bin_prices,
-        &spread.free_item_prices,
-    )?;
+    let free_bin_prices = spread.free_bin_prices.write(alloc)?;
+    let free_item_prices = spread.free_item_prices.write(alloc)?;
+    let item_prices = spread.plan.item_prices.write(alloc)?;
+    let pairs = spread.plan.pairs.write(alloc)?;
     json!(in alloc; {
         "bin_prices": bin_prices,
         "caps": caps,

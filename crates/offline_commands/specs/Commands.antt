@@ -15,6 +15,6 @@ use Rattle.offline_commands.specs.declared.ending.Ending.{Ending}
 abbrev pub RunsAs : InputCommand → Option (List ℕ) → Option (List ℕ) → Option (List ℕ) → Ending → Type 0
 RunsAs Check = EndsTo Checks NoFront
 RunsAs Plan = EndsTo Plans NoFront
-RunsAs (Spread options) = EndsTo Spreads NoFront
+RunsAs (Spread options) = EndsTo (Spreads options) NoFront
 RunsAs Relabel = EndsTo (Relabels any_text) NoFront
 RunsAs Replay = EndsTo Replays Begins

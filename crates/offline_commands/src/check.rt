@@ -19,7 +19,7 @@ use std::io::{Read, Write};
 pub struct Check {}
 
 impl Task for Check {
-    ghost answers = { Checks };
+    ghost answers = { λ task. Checks };
 
     ghost begins = { NoFront };
 

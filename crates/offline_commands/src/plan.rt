@@ -17,7 +17,7 @@ use std::io::{Read, Write};
 pub struct Plan {}
 
 impl Task for Plan {
-    ghost answers = { Plans };
+    ghost answers = { λ task. Plans };
 
     ghost begins = { NoFront };
 

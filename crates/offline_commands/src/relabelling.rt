@@ -27,7 +27,7 @@ pub struct Relabel<'c, C> {
 }
 
 impl<'c, C: Compiler> Task for Relabel<'c, C> {
-    ghost answers = { Relabels C.too_big };
+    ghost answers = { λ task. Relabels C.too_big };
 
     ghost begins = { NoFront };
 

@@ -16,7 +16,7 @@ use std::io::{Read, Write};
 pub struct Replay {}
 
 impl Task for Replay {
-    ghost answers = { Replays };
+    ghost answers = { λ task. Replays };
 
     ghost begins = { Begins };
 

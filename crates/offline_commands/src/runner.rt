@@ -12,15 +12,15 @@ use crate::unreadable::Unreadable;
 use std::alloc::Global;
 use std::io::{Read, Write};
 
-/// What a command does with an input. Contracts see which answers it may give to an input that is not too long, and which
-/// fronts of an answer may be there when memory ends.
+/// What a command does with an input. Contracts see which answers it may give with its options to an input that is not too long, and
+/// which fronts of an answer may be there when memory ends.
 pub trait Task: Sized {
-    ghost answers: { List ℕ → Answer → Type 0 };
+    ghost answers: { Self → List ℕ → Answer → Type 0 };
 
     ghost begins: { List ℕ → List ℕ → Type 0 };
 
     fn answer(&self, alloc: Global, input: &[u8]) -> Result<Answer, Unfinished>
-        ensures whole { IfOk result (answers input.now) }
+        ensures whole { IfOk result (answers self.now input.now) }
         ensures front { IfErr result (λ u. IsFront begins input.now u.front) };
 }
 
@@ -31,7 +31,7 @@ pub fn run_task<T: Task, R: Read, W: Write>(
     reader: &mut R,
     writer: &mut W,
 ) -> Ending
-    ensures { EndsTo T.answers T.begins (R.remaining reader.old) (W.contents writer.old) (W.contents writer.new) result }
+    ensures { EndsTo (T.answers task.now) T.begins (R.remaining reader.old) (W.contents writer.old) (W.contents writer.new) result }
 {
     match read_input(alloc, reader) {
         Ok(Input::Whole(bytes)) => answer_to(task, alloc, bytes.as_slice(), writer),
@@ -42,7 +42,7 @@ pub fn run_task<T: Task, R: Read, W: Write>(
 
 /// Writes the task's answer to an input that is not too long.
 fn answer_to<T: Task, W: Write>(task: &T, alloc: Global, input: &[u8], writer: &mut W) -> Ending
-    ensures { length input.now ≤ most_input → EndsAs T.answers T.begins input.now (W.contents writer.old) (W.contents writer.new) result }
+    ensures { length input.now ≤ most_input → EndsAs (T.answers task.now) T.begins input.now (W.contents writer.old) (W.contents writer.new) result }
 {
     match task.answer(alloc, input) {
         Ok(answer) => write_answer(writer, &answer),

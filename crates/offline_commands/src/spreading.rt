@@ -22,7 +22,7 @@ pub struct Spreading {
 }
 
 impl Task for Spreading {
-    ghost answers = { Spreads };
+    ghost answers = { λ task. Spreads task.options };
 
     ghost begins = { NoFront };
 
@@ -39,13 +39,13 @@ pub fn run_spread<R: Read, W: Write>(
     reader: &mut R,
     writer: &mut W,
 ) -> Ending
-    ensures { EndsTo Spreads NoFront (R.remaining reader.old) (W.contents writer.old) (W.contents writer.new) result }
+    ensures { EndsTo (Spreads options) NoFront (R.remaining reader.old) (W.contents writer.old) (W.contents writer.new) result }
 {
     run_task(&Spreading { options }, alloc, reader, writer)
 }
 
 fn answer_to(alloc: Global, options: SpreadOptions, input: &[u8]) -> Result<Answer, AllocError>
-    ensures { IfOk result (Spreads input.now) }
+    ensures { IfOk result (Spreads options input.now) }
 {
     match read_instance(alloc, input) {
         Ok(instance) => Ok(Answer::Text {
@@ -64,7 +64,7 @@ fn spread_of(
     options: SpreadOptions,
     instance: &Instance,
 ) -> Result<List<u8>, AllocError>
-    ensures { IfOk result (λ text. IsSpreadOf instance.now text) }
+    ensures { IfOk result (IsSpreadOf options instance.now) }
 {
     let spread = spread_plan(
         alloc,

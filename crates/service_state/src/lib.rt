@@ -30,7 +30,7 @@ pub use followed::FollowedList;
 pub use handing_over::{HandingOver, targets_handing_over};
 pub use kept::{Asked, Kept, LONGEST_WAIT_MILLIS};
 pub use metrics::metrics_page;
-pub use notes::{AllocationNote, Notes, SourceNote};
+pub use notes::{AllocationNote, LoadNote, Notes, SourceNote};
 pub use open_round::{RoundStart, RoundTimes};
 pub use page::status_page;
 pub use reloading::{Reloading, unanswered};

@@ -1,7 +1,7 @@
 //! The metrics of a service.
 use crate::counts::{ANSWERS, Counts, KINDS, ROUTES, STATUSES, refused};
 use crate::figures::{CollectorFigures, Figures, JobFigures};
-use crate::notes::{Notes, SourceNote};
+use crate::notes::{LoadNote, Notes, SourceNote};
 use crate::service_state::ServiceState;
 use exposition::{Exposition, Kind};
 use fleet_events::CollectorId;
@@ -22,6 +22,11 @@ pub fn metrics_page(
         &mut page,
         figures.collectors.as_slice(),
         notes.asked.as_slice(),
+    )?;
+    write_loads(
+        &mut page,
+        figures.collectors.as_slice(),
+        notes.loads.as_slice(),
     )?;
     write_allocation(&mut page, figures)?;
     write_last_allocation(&mut page, notes)?;
@@ -133,6 +138,47 @@ fn last_take(asked: &[(CollectorId, u64)], id: CollectorId) -> u64 {
         }
     }
     0
+}
+
+/// What the collectors that are live still are to hold, and may, where loads are made even.
+fn write_loads(
+    page: &mut Exposition,
+    collectors: &[CollectorFigures],
+    loads: &[LoadNote],
+) -> Result<(), AllocError> {
+    let name = "allocd_collector_targets_even";
+    page.family(
+        name,
+        Kind::Gauge,
+        "Targets that the collector holds where loads are the most even, by the last search that made them even.",
+    )?;
+    for load in loads {
+        if let (Some(collector), Some(even)) = (named(collectors, load.collector), load.even) {
+            page.labelled_sample(name, "collector", collector, u128::from(even))?;
+        }
+    }
+    let name = "allocd_collector_targets_cap";
+    page.family(
+        name,
+        Kind::Gauge,
+        "Targets that the collector may hold by the last search that made loads even.",
+    )?;
+    for load in loads {
+        if let Some(collector) = named(collectors, load.collector) {
+            page.labelled_sample(name, "collector", collector, u128::from(load.cap))?;
+        }
+    }
+    Ok(())
+}
+
+/// The name of the live collector of a number.
+fn named(collectors: &[CollectorFigures], id: CollectorId) -> Option<&str> {
+    for collector in collectors {
+        if collector.id == id {
+            return Some(collector.name.as_str());
+        }
+    }
+    None
 }
 
 fn write_waited_for(

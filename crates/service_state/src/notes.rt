@@ -39,6 +39,16 @@ pub struct AllocationNote {
     pub milliseconds: u64,
 }
 
+/// How many targets a collector is to hold, where loads are made even.
+#[derive(Clone, Copy, Debug)]
+pub struct LoadNote {
+    pub collector: CollectorId,
+    /// How many it holds where the loads are the most even. None where the search does not tell it.
+    pub even: Option<u64>,
+    /// How many it may hold by the last search.
+    pub cap: u64,
+}
+
 /// What a service notes while it runs.
 #[derive(Debug, Drop)]
 pub struct Notes {
@@ -50,6 +60,8 @@ pub struct Notes {
     pub(crate) milliseconds: u64,
     /// When collectors asked for a list last, in seconds since 1970. 0 where they did not.
     pub(crate) asked: Vec<(CollectorId, u64)>,
+    /// What the last search that made loads even told of them. Empty where there was none.
+    pub(crate) loads: Vec<LoadNote>,
 }
 
 impl Notes {
@@ -60,6 +72,7 @@ impl Notes {
             allocations: Vec::new(alloc),
             milliseconds: 0,
             asked: Vec::new(alloc),
+            loads: Vec::new(alloc),
         }
     }
 
@@ -75,6 +88,7 @@ impl Notes {
             allocations: copied_allocations(alloc, self.allocations.as_slice())?,
             milliseconds: self.milliseconds,
             asked,
+            loads: copied_loads(alloc, self.loads.as_slice())?,
         })
     }
 
@@ -106,6 +120,14 @@ fn copied_sources(alloc: Global, notes: &[SourceNote]) -> Result<Vec<SourceNote>
     let mut copies = Vec::with_capacity(alloc, notes.len())?;
     for note in notes {
         copies.push(note.copy()?)?;
+    }
+    Ok(copies)
+}
+
+fn copied_loads(alloc: Global, notes: &[LoadNote]) -> Result<Vec<LoadNote>, AllocError> {
+    let mut copies = Vec::with_capacity(alloc, notes.len())?;
+    for note in notes {
+        copies.push(*note)?;
     }
     Ok(copies)
 }

@@ -1,7 +1,8 @@
 //! The page for people.
 use crate::figures::{CollectorFigures, Figures, JobFigures, ShareFigures};
-use crate::notes::{AllocationNote, Notes, SourceNote};
+use crate::notes::{AllocationNote, LoadNote, Notes, SourceNote};
 use crate::service_state::ServiceState;
+use fleet_events::CollectorId;
 use hypertext::Hypertext;
 use lists::Text;
 use std::alloc::{AllocError, Global};
@@ -13,7 +14,7 @@ const JOBS: &str =
     "<h2>Jobs</h2>\n<table>\n<tr><th>Job</th><th>Live</th><th>Covered</th><th>Uncovered</th><th>Handing over</th></tr>\n";
 
 const COLLECTORS: &str =
-    "<h2>Collectors</h2>\n<table>\n<tr><th>Collector</th><th>Id</th><th>State</th><th>Holds</th><th>May hold</th><th></th><th>Took</th><th>By job</th></tr>\n";
+    "<h2>Collectors</h2>\n<table>\n<tr><th>Collector</th><th>Id</th><th>State</th><th>Holds</th><th>May hold</th><th></th><th>Even load</th><th>Cap</th><th>Took</th><th>By job</th></tr>\n";
 
 const SOURCES: &str =
     "<h2>Sources</h2>\n<table>\n<tr><th>Job</th><th>Source</th><th>Refreshes</th><th>Failed</th><th>Last refresh</th><th>Last fault</th></tr>\n";
@@ -32,7 +33,7 @@ pub fn status_page(
     page.markup(HEAD)?;
     write_moment(&mut page, figures)?;
     write_jobs(&mut page, figures.jobs.as_slice())?;
-    write_collectors(&mut page, figures)?;
+    write_collectors(&mut page, figures, notes.loads.as_slice())?;
     write_sources(&mut page, notes.sources.as_slice())?;
     write_allocations(&mut page, notes.allocations.as_slice())?;
     write_state(&mut page, state)?;
@@ -69,16 +70,52 @@ fn write_jobs(page: &mut Hypertext, jobs: &[JobFigures]) -> Result<(), AllocErro
     page.markup("</table>\n")
 }
 
-fn write_collectors(page: &mut Hypertext, figures: &Figures) -> Result<(), AllocError> {
+fn write_collectors(
+    page: &mut Hypertext,
+    figures: &Figures,
+    loads: &[LoadNote],
+) -> Result<(), AllocError> {
     page.markup(COLLECTORS)?;
     for collector in &figures.collectors {
         page.markup("<tr>")?;
         write_collector(page, collector)?;
+        write_load(page, load_of(loads, collector.id))?;
         number_cell(page, u64::from(collector.taken))?;
         write_shares(page, figures.jobs.as_slice(), collector.shares.as_slice())?;
         page.markup("</tr>\n")?;
     }
     page.markup("</table>\n")
+}
+
+/// What is told of the load of a collector.
+fn load_of(loads: &[LoadNote], id: CollectorId) -> Option<LoadNote> {
+    for load in loads {
+        if load.collector == id {
+            return Some(*load);
+        }
+    }
+    None
+}
+
+/// How many targets a collector is to hold, and how many it may, where loads are made even.
+fn write_load(page: &mut Hypertext, load: Option<LoadNote>) -> Result<(), AllocError> {
+    match load {
+        Some(
+            LoadNote {
+                even: Some(even),
+                cap,
+                ..
+            },
+        ) => {
+            number_cell(page, even)?;
+            number_cell(page, cap)
+        }
+        Some(load) => {
+            page.markup("<td></td>")?;
+            number_cell(page, load.cap)
+        }
+        None => page.markup("<td></td><td></td>"),
+    }
 }
 
 /// What a collector holds, job by job, and how many it may: of jobs of which it holds some, or for which it has a limit of its own.

@@ -3,7 +3,7 @@ use crate::changes::{ChangeNote, Changes};
 use crate::counts::{EventKind, Route};
 use crate::followed::{Followed, FollowedList};
 use crate::names::Names;
-use crate::notes::{AllocationNote, Notes, SourceNote};
+use crate::notes::{AllocationNote, LoadNote, Notes, SourceNote};
 use crate::open_round::{OpenRound, RoundStart, RoundTimes};
 use crate::reloading::Reloading;
 use crate::takers::Takers;
@@ -381,6 +381,11 @@ impl ServiceState {
     /// An allocation was published.
     pub fn note_allocation(&self, rt: &impl Wait, note: AllocationNote) -> Result<(), AllocError> {
         self.notes.lock(rt).note_allocation(note)
+    }
+
+    /// The last search told this of the collectors' loads. Nothing where it did not make them even.
+    pub fn note_loads(&self, rt: &impl Wait, loads: Vec<LoadNote>) {
+        self.notes.lock(rt).loads = loads;
     }
 
     /// A reallocation took so many milliseconds.

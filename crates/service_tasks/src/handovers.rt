@@ -32,6 +32,11 @@ impl Handovers {
         self.entries = None;
     }
 
+    /// Whether some target is handed over.
+    pub(crate) fn is_any(&self) -> bool {
+        !self.since.is_empty()
+    }
+
     /// These are handed over now.
     fn note(&mut self, alloc: Global, waiting: &[HandingOver], now: u64) -> Result<(), AllocError> {
         let mut since = Vec::with_capacity(alloc, waiting.len())?;

@@ -12,6 +12,7 @@ mod control;
 mod crew;
 mod differences;
 mod entering;
+mod evenness;
 mod failed_accepts;
 mod handovers;
 mod journal;

@@ -84,6 +84,11 @@ impl<C> Schedule<C> {
             held: Vec::new(alloc),
         }
     }
+
+    /// Whether loads may be made more even by now: once what moved for that last is handed over.
+    fn goes_on(&self) -> bool {
+        self.is_evening && !self.handovers.is_any()
+    }
 }
 
 impl<R: Wait + Clock + Eprint + Copy, L: Ledger, B: Ledger, N: DeskName> Shared<R, L, B, N> {
@@ -182,7 +187,7 @@ impl<R: Wait + Clock + Eprint + Copy, L: Ledger, B: Ledger, N: DeskName> Shared<
     ) {
         if !self.desk.is_changed(&self.rt, pass) {
             self.state.settle();
-            if !schedule.is_evening {
+            if !schedule.goes_on() {
                 schedule.changed = None;
                 return;
             }
@@ -201,6 +206,7 @@ impl<R: Wait + Clock + Eprint + Copy, L: Ledger, B: Ledger, N: DeskName> Shared<
         let found = self.search(pass);
         let milliseconds = self.milliseconds_since(begun.ok());
         self.state.count_search(&self.rt, milliseconds);
+        self.note_loads(pass);
         match found {
             Ok(Reallocated::Published(number)) => {
                 schedule.is_evening = self.bounds_moves();

@@ -9,5 +9,5 @@ telling spread even = record spread { even = even }
 
 -- what is told is of collectors with so many bins, and of so much slack
 pub record IsTold (jobs slack : ℕ) (even : Even) : Type 0 where
-  pub jobs : even.jobs ≡ jobs
-  pub slack : even.slack ≡ slack
+  pub for_jobs : even.jobs ≡ jobs
+  pub for_slack : even.slack ≡ slack

@@ -1,7 +1,8 @@
 //! Reallocation that makes loads even: the search runs without the lock.
-ghost use Rattle.std.specs.Prelude.{◌≡◌, ◌+◌, ◌≤◌, Err, IfOk, OnOk, OnErr};
+ghost use Rattle.std.specs.Prelude.{◌≡◌, ◌+◌, ◌≤◌, Err, IfOk, OnOk, OnErr, length};
+ghost use Rattle.fleet.specs.declared.limits.TheConstants.{MOST_JOBS};
 ghost use Rattle.alloc_desk.specs.Reached.{IsFull, Reached};
-ghost use Rattle.alloc_desk.specs.Spreading.{CameToSpread, EndedSpread, IsFound};
+ghost use Rattle.alloc_desk.specs.Spreading.{CameToSpread, EndedSpread, IsFound, IsQuestion};
 
 use crate::attempt::Reallocated;
 use crate::desk::Desk;
@@ -9,7 +10,8 @@ use crate::name::DeskName;
 use crate::pass::Pass;
 use crate::record::EnterError;
 use crate::spread_attempt::{SpreadAttempt, SpreadError, spread_attempted};
-use allocation_core::{Event, answers_fit};
+use allocation_core::{Core, Event, answers_fit};
+use fleet::JobSpec;
 use price_certificate::Instance;
 use spread_certificate::Spread;
 use spread_engine::spread_plan;
@@ -36,7 +38,7 @@ impl<L: Ledger, B: Ledger, N: DeskName> Desk<L, B, N> {
         ensures most { pass.new.calls ≤ pass.old.calls + tries }
         ensures booked { pass.new.booked ≡ pass.old.booked }
         ensures seat { pass.new.seat ≡ pass.old.seat }
-        ensures ended { EndedSpread N.opening pass.old pass.new tries most_moves result }
+        ensures ended { EndedSpread N.opening pass.old pass.new tries slack most_moves result }
     {
         let mut lost = None;
         for _turn in 0..tries {
@@ -61,14 +63,13 @@ impl<L: Ledger, B: Ledger, N: DeskName> Desk<L, B, N> {
         slack: u32,
         most_moves: Option<u32>,
     ) -> Result<SpreadAttempt, EnterError>
-        ensures came_to { IfOk result (λ a. CameToSpread N.opening pass.old most_moves a) }
+        ensures came_to { IfOk result (λ a. CameToSpread N.opening pass.old slack most_moves a) }
         ensures counts { OnOk result (pass.new ≡ record { seat = pass.old.seat; calls = pass.old.calls + 1; booked = pass.old.booked }) }
         ensures full { result ≡ Err EnterError.JournalFull → Reached N.opening pass.old IsFull }
         ensures err { OnErr result (pass.new ≡ pass.old) }
     {
         answers_fit();
-        let jobs = self.jobs(rt, pass);
-        let Ok(instance) = self.instance(rt, pass) else {
+        let Ok((instance, jobs)) = self.question(rt, pass) else {
             return Err(EnterError::Memory);
         };
         let Ok(spread) = spread_for(alloc, &instance, jobs, slack, most_moves) else {
@@ -78,13 +79,33 @@ impl<L: Ledger, B: Ledger, N: DeskName> Desk<L, B, N> {
         Ok(spread_attempted(&receipt.answer))
     }
 
-    /// How many jobs there are: so many bins in a row are a collector's.
-    fn jobs(&self, rt: &impl Wait, pass: &mut Pass<L, B, N>) -> u32
+    /// The assignment problem of the moment, and how many jobs there are then.
+    fn question(
+        &self,
+        rt: &impl Wait,
+        pass: &mut Pass<L, B, N>,
+    ) -> Result<(Instance, u32), AllocError>
+        ensures read { IfOk result (λ q. Reached N.opening pass.old (λ h. IsQuestion h.state q)) }
         ensures same { pass.new ≡ pass.old }
     {
-        let jobs = self.read(rt, pass, |record| record.core().fleet().jobs().len());
-        u32::try_from(jobs).unwrap_or(u32::MAX)
+        self.read(rt, pass, |record| question_of(record.core()))
     }
+}
+
+/// The assignment problem of a core, and how many jobs it has.
+fn question_of(core: &Core) -> Result<(Instance, u32), AllocError>
+    ensures { IfOk result (IsQuestion core.now) }
+{
+    let instance = core.instance()?;
+    let jobs = count_of(core.fleet().jobs());
+    Ok((instance, jobs))
+}
+
+fn count_of(jobs: &[JobSpec]) -> u32
+    requires { length jobs.now ≤ MOST_JOBS }
+    ensures { result ≡ length jobs.now }
+{
+    jobs.len() as u32
 }
 
 /// A spread in which the judge finds no fault.
@@ -95,7 +116,7 @@ fn spread_for(
     slack: u32,
     most_moves: Option<u32>,
 ) -> Result<Spread, AllocError>
-    ensures { IfOk result (λ s. IsFound instance.now most_moves s) }
+    ensures { IfOk result (IsFound instance.now jobs slack most_moves) }
 {
     let spread = spread_plan(alloc, instance, jobs, slack, most_moves)?;
     Ok(spread)

@@ -8,5 +8,5 @@ invariant-loop-turn g l =
       calls : l.pass.calls ≡ l.fn.pass.calls + l._turn;
       booked : l.pass.booked ≡ l.fn.pass.booked;
       seat : l.pass.seat ≡ l.fn.pass.seat;
-      lost : LostSpreadIn g.N.DeskName.opening l.pass l.most_moves l._turn l.lost;
+      lost : LostSpreadIn g.N.DeskName.opening l.pass l.slack l.most_moves l._turn l.lost;
     }

@@ -1,8 +1,7 @@
-use Rattle.std.proofs.Common.{◌≡◌, ◌+◌, ◌∙◌, subst}
-use Rattle.allocation_core.specs.State.{instance_at}
+use Rattle.std.proofs.Common.{◌≡◌, ◌+◌, ℕ, subst}
+use Rattle.price_certificate.specs.Problem.{Problem}
 use Rattle.fleet_events.specs.declared.event.Event.TheVariants.{Spread}
 use Rattle.alloc_desk.specs.Counts.{Counts}
-use Rattle.alloc_desk.specs.Reached.{Reached}
 use Rattle.alloc_desk.specs.Reallocating.{EndsIn}
 use Rattle.alloc_desk.proofs.AttemptLemmas.{ends_in}
 use Rattle.alloc_desk.proofs.SpreadAttemptLemmas.{came_to_spread}
@@ -18,12 +17,9 @@ returns-clause-came_to g c =
     let opening = g.N.DeskName.opening in
     let told = c.in_ok-receipt.ensures.answered in
     let receipt = c.in_ok-receipt.receipt in
-    let instance = c.in-Ok.instance in
-    let before : Counts → Type 0 = λ counts. Reached opening counts (λ h. instance ≡ instance_at h.state) in
-    let searched = subst before c.jobs-jobs.ensures.same c.in-Ok.ensures.read in
+    let question : Problem × ℕ = (c.in-Ok.instance, c.in-Ok.jobs) in
     let Q : Counts → Type 0 = λ counts. EndsIn opening (counts.calls + 1) (Spread c.in-Ok-spread_for.spread) receipt.answer in
-    let same = c.in-Ok.ensures.same ∙ c.jobs-jobs.ensures.same in
-    let answered = subst Q same (ends_in opening c.instance.new.pass (Spread c.in-Ok-spread_for.spread) receipt told) in
+    let answered = subst Q c.in-Ok.ensures.same (ends_in opening c.question.new.pass (Spread c.in-Ok-spread_for.spread) receipt told) in
     rw c.spread_attempted.ensures
-    (came_to_spread opening c.args.pass.now c.args.most_moves instance c.in-Ok-spread_for.spread receipt.answer (rw told.holds.answer (c.answers_fit.ensures told.history.state (Spread c.in-Ok-spread_for.spread)))
-    (record { searched = searched; found = c.in-Ok-spread_for.ensures; answered = answered }))
+    (came_to_spread opening c.args.pass.now c.args.slack c.args.most_moves question c.in-Ok-spread_for.spread receipt.answer (rw told.holds.answer (c.answers_fit.ensures told.history.state (Spread c.in-Ok-spread_for.spread)))
+    (record { searched = c.in-Ok.ensures.read; found = c.in-Ok-spread_for.ensures; answered = answered }))
