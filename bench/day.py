@@ -2,7 +2,7 @@
 """Memory over a day of a full fleet, as fast as it goes: day.py [HOURS [INTERVAL]]     (24 hours, a round each 2s)
 
 16,384 targets and 256 collectors. In each round of a minute each collector asks for its list once, and each target is reported once by
-its holder. The service keeps a journal and renews itself when that is full. As docs/SERVE.md has it, it is run with one arena of the C
+its holder. The service keeps a journal and renews itself when that is full. As docs/operate/SERVE.md has it, it is run with one arena of the C
 library; MALLOC_ARENA_MAX says another number. It needs the program (ALLOCD_PROGRAM, or dist/allocd)."""
 
 import http.client

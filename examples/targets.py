@@ -1,13 +1,13 @@
 #!/usr/bin/env python3
-"""What examples/serve.json discovers and its collectors scrape, on loopback: targets at ports 9101 to 9106, and a discovery source at 9100."""
+"""What examples/serve.json discovers and its collectors scrape, on loopback: targets at ports 9101 to 9107, and a discovery source at 9100."""
 
 import http.server
 import json
 import threading
 
 SOURCE = 9100
-TARGETS = range(9101, 9107)
-WEB = [{"targets": [f"127.0.0.1:{port}" for port in TARGETS if port > 9103], "labels": {"zone": "west"}}]
+TARGETS = range(9101, 9108)
+WEB = [{"targets": [f"127.0.0.1:{port}" for port in TARGETS if port > 9104], "labels": {"zone": "east"}}]
 
 
 class Served(http.server.BaseHTTPRequestHandler):

@@ -4,7 +4,7 @@ names. It follows names through imports, and stops at the types that the code de
 and of the kit's crates, which it lists. Comments, blank lines and imports are not counted.
 
 usage: scripts/count_definitions.py                prints the parts, a table for each claim
-       scripts/count_definitions.py --write FILE   writes them between the marks of a document (docs/TRUST.md)
+       scripts/count_definitions.py --write FILE   writes them between the marks of a document (docs/trust/TRUST.md)
 """
 import collections
 import pathlib

@@ -2,7 +2,7 @@
 """How the repository is tested, in numbers: for each crate its lines, its tests, its edits that must fail and its rows; and the stored runs of ./test.
 
 usage: scripts/count_tests.py                prints the table
-       scripts/count_tests.py --write FILE   writes it between the marks of a document (docs/TESTING.md)
+       scripts/count_tests.py --write FILE   writes it between the marks of a document (docs/trust/TESTING.md)
 """
 import pathlib
 import sys

@@ -1,13 +1,13 @@
 #!/usr/bin/env bash
 # Has headless Chromium take a picture of the service's page on examples/serve.json: try_browser.sh [PICTURE]
-# It needs Debian's packages chromium and curl, and ports 8080 and 9100 to 9106 of loopback.
+# The program is ALLOCD_PROGRAM, or what ./allocd runs. It needs Debian's packages chromium and curl, and ports 8080 and 9100 to 9107 of loopback.
 set -eu
 root=$(cd "$(dirname "$0")/.." && pwd)
-picture=$(realpath -m "${1:-$root/docs/page.png}")
+picture=$(realpath -m "${1:-$root/docs/operate/page.png}")
 python3 "$root/examples/targets.py" &
 targets=$!
 until curl -sf http://127.0.0.1:9100/targets > /dev/null; do sleep 0.1; done
-"$root/allocd" serve --config "$root/examples/serve.json" &
+"${ALLOCD_PROGRAM:-$root/allocd}" serve --config "$root/examples/serve.json" &
 service=$!
 trap 'kill $targets $service 2> /dev/null || true' EXIT
 for _ in $(seq 100); do

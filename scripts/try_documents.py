@@ -1,7 +1,8 @@
 #!/usr/bin/env python3
-"""Runs every command of README, docs/operate, CONFIG and RENEWAL that stands behind `$`, and compares what is shown below it: try_documents.py [DOCUMENT ..]
+"""Runs every command of README, docs/operate and RENEWAL that stands behind `$`, and compares what is shown below it: try_documents.py [DOCUMENT ..]
 
-The commands of a document run in order, in one shell and a folder of its own with a copy of README, docs, examples and scripts. `./allocd` and
+The exchanges of docs/operate/HTTP.md are left to try_http.py. The histories of docs/operate/EXAMPLES.md are replayed, and their answers compared with those
+that stand beside each event. The commands of a document run in order, in one shell and a folder of its own with a copy of README, docs, examples and scripts. `./allocd` and
 `allocd` are the program there (ALLOCD_PROGRAM, or dist/allocd). In what is shown `..` stands for any text. Commands behind `#` are for root on a
 machine of its own: they are counted, and scripts/try_package.sh, try_unit.sh and try_proxy.py try what they do.
 
@@ -10,6 +11,7 @@ and prometheus (for promtool), and leaves nothing behind."""
 
 import fcntl
 import glob
+import json
 import os
 import re
 import shutil
@@ -27,6 +29,8 @@ from told_rows import Teller
 NEEDED = {"bash": "bash", "curl": "curl", "jq": "jq", "promtool": "prometheus", "dpkg-deb": "dpkg", "sha256sum": "coreutils"}
 INSIDE = "ALLOCD_IN_A_NETWORK"
 LONGEST = 120
+# Sections of docs/operate/HTTP.md that scripts/try_http.py tries.
+OF_TRY_HTTP = ("Each with an answer", "A list that is acknowledged")
 tell = Teller()
 
 # Four collectors join, and the line of the third is changed.
@@ -36,6 +40,34 @@ DAMAGED = [
     """for name in a b c d; do curl -s --json "{\\"name\\":\\"$name\\",\\"reach\\":[]}" localhost:8080/collectors; done; sleep 5""",
     "sed -i '5s/join/Join/' allocator.journal",
 ]
+
+ENDED = "curl -s -X POST localhost:8080/-/quit; sleep 2"
+
+
+def written(path, value):
+    """The command that writes a value into a file, as JSON."""
+    return f"cat > {path} << 'END'\n{json.dumps(value)}\nEND"
+
+
+def config_of(jobs, collectors):
+    """A configuration of jobs without targets, and of collectors by name, each with what it joins with."""
+    return {
+        "scrape_configs": [{"job_name": name, **members} for name, members in jobs.items()],
+        "allocator": {"lifecycle": True, "settle": "1s", "collectors": [{"name": name, "reach": ANY, **members} for name, members in collectors.items()]},
+    }
+
+
+ANY = [{"allow": True, "test": "any"}]
+# A reload from the first to the second changes jobs and collectors in each way.
+BEFORE = config_of({name: {} for name in ("node", "redis", "cache", "web", "db", "mail", "queue", "proxy")}, {name: {} for name in "abd"})
+AFTER = config_of(
+    {"node": {"target_limit": 5}, **{name: {} for name in ("web", "db", "mail", "queue", "proxy", "api")}},
+    {"a": {"limits": {"node": 5}}, "b": {"reach": []}, "c": {}})
+FAULTY = {"scrape_configs": [
+    {"job_name": "node", "target_limit": "5"}, {"job_name": "api"}, {"job_name": "web", "relabel_configs": [{"action": "kep"}]},
+    {"job_name": "mail", "target_limt": 5}, {"job_name": "db", "params": []},
+]}
+UNFOLLOWED = {"scrape_configs": [{"job_name": "node", "sample_limit": 500}]}
 
 
 def commands(document):
@@ -70,7 +102,13 @@ def prepared():
         ("docs/operate/MONITOR.md", "Ask it"): readme(2),
         ("docs/operate/RUNBOOK.md", "What it says, and what to do"): readme(2),
         ("docs/operate/RUNBOOK.md", "A damaged journal"): ["curl -s -X POST localhost:8080/-/quit; sleep 1; rm -f allocator.journal*", *DAMAGED],
-        ("docs/RENEWAL.md", "An audit"): readme(4),
+        ("docs/understand/RENEWAL.md", "An audit"): readme(4),
+        ("docs/operate/SERVE.md", "The service"): readme(1),
+        ("docs/operate/SERVE.md", "The journal on disk"): [*readme(4)[2:], "cp allocator.journal shown.journal", ENDED, "cp shown.journal allocator.journal",
+                                                           "cp examples/default.json allocd.json", "echo 'no journal' > notes.txt"],
+        ("docs/operate/SERVE.md", "Another configuration"): [written("allocd.json", BEFORE), "allocd serve --config allocd.json & sleep 3", written("allocd.json", AFTER)],
+        ("docs/operate/SERVE.md", "Ending it"): [ENDED, written("allocd.json", config_of({"node": {}}, {"a": {}}))],
+        ("docs/operate/SERVE.md", "A configuration that is checked"): [written("faulty.json", FAULTY), written("allocd.json", UNFOLLOWED)],
     }
 
 
@@ -138,6 +176,7 @@ def furnish(folder, books):
     shutil.copy(PROGRAM, f"{folder}/dist/allocd")
     for path in (f"{folder}/allocd", f"{books}/bin/allocd"):
         os.symlink(f"{folder}/dist/allocd", path)
+    os.symlink(f"{folder}/scripts/allocd-supervise", f"{books}/bin/allocd-supervise")
 
 
 def tried(document):
@@ -150,6 +189,8 @@ def tried(document):
         begun = set()
         try:
             for section, command, shown in found:
+                if document == "docs/operate/HTTP.md" and section in OF_TRY_HTTP:
+                    continue
                 if section not in begun:
                     begun.add(section)
                     for hidden in prepared().get((document, section), []):
@@ -167,6 +208,27 @@ def tried(document):
         print(f"not run: {roots} commands of {document}, which are for root")
 
 
+def histories():
+    """Each history of docs/operate/EXAMPLES.md, with the answers that stand behind its events."""
+    lines = read(f"{ROOT}/docs/operate/EXAMPLES.md").split("\n")
+    name, answers = None, []
+    for line in lines:
+        begun = re.search(r"`\./allocd replay < (\S+)`", line)
+        name = begun.group(1) if begun else name
+        if name and line.startswith("    "):
+            answers += [answer for column in re.split(r"  +", line[4:])[1:2] for answer in column.split(", ")]
+        elif name and answers:
+            yield name, answers
+            name, answers = None, []
+
+
+def tried_histories():
+    for name, answers in histories():
+        with open(f"{ROOT}/{name}", "rb") as it:
+            found = subprocess.run([PROGRAM, "replay"], stdin=it, capture_output=True, text=True).stdout.split("\n")[:-1]
+        tell(f"docs/operate/EXAMPLES.md: {name}", found == answers, f"{found}, and not {answers}")
+
+
 def own_network():
     """Begins anew in a network of its own, where one can be made; there the loopback device is set up."""
     if INSIDE not in os.environ:
@@ -181,7 +243,7 @@ def own_network():
 
 
 def ports_are_free():
-    for port in (8080, *range(9100, 9107)):
+    for port in (8080, *range(9100, 9108)):
         with socket.socket() as it:
             if it.connect_ex(("127.0.0.1", port)) == 0:
                 return False
@@ -203,12 +265,14 @@ def main():
         return 2
     own_network()
     if not ports_are_free():
-        print("try_documents: the ports 8080 and 9100 to 9106 are not free, and no network of its own can be made", file=sys.stderr)
+        print("try_documents: the ports 8080 and 9100 to 9107 are not free, and no network of its own can be made", file=sys.stderr)
         return 2
     before = standing()
     pages = sorted(os.path.relpath(path, ROOT) for path in glob.glob(f"{ROOT}/docs/operate/*.md"))
-    for document in sys.argv[1:] or ["README.md", *pages, "docs/CONFIG.md", "docs/RENEWAL.md"]:
+    for document in sys.argv[1:] or ["README.md", *pages, "docs/understand/RENEWAL.md"]:
         tried(document)
+        if document == "docs/operate/EXAMPLES.md":
+            tried_histories()
     tell("nothing is left behind in the repository", standing() == before)
     return tell.end()
 

@@ -3,7 +3,7 @@
 
 usage: scripts/try_fetches.py [PART ..]     all parts where none is named; --parts prints their names
 
-The servers send bytes of this script's own. What is expected follows from RFC 9112 and docs/FORMATS.md: a target that gives no whole answer is down,
+The servers send bytes of this script's own. What is expected follows from RFC 9112 and docs/understand/FORMATS.md: a target that gives no whole answer is down,
 and a source that gives none keeps its list.
 """
 

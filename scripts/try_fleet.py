@@ -1,6 +1,6 @@
 #!/usr/bin/env python3
 """Three Prometheus servers share targets by `allocd serve`, their refreshes out of step, and things happen to them. Tells what was scraped by nobody
-and what by two, in target-seconds, and whether it is within what docs/SERVE.md says: try_fleet.py [ordered|free] [REFRESH SECONDS]
+and what by two, in target-seconds, and whether it is within what docs/operate/SERVE.md says: try_fleet.py [ordered|free] [REFRESH SECONDS]
 
 Each target logs each scrape. A gap is the time after a scrape and the interval in which nobody scrapes a target that is live; a double is the time in which two servers
 have it between their first and last scrape. It needs Debian's package prometheus and the program (ALLOCD_PROGRAM, or dist/allocd); it takes about eight minutes."""

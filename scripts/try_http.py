@@ -1,5 +1,5 @@
 #!/usr/bin/env python3
-"""Asks services what docs/HTTP.md shows in its parts with answers, and compares what they say with what stands there: try_http.py [PART ..]
+"""Asks services what docs/operate/HTTP.md shows in its parts with answers, and compares what they say with what stands there: try_http.py [PART ..]
 
 A line for each request, and what was said in place of what stands there. It needs the program (ALLOCD_PROGRAM, or dist/allocd), and no curl."""
 
@@ -27,7 +27,7 @@ PROMPT = "    $ curl "
 
 def exchanges(title):
     """The words of each `curl` of a part of the document, and the lines below it."""
-    with open(f"{ROOT}/docs/HTTP.md") as it:
+    with open(f"{ROOT}/docs/operate/HTTP.md") as it:
         part = it.read().split(f"### {title}\n")[1].split("\n## ")[0].split("\n### ")[0]
     for block in part.split(PROMPT)[1:]:
         line, *answer = block.rstrip().split("\n")

@@ -112,9 +112,9 @@ def prometheus(folder, port, service):
 
 def documents(metrics):
     """What the documents name, beside what the service has."""
-    table = set(METRIC.findall(text_of("docs/SERVE.md").split("| Metric | What |")[1].split("\n\n")[0]))
+    table = set(METRIC.findall(text_of("docs/operate/SERVE.md").split("| Metric | What |")[1].split("\n\n")[0]))
     monitor = text_of("docs/operate/MONITOR.md")
-    tell("each metric of docs/SERVE.md's table is one of the service", table <= metrics, table - metrics)
+    tell("each metric of docs/operate/SERVE.md's table is one of the service", table <= metrics, table - metrics)
     for name in ("docs/operate/MONITOR.md", "examples/dashboard.json", "examples/alerts.yml", "examples/alerts_test.yml"):
         named = set(METRIC.findall(text_of(name)))
         tell(f"each metric that {name} names is one of the service", named <= metrics, named - metrics)

@@ -2,7 +2,7 @@
 """Compares docs/operate/RUNBOOK.md with what the sources say: try_runbook.py
 
 Each text of a log line of the service's crates, each line by which it refuses to start, each line of the supervisor and each exit status is to have a
-row, with its level, and each row is to be one of them; and the table of log lines in docs/SERVE.md is to have the same lines."""
+row, with its level, and each row is to be one of them; and the table of log lines in docs/operate/SERVE.md is to have the same lines."""
 
 import os
 import re
@@ -17,7 +17,7 @@ CALL = re.compile(r"(?<![\w!])(log_info|log_warning|log_error|info!|warn!|error!
 LITERAL = re.compile(r'"((?:[^"\\]|\\.)*)"')
 # What stands in place of a text that changes.
 HOLE = ".."
-# Lines of the configuration's members, which docs/FORMATS.md has.
+# Lines of the configuration's members, which docs/understand/FORMATS.md has.
 OF_FORMATS = ("{path}: no JSON", "{path}: scrape_configs[", "{path}: {way}: not followed")
 
 
@@ -110,8 +110,8 @@ def runbook_lines():
 
 
 def serve_lines():
-    """Those of docs/SERVE.md, where WHY stands for a text that changes."""
-    for row in tables("docs/SERVE.md")["What it says of itself"]:
+    """Those of docs/operate/SERVE.md, where WHY stands for a text that changes."""
+    for row in tables("docs/operate/SERVE.md")["What it says of itself"]:
         if row[0] in ("info", "warn", "error", "info, warn where it is refused"):
             for level in re.findall(r"\b(info|warn|error)\b", row[0]):
                 for text in texts_of(row[1]):
@@ -147,14 +147,14 @@ def rows():
     supervisor = [texts_of(one[0])[0] for one in tables("docs/operate/RUNBOOK.md")["The supervisor"][1:]]
     yield row("each log line of the sources has a row in the runbook, with its level", unmatched(lines, runbook), len(lines) > 40)
     yield row("each row of the runbook is a log line of the sources", unmatched(runbook, lines), len(runbook) > 40)
-    yield row("each log line of the sources has a row in docs/SERVE.md", unmatched(lines, serve_as_told), len(serve) > 30)
-    yield row("each row of docs/SERVE.md is a log line of the sources", unmatched(serve_as_told, lines), len(serve) > 30)
+    yield row("each log line of the sources has a row in docs/operate/SERVE.md", unmatched(lines, serve_as_told), len(serve) > 30)
+    yield row("each row of docs/operate/SERVE.md is a log line of the sources", unmatched(serve_as_told, lines), len(serve) > 30)
     yield row("each line by which a start is refused has a row", unmatched(without(told), without(refusals)), len(told) > 10)
     yield row("each line of the supervisor has a row", unmatched(without(said), without(supervisor)), len(said) > 10)
     yield row("each row of the supervisor is a line of it", unmatched(without(supervisor), without(said)), len(supervisor) > 10)
-    statuses = {status for one in tables("docs/SERVE.md")["Ending it"] for status in re.findall(r"^\d+$", one[0])}
+    statuses = {status for one in tables("docs/operate/SERVE.md")["Ending it"] for status in re.findall(r"^\d+$", one[0])}
     written = {status for one in tables("docs/operate/RUNBOOK.md")["Exit statuses"] if one[1] == "`serve`" for status in re.findall(r"\d+", one[0])}
-    yield row("the exit statuses are those of docs/SERVE.md", sorted(statuses ^ written), statuses)
+    yield row("the exit statuses are those of docs/operate/SERVE.md", sorted(statuses ^ written), statuses)
 
 
 if __name__ == "__main__":

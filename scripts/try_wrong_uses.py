@@ -187,7 +187,7 @@ ROWS = [
     command("audit of a file that is not there", ["audit", "none.journal"], "none\\.journal: No such file or directory", status=3),
     command("audit of a folder", ["audit", "."], "\\.: Is a directory", status=3),
     # Documents that are no JSON, or another one.
-    config("YAML", b"scrape_configs:\n  - job_name: node\n", "YAML is not read: convert it, see docs/CONFIG\\.md"),
+    config("YAML", b"scrape_configs:\n  - job_name: node\n", "YAML is not read: convert it, see docs/operate/CONFIG\\.md"),
     config("a comma too many", b'{"scrape_configs": [\n  {"job_name": "a",}\n]}\n', "c\\.json.*line 2.* column 20"),
     config("an empty file", b"", "c\\.json.*(empty|nothing stands|line 1)"),
     config("a second document behind the first", json.dumps(GOOD).encode() + b"\n{}\n", "c\\.json.*line 2.* column 1"),
