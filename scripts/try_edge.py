@@ -566,6 +566,44 @@ def spreads(folder):
         tell("a slack above 1,000 is refused by name", "allocator.spread.slack: no whole number from 0 to 1000" in it.read())
 
 
+def spreads_by_job(folder):
+    both = [{"name": name, "reach": ANY} for name in "ab"]
+    jobs = [static("heavy", 4, spread=0), static("light", 20, 9100), static("fixed", 6, 9200, spread="off")]
+    loads = lambda: [tuple(len(held(service, job, name)) for name in "ab") for job in ("heavy", "light", "fixed")]
+    service = started(folder, jobs)
+    has(service, "allocd_allocation", 1)
+    fixed = held(service, "fixed")
+    tell("without `allocator.spread` a job's own says nothing", reloaded(service, config(jobs, collectors=both)) == 200)
+    time.sleep(1)
+    tell("and nothing moves", loads() == [(4, 0), (20, 0), (6, 0)], loads())
+    tell("with it", reloaded(service, config(jobs, collectors=both, spread={"slack": 0})) == 200)
+    number = lambda: service.figure("allocd_allocation")
+    comes(lambda: number() == 2, 20)
+    # what moves is given out once the collector that had it was given a list without it
+    even = comes(lambda: loads() == [(2, 2), (10, 10), (6, 0)], 20)
+    tell("each job that is by itself is even, and so are the others together", even, loads())
+    tell("a job that is off stays as it is", held(service, "fixed") == fixed)
+    tell("no more moves than that takes", service.figure("allocd_allocation_moved") == 12, service.figure("allocd_allocation_moved"))
+    told = [service.figure(f'allocd_collector_targets_{what}{{collector="a"}}') for what in ("even", "cap")]
+    tell("it does not tell the most even loads, but what a collector may have", told == [None, 18], told)
+    status, document = service.ask("GET", "/certificate")
+    judged = run(["check"], document.encode())
+    tell("its certificate is that of the best within the caps", (status, judged[0], judged[1][:4]) == (200, 0, b"best"), judged)
+    pages = json.loads(service.ask("GET", "/scrape_configs")[1])
+    tell("who collects is told nothing of it", set(pages) == {"heavy", "light", "fixed"} and not any("spread" in page for page in pages.values()))
+    together = [{name: value for name, value in job.items() if name != "spread"} for job in jobs]
+    tell("without the members", reloaded(service, config(together, collectors=both, spread={"slack": 0})) == 200)
+    even = comes(lambda: sum(a for a, _ in loads()) == sum(b for _, b in loads()) == 15, 20)
+    tell("all jobs are even together", even, loads())
+    for wrong in ("Off", -1, 1001, True, None, {"slack": 1}):
+        service.write(config([static("n", 1), static("m", 1, 9100, spread=wrong)], collectors=both))
+        status, told = service.ask("POST", "/-/reload")
+        tell(f"{wrong!r} is refused, by name", status == 500 and 'scrape_configs[1].spread: neither "off" nor a whole number from 0 to 1000' in told, (status, told))
+    ends(service)
+    status, out = run(["audit", f"{folder}/journal"])
+    tell("the journal is audited", status == 0, out.decode().strip().rpartition("\n")[2])
+
+
 def evens(folder):
     both = [{"name": name, "reach": ANY} for name in "ab"]
     jobs = [static("node", 7), static("web", 5, 9100)]
@@ -610,5 +648,5 @@ def evens_in_turn(folder):
 SOURCE = http.server.ThreadingHTTPServer(("127.0.0.1", 0), Source)
 SOURCE.daemon_threads = True
 threading.Thread(target=SOURCE.serve_forever, daemon=True).start()
-PARTS = (settings, relabels, reloads, uncovered, texts, figures, talks, requests, held_rows, stalls, rounds, rounds_kept, silences, yaml, acknowledge, spreads, evens, evens_in_turn)
+PARTS = (settings, relabels, reloads, uncovered, texts, figures, talks, requests, held_rows, stalls, rounds, rounds_kept, silences, yaml, acknowledge, spreads, spreads_by_job, evens, evens_in_turn)
 run_parts(PARTS, sys.argv[1:])

@@ -36,4 +36,5 @@ pub use reallocation::reallocate;
 pub use receipt::Receipt;
 pub use record::{EnterError, Record};
 pub use spread_attempt::SpreadError;
+pub use spread_engine::JobEvening;
 pub use view::{CollectorView, NumberedTarget, Share, View};

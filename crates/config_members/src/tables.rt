@@ -44,11 +44,12 @@ pub(crate) static GLOBAL_OTHERS: [&str; 19] = [
 ];
 
 /// Of a scrape config.
-pub(crate) static JOB_READ: [&str; 8] = [
+pub(crate) static JOB_READ: [&str; 9] = [
     "job_name",
     "metrics_path",
     "scheme",
     "target_limit",
+    "spread",
     "params",
     "static_configs",
     "http_sd_configs",

@@ -80,7 +80,7 @@ fn does<L: Ledger, B: Ledger, N: DeskName, R: Wait>(
             notes.ends(alloc, ended)
         }
         Step::Spread(tries, slack, most_moves) => {
-            let ended = desk.spread(rt, alloc, pass, tries, slack, most_moves);
+            let ended = desk.spread(rt, alloc, pass, tries, slack, &[], most_moves);
             notes.ends_spread(alloc, ended)
         }
         Step::IsChanged => {

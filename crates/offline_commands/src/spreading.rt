@@ -71,6 +71,7 @@ fn spread_of(
         instance,
         options.jobs,
         options.slack,
+        &[],
         options.most_moves,
     )?;
     let mut text = write_spread_document(alloc, instance, &spread)?;

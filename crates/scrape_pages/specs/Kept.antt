@@ -1,4 +1,4 @@
--- The members of a scrape config that its collectors follow: all but those that say how its targets are found and relabelled
+-- The members of a scrape config that its collectors follow: all but those that say how its targets are found, relabelled and spread
 -- (Prometheus's configuration documentation, `<scrape_config>`: `static_configs`, `relabel_configs`, and a list of service discovery
 -- configurations for each kind, `http_sd_configs` and `file_sd_configs` among them). `metric_relabel_configs` are followed.
 use Rattle.std.specs.Prelude.{ℕ, List, Bool, ◌||◌, nat_eq, codes, if◌then◌else◌}
@@ -8,7 +8,7 @@ use Rattle.serde_json.specs.Data.{Data, Members, no_members, member, put}
 
 abbrev pub is_done_here : List ℕ → Bool
 is_done_here name =
-    bytes_eq name (codes "relabel_configs") || bytes_eq name (codes "static_configs") || ends_with nat_eq name (codes "_sd_configs")
+    bytes_eq name (codes "relabel_configs") || bytes_eq name (codes "spread") || bytes_eq name (codes "static_configs") || ends_with nat_eq name (codes "_sd_configs")
 
 -- the others, as they are
 abbrev pub kept_of : Members → Members

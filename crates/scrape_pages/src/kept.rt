@@ -36,11 +36,12 @@ fn keep(
     put(others, alloc, name, copy)
 }
 
-/// Whether a member of this name says what is done before collectors have the targets: how they are found, and how relabelled.
+/// Whether a member of this name says what is done before collectors have the targets: how they are found, relabelled and spread.
 fn is_done_here(name: &str) -> bool
     ensures { result ≡ is_done_here_name name.now }
 {
     name == "relabel_configs"
+        || name == "spread"
         || name == "static_configs"
         || name.as_bytes().ends_with(b"_sd_configs")
 }

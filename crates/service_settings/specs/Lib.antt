@@ -15,5 +15,6 @@ pub mod Handover
 pub mod Acknowledge
 pub mod ReleaseAfter
 pub mod Spread
+pub mod JobSpread
 pub mod Settings
 pub mod Beside

@@ -4,7 +4,7 @@ use Rattle.std.specs.Fmt.{decimal}
 use Rattle.service_settings.specs.declared.error.SettingsError.{SettingsError}
 use Rattle.service_settings.specs.declared.error.SettingsError.TheVariants.{NotJson, Shape, Unknown, RepeatedCollector, Memory}
 use Rattle.service_settings.specs.declared.error.Member.{Member}
-use Rattle.service_settings.specs.declared.error.Member.TheVariants.{Document, Global, ScrapeInterval, ScrapeConfigs, ScrapeConfig, HttpSdConfigs, HttpSdConfig, RefreshInterval, Allocator, Listen, Lifecycle, Journal, Keep, Settle, GiveUp, Connections, Hosts, Host, Tokens, AdminTokens, CollectorTokens, OpenToAll, AllowNoJobs, Collectors, Collector, CollectorName, CollectorReach, CollectorLimits, JoinByAsking, JoiningPattern, Pattern, PatternReach, PatternLimits, ReachChanges, Rejoin, CollectorTimeout, Handover, Acknowledge, ReleaseAfter, Spread, Slack, MostMoves, FetchTimeout}
+use Rattle.service_settings.specs.declared.error.Member.TheVariants.{Document, Global, ScrapeInterval, ScrapeConfigs, ScrapeConfig, HttpSdConfigs, HttpSdConfig, RefreshInterval, JobSpread, Allocator, Listen, Lifecycle, Journal, Keep, Settle, GiveUp, Connections, Hosts, Host, Tokens, AdminTokens, CollectorTokens, OpenToAll, AllowNoJobs, Collectors, Collector, CollectorName, CollectorReach, CollectorLimits, JoinByAsking, JoiningPattern, Pattern, PatternReach, PatternLimits, ReachChanges, Rejoin, CollectorTimeout, Handover, Acknowledge, ReleaseAfter, Spread, Slack, MostMoves, FetchTimeout}
 
 -- without indices
 abbrev pub member_path : Member → List ℕ
@@ -16,6 +16,7 @@ member_path (ScrapeConfig job) = codes "scrape_configs"
 member_path (HttpSdConfigs job) = codes "scrape_configs"
 member_path (HttpSdConfig job entry) = codes "scrape_configs"
 member_path (RefreshInterval job entry) = codes "scrape_configs"
+member_path (JobSpread job) = codes "scrape_configs"
 member_path Allocator = codes "allocator"
 member_path Listen = codes "allocator.listen"
 member_path Lifecycle = codes "allocator.lifecycle"
@@ -58,6 +59,7 @@ member_text (ScrapeConfig job) = codes "scrape_configs[" ++ (decimal job ++ code
 member_text (HttpSdConfigs job) = codes "scrape_configs[" ++ (decimal job ++ codes "].http_sd_configs")
 member_text (HttpSdConfig job entry) = codes "scrape_configs[" ++ (decimal job ++ (codes "].http_sd_configs[" ++ (decimal entry ++ codes "]")))
 member_text (RefreshInterval job entry) = codes "scrape_configs[" ++ (decimal job ++ (codes "].http_sd_configs[" ++ (decimal entry ++ codes "].refresh_interval")))
+member_text (JobSpread job) = codes "scrape_configs[" ++ (decimal job ++ codes "].spread")
 member_text (Host index) = codes "allocator.hosts[" ++ (decimal index ++ codes "]")
 member_text (Collector index) = codes "allocator.collectors[" ++ (decimal index ++ codes "]")
 member_text (CollectorName index) = codes "allocator.collectors[" ++ (decimal index ++ codes "].name")
@@ -79,6 +81,7 @@ missing (ScrapeConfig job) = codes "no object"
 missing (HttpSdConfigs job) = codes "no list"
 missing (HttpSdConfig job entry) = codes "no object"
 missing (RefreshInterval job entry) = codes "no duration above 0"
+missing (JobSpread job) = codes "neither \"off\" nor a whole number from 0 to 1000"
 missing Allocator = codes "no object"
 missing Listen = codes "no address with a port"
 missing Lifecycle = codes "neither true nor false"

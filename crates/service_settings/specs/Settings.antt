@@ -8,6 +8,7 @@ use Rattle.service_settings.specs.declared.error.SettingsError.TheVariants.{Shap
 use Rattle.service_settings.specs.declared.error.Member.TheVariants as part
 use Rattle.service_settings.specs.declared.settings.Settings.{Settings}
 use Rattle.service_settings.specs.declared.settings.TheConstants.{DEFAULT_INTERVAL, DEFAULT_SETTLE, DEFAULT_KEEP, DEFAULT_GIVE_UP, DEFAULT_CONNECTIONS, DEFAULT_FETCH_TIMEOUT, DEFAULT_LISTEN}
+use Rattle.service_settings.specs.declared.settings.job_spread.JobSpread.{JobSpread}
 use Rattle.service_settings.specs.declared.settings.allocator.Housekeeping.{Housekeeping}
 use Rattle.service_settings.specs.declared.settings.allocator.Collecting.{Collecting}
 use Rattle.service_settings.specs.declared.settings.members.Kind.TheVariants as kind
@@ -21,6 +22,7 @@ use Rattle.service_settings.specs.Acknowledge.{acknowledge_said}
 use Rattle.service_settings.specs.JoiningPattern.{join_by_asking_said}
 use Rattle.service_settings.specs.ReleaseAfter.{release_after_said}
 use Rattle.service_settings.specs.Spread.{spread_said}
+use Rattle.service_settings.specs.JobSpread.{spreads_said}
 use Rattle.service_settings.specs.Members.{known_said}
 use Rattle.service_settings.specs.Reading.{◌>>=◌, json_said, member_at, duration_in, time_in, address_in, connections_in, said_or, said_or_none, object_said, items_said, each_from}
 
@@ -76,10 +78,11 @@ collecting_said allocator =
 
 -- ---- all of them
 
-abbrev pub settings_of : ℕ → List (List ℕ) → Housekeeping → Doors → Collecting → Settings
-settings_of scrape_interval refresh house doors fleet = record {
+abbrev pub settings_of : ℕ → List (List ℕ) → List JobSpread → Housekeeping → Doors → Collecting → Settings
+settings_of scrape_interval refresh spreads house doors fleet = record {
   scrape_interval = scrape_interval;
   refresh = refresh;
+  spreads = spreads;
   listen = house.listen;
   lifecycle = house.lifecycle;
   journal = house.journal;
@@ -105,11 +108,12 @@ abbrev pub members_said : Data → Result Settings SettingsError
 members_said d =
     scrape_interval_said d >>= λ scrape_interval.
     refresh_said d >>= λ refresh.
+    spreads_said d >>= λ spreads.
     known_said kind.Allocator part.Allocator (get (codes "allocator") d) >>= λ allocator.
     housekeeping_said allocator >>= λ house.
     doors_said allocator >>= λ doors.
     collecting_said allocator >>= λ fleet.
-    Ok (settings_of scrape_interval refresh house doors fleet)
+    Ok (settings_of scrape_interval refresh spreads house doors fleet)
 
 unfoldable pub settings_said : Data → Result Settings SettingsError
 settings_said d = if is_some (as_object d) then members_said d else Err (Shape part.Document)

@@ -30,6 +30,7 @@ pub enum Member {
     HttpSdConfigs(usize),
     HttpSdConfig(usize, usize),
     RefreshInterval(usize, usize),
+    JobSpread(usize),
     Allocator,
     Listen,
     Lifecycle,
@@ -122,6 +123,7 @@ impl Member {
             Member::RefreshInterval(job, entry) => {
                 format!(in alloc; "scrape_configs[{job}].http_sd_configs[{entry}].refresh_interval")
             }
+            Member::JobSpread(job) => format!(in alloc; "scrape_configs[{job}].spread"),
             Member::Host(index) => format!(in alloc; "allocator.hosts[{index}]"),
             Member::Collector(index) => format!(in alloc; "allocator.collectors[{index}]"),
             Member::CollectorName(index) => format!(in alloc; "allocator.collectors[{index}].name"),
@@ -159,7 +161,8 @@ impl Member {
             | Member::ScrapeConfig(_)
             | Member::HttpSdConfigs(_)
             | Member::HttpSdConfig(_, _)
-            | Member::RefreshInterval(_, _) => "scrape_configs",
+            | Member::RefreshInterval(_, _)
+            | Member::JobSpread(_) => "scrape_configs",
             Member::Allocator => "allocator",
             Member::Listen => "allocator.listen",
             Member::Lifecycle => "allocator.lifecycle",
@@ -221,6 +224,7 @@ impl Member {
             | Member::GiveUp
             | Member::CollectorTimeout
             | Member::FetchTimeout => "no duration above 0",
+            Member::JobSpread(_) => "neither \"off\" nor a whole number from 0 to 1000",
             Member::Settle => "no duration",
             Member::Listen => "no address with a port",
             Member::Acknowledge => "no host with a port",

@@ -11,6 +11,7 @@ mod collector_timeout;
 mod collectors;
 mod doors;
 mod handover;
+mod job_spread;
 mod joining_pattern;
 mod members;
 mod reach_changes;
@@ -27,6 +28,8 @@ pub use collectors::Collector;
 pub use doors::Doors;
 use doors::doors_in;
 pub use handover::Handover;
+pub use job_spread::JobSpread;
+use job_spread::spreads_in;
 pub use joining_pattern::{JoiningPattern, LONGEST_PATTERN};
 use lists::{List, Text};
 use members::{Kind, known_or_none};
@@ -64,6 +67,8 @@ pub struct Settings {
     pub scrape_interval: u64,
     /// How often each source is asked: for each job, in order, a length of time for each of its URLs. Above 0.
     pub refresh: List<List<u64>>,
+    /// How even the targets of each job are made, in order of the jobs, where loads are made even.
+    pub spreads: List<JobSpread>,
     /// Where HTTP is served.
     pub listen: Address,
     /// Whether HTTP may stop the service and make it read its configuration again.
@@ -125,26 +130,36 @@ fn settings_in(alloc: Global, document: &Value) -> Result<Settings, SettingsErro
     }
     let scrape_interval = scrape_interval_in(document)?;
     let refresh = refresh_in(alloc, document)?;
+    let spreads = spreads_in(alloc, document)?;
     let found = document.get("allocator");
     let allocator = known_or_none(alloc, Kind::Allocator, Member::Allocator, found)?;
     let housekeeping = housekeeping_in(alloc, allocator)?;
     let doors = doors_in(alloc, allocator)?;
     let collecting = collecting_in(alloc, allocator)?;
-    Ok(settings_of(scrape_interval, refresh, housekeeping, doors, collecting))
+    Ok(settings_of(
+        scrape_interval,
+        refresh,
+        spreads,
+        housekeeping,
+        doors,
+        collecting,
+    ))
 }
 
 fn settings_of(
     scrape_interval: u64,
     refresh: List<List<u64>>,
+    spreads: List<JobSpread>,
     housekeeping: Housekeeping,
     doors: Doors,
     collecting: Collecting,
 ) -> Settings
-    ensures { result ≡ settings_made scrape_interval refresh housekeeping doors collecting }
+    ensures { result ≡ settings_made scrape_interval refresh spreads housekeeping doors collecting }
 {
     Settings {
         scrape_interval,
         refresh,
+        spreads,
         listen: housekeeping.listen,
         lifecycle: housekeeping.lifecycle,
         journal: housekeeping.journal,

@@ -12,6 +12,7 @@ mod control;
 mod crew;
 mod differences;
 mod entering;
+mod evenings;
 mod evenness;
 mod failed_accepts;
 mod handovers;

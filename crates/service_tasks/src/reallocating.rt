@@ -50,8 +50,15 @@ impl<R: Wait + Copy, L: Ledger, B: Ledger, N: DeskName> Shared<R, L, B, N> {
     pub(crate) fn search(&self, pass: &mut Pass<L, B, N>) -> Result<Reallocated, NotReallocated> {
         match self.spread {
             Some(Spread { slack, most_moves }) => Ok(
-                self.desk
-                    .spread(&self.rt, self.alloc, pass, TRIES, slack, most_moves)?,
+                self.desk.spread(
+                    &self.rt,
+                    self.alloc,
+                    pass,
+                    TRIES,
+                    slack,
+                    self.by_job.as_slice(),
+                    most_moves,
+                )?,
             ),
             None => Ok(self.desk.reallocate(&self.rt, self.alloc, pass, TRIES)?),
         }

@@ -1,9 +1,10 @@
 //! What the threads of a desk share.
 use crate::control::{Control, Ending};
+use crate::evenings::evenings_of;
 use crate::office::Office;
 use crate::patience::Patience;
 use crate::service::Service;
-use alloc_desk::{Desk, DeskName};
+use alloc_desk::{Desk, DeskName, JobEvening};
 use service_settings::Spread;
 use service_state::{Kept, ServiceState};
 use std::alloc::{AllocError, Global};
@@ -24,6 +25,8 @@ pub struct Shared<R, L: Ledger, B: Ledger, N: DeskName> {
     pub(crate) settle: Duration,
     /// How even the collectors' loads are made, if they are.
     pub(crate) spread: Option<Spread>,
+    /// How each job is evened out then, by its place.
+    pub(crate) by_job: Vec<JobEvening>,
     /// How long a collector may ask for nothing.
     pub(crate) patience: Patience,
     /// Whether a collector of the configuration that is not live joins where its list is asked for.
@@ -52,6 +55,7 @@ impl<R: Wait + Copy, L: Ledger, B: Ledger, N: DeskName> Shared<R, L, B, N> {
     ) -> Result<Shared<R, L, B, N>, AllocError> {
         let state = Arc::try_clone(&office.state)?;
         let settings = &service.settings;
+        let by_job = evenings_of(alloc, settings.spreads.as_slice())?;
         Ok(Shared {
             rt: *rt,
             alloc,
@@ -59,6 +63,7 @@ impl<R: Wait + Copy, L: Ledger, B: Ledger, N: DeskName> Shared<R, L, B, N> {
             round: Duration::from_millis(settings.scrape_interval),
             settle: Duration::from_millis(settings.settle),
             spread: settings.spread,
+            by_job,
             patience: Patience::of(settings),
             rejoin: settings.rejoin,
             give_up: Duration::from_millis(settings.give_up),

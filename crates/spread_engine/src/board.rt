@@ -1,5 +1,6 @@
-//! Which pair has which bin while shifts are chosen, and how many items each collector has. Nothing depends on its being right: a shift
+//! Which pair has which bin while shifts are chosen, and how many items each group has. Nothing depends on its being right: a shift
 //! that may not be made is not made by `Witness`.
+use crate::groups::Groups;
 use crate::numbers::{NONE, count_of, decrease, increase, number_at, put, repeated};
 use price_certificate::Instance;
 use std::alloc::{AllocError, Global};
@@ -7,11 +8,11 @@ use std::alloc::{AllocError, Global};
 /// The bins of pairs, which shift. A pair is named by its place in the list that it began with.
 #[derive(Drop)]
 pub(crate) struct Board {
-    /// The collector of each bin, `NONE` where it drains.
-    pub(crate) owners: Vec<u32>,
+    /// The group of each bin, `NONE` where its items do not count.
+    owners: Vec<u32>,
     /// How many more items each bin may have.
     rooms: Vec<u32>,
-    /// How many items each collector has at bins that do not drain.
+    /// How many items each group has.
     pub(crate) loads: Vec<u32>,
     /// The item and the bin of each place.
     pub(crate) items: Vec<u32>,
@@ -24,48 +25,27 @@ pub(crate) struct Board {
     pub(crate) shifts: Vec<(u32, u32)>,
 }
 
-/// The collector of each bin, where a collector has so many bins in a row; `NONE` where the bin drains.
-pub(crate) fn owners_of(
-    alloc: Global,
-    instance: &Instance,
-    jobs: u32,
-) -> Result<Vec<u32>, AllocError> {
-    let mut owners = repeated(alloc, NONE, instance.bins())?;
-    for bin in 0..instance.bins() {
-        if !instance.drains(bin) {
-            let bin = bin as u32;
-            put(&mut owners, bin, bin.checked_div(jobs).unwrap_or(NONE));
-        }
-    }
-    Ok(owners)
-}
-
-/// How many collectors there are, where each but the last has so many bins.
-pub(crate) fn collectors_of(instance: &Instance, jobs: u32) -> usize {
-    instance.bins().div_ceil((jobs as usize).max(1))
-}
-
-/// How many items each collector has at bins that do not drain.
+/// How many items each of so many groups has.
 pub(crate) fn loads_of(
     alloc: Global,
     owners: &[u32],
-    collectors: usize,
+    groups: usize,
     pairs: &[(u32, u32)],
 ) -> Result<Vec<u32>, AllocError> {
-    let mut loads = repeated(alloc, 0, collectors)?;
+    let mut loads = repeated(alloc, 0, groups)?;
     for pair in pairs {
         increase(&mut loads, number_at(owners, pair.1));
     }
     Ok(loads)
 }
 
-fn empty_board(alloc: Global, instance: &Instance, jobs: u32) -> Result<Board, AllocError> {
+fn empty_board(alloc: Global, instance: &Instance, groups: &Groups) -> Result<Board, AllocError> {
     let bins = instance.bins();
     let items = instance.items();
     Ok(Board {
-        owners: owners_of(alloc, instance, jobs)?,
+        owners: Vec::from_slice(alloc, groups.owners.as_slice())?,
         rooms: repeated(alloc, 0, bins)?,
-        loads: repeated(alloc, 0, collectors_of(instance, jobs))?,
+        loads: repeated(alloc, 0, groups.count())?,
         items: Vec::with_capacity(alloc, items)?,
         seats: Vec::with_capacity(alloc, items)?,
         firsts: repeated(alloc, NONE, bins)?,
@@ -76,14 +56,14 @@ fn empty_board(alloc: Global, instance: &Instance, jobs: u32) -> Result<Board, A
 }
 
 impl Board {
-    /// These pairs of the instance, where a collector has so many bins in a row.
+    /// These pairs of the instance.
     pub(crate) fn new(
         alloc: Global,
         instance: &Instance,
-        jobs: u32,
+        groups: &Groups,
         pairs: &[(u32, u32)],
     ) -> Result<Board, AllocError> {
-        let mut board = empty_board(alloc, instance, jobs)?;
+        let mut board = empty_board(alloc, instance, groups)?;
         for bin in 0..instance.bins() {
             put(&mut board.rooms, bin as u32, instance.capacity(bin) as u32);
         }
@@ -161,8 +141,8 @@ impl Board {
         number_at(self.owners.as_slice(), bin)
     }
 
-    pub(crate) fn load(&self, collector: u32) -> u32 {
-        number_at(self.loads.as_slice(), collector)
+    pub(crate) fn load(&self, group: u32) -> u32 {
+        number_at(self.loads.as_slice(), group)
     }
 
     pub(crate) fn has_room(&self, bin: u32) -> bool {

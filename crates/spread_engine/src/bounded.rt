@@ -1,14 +1,16 @@
-//! Shifts until no collector has more items than it may.
+//! Shifts until no group has more items than it may.
 use crate::board::Board;
+use crate::groups::Groups;
+use crate::numbers::{count_of, number_at};
 use crate::ways::Search;
 use price_certificate::Instance;
 use std::alloc::{AllocError, Global};
 
-/// So many percent more than each of these, rounded up.
-fn bounds_over(alloc: Global, loads: &[u32], slack: u32) -> Result<Vec<u32>, AllocError> {
+/// For each group as many percent more than this load as its slack has, rounded up.
+fn bounds_over(alloc: Global, groups: &Groups, loads: &[u32]) -> Result<Vec<u32>, AllocError> {
     let mut bounds = Vec::with_capacity(alloc, loads.len())?;
-    for load in loads {
-        bounds.push(bound_over(*load, slack))?;
+    for group in 0..count_of(loads) {
+        bounds.push(bound_over(number_at(loads, group), groups.slack(group)))?;
     }
     Ok(bounds)
 }
@@ -18,20 +20,19 @@ fn bound_over(load: u32, slack: u32) -> u32 {
     u32::try_from(parts.div_ceil(100)).unwrap_or(u32::MAX)
 }
 
-/// Shifts of these pairs, each a place and its new bin, after which no collector has more items than its even load and so many percent of
-/// it, as far as shifts lead there. A collector has so many bins in a row.
+/// Shifts of these pairs, each a place and its new bin, after which no group has more items than its even load and its slack of it, as far
+/// as shifts lead there.
 pub(crate) fn shifts_within(
     alloc: Global,
     instance: &Instance,
-    jobs: u32,
+    groups: &Groups,
     pairs: &[(u32, u32)],
     even: &[u32],
-    slack: u32,
 ) -> Result<Vec<(u32, u32)>, AllocError> {
-    let bounds = bounds_over(alloc, even, slack)?;
-    let mut board = Board::new(alloc, instance, jobs, pairs)?;
+    let bounds = bounds_over(alloc, groups, even)?;
+    let mut board = Board::new(alloc, instance, groups, pairs)?;
     board.shift_into_bounds(instance, bounds.as_slice())?;
-    let mut search = Search::new(alloc, instance, jobs, &board)?;
+    let mut search = Search::new(alloc, instance, groups, &board)?;
     let _ = search.lower_all(instance, &mut board, bounds.as_slice())?;
     let Board { shifts, .. } = board;
     Ok(shifts)

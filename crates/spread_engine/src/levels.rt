@@ -1,9 +1,10 @@
 //! Levels and prices that are to show that pairs are the most even. Whoever publishes them judges them.
-ghost use Rattle.std.specs.Prelude.{IfOk};
+ghost use Rattle.std.specs.Prelude.{IfOk, IfSome};
 ghost use Rattle.spread_engine.specs.Telling.{IsTold};
 
-use crate::board::{loads_of, owners_of};
+use crate::board::loads_of;
 use crate::evenest::Evenest;
+use crate::groups::Groups;
 use crate::numbers::{NONE, count_of, number_at, put, repeated};
 use crate::prices::{Prices, prices_over};
 use lists::List;
@@ -11,7 +12,7 @@ use price_certificate::Instance;
 use spread_certificate::Even;
 use std::alloc::{AllocError, Global};
 
-/// The level of each bin's collector, and this one where the bin drains.
+/// The level of each bin's group, and this one where the bin drains.
 fn heights_of(
     alloc: Global,
     owners: &[u32],
@@ -43,13 +44,34 @@ fn witness_beside(
     Ok(Some(List::from_vec(pairs)))
 }
 
-/// What is to show that these are the most even pairs, beside a plan of which no collector has more than these and so much of a hundred
-/// besides.
-pub(crate) fn even_beside(
+/// What is to show that these are the most even pairs, beside a plan, where each collector is one group. Else nothing could be shown: its
+/// form has one level for all of a collector's bins.
+pub(crate) fn even_if_shown(
     alloc: Global,
     instance: &Instance,
     jobs: u32,
     slack: u32,
+    groups: &Groups,
+    evenest: Evenest,
+    plan: &[(u32, u32)],
+) -> Result<Option<Even>, AllocError>
+    ensures { IfOk result (λ o. IfSome o (IsTold jobs slack)) }
+{
+    if !groups.are_collectors() {
+        return Ok(None);
+    }
+    let even = even_beside(alloc, instance, jobs, slack, groups, evenest, plan)?;
+    Ok(Some(even))
+}
+
+/// What is to show that these are the most even pairs, beside a plan of which no collector has more than these and so much of a hundred
+/// besides.
+fn even_beside(
+    alloc: Global,
+    instance: &Instance,
+    jobs: u32,
+    slack: u32,
+    groups: &Groups,
     evenest: Evenest,
     plan: &[(u32, u32)],
 ) -> Result<Even, AllocError>
@@ -61,11 +83,11 @@ pub(crate) fn even_beside(
         levels,
     } = evenest;
     let keep = levels.iter().copied().max().unwrap_or(0).saturating_add(1);
-    let owners = owners_of(alloc, instance, jobs)?;
-    let heights = heights_of(alloc, owners.as_slice(), levels.as_slice(), keep)?;
+    let owners = groups.owners.as_slice();
+    let heights = heights_of(alloc, owners, levels.as_slice(), keep)?;
     let prices = prices_over(alloc, instance, pairs.as_slice(), heights.as_slice(), keep)?;
     let Prices { of_items, of_bins } = prices;
-    let witness = witness_beside(alloc, owners.as_slice(), plan, loads.as_slice(), pairs)?;
+    let witness = witness_beside(alloc, owners, plan, loads.as_slice(), pairs)?;
     Ok(Even {
         jobs,
         slack,

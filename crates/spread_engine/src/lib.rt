@@ -5,6 +5,7 @@ mod board;
 mod bounded;
 mod evenest;
 mod free;
+mod groups;
 mod levels;
 mod numbers;
 mod prices;
@@ -13,4 +14,5 @@ mod straight;
 mod ways;
 mod witness;
 
+pub use groups::JobEvening;
 pub use spreading::spread_plan;

@@ -1,5 +1,6 @@
 //! Prices that are to certify pairs, guessed in one look at each pair. Whoever uses them judges them.
 use crate::board::Board;
+use crate::groups::Groups;
 use crate::numbers::{NONE, count_of, is_marked, mark, number_at, put, repeated};
 use price_certificate::Instance;
 use std::alloc::{AllocError, Global};
@@ -123,7 +124,7 @@ pub(crate) fn prices_over(
     heights: &[u32],
     top: u32,
 ) -> Result<Prices, AllocError> {
-    let board = Board::new(alloc, instance, 0, pairs)?;
+    let board = Board::new(alloc, instance, &Groups::none(alloc), pairs)?;
     let mut raised = Vec::from_slice(alloc, heights)?;
     raise_uncovered(alloc, instance, &board, &mut raised, top)?;
     flood(alloc, instance, &board, &mut raised)?;

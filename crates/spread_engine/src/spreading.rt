@@ -1,5 +1,5 @@
 //! A plan within caps that cost no coverage, and what is to show it.
-ghost use Rattle.std.specs.Prelude.{◌≡◌, ◌≤◌, ℕ, None, IfOk, IfSome, length, map};
+ghost use Rattle.std.specs.Prelude.{◌≡◌, ◌≤◌, ℕ, None, Some, IfOk, IfSome, length, map};
 ghost use Rattle.std.specs.List.Sorted.{IsStrictlyIncreasing};
 ghost use Rattle.price_certificate.specs.Assignment.{IsFeasible, IsOptimal};
 ghost use Rattle.price_certificate.specs.Certificate.{IsCertified};
@@ -12,7 +12,8 @@ ghost use Rattle.spread_engine.specs.Witness.{AreNear, MovesFew};
 use crate::bounded::shifts_within;
 use crate::evenest::evenest_from;
 use crate::free::free_plan;
-use crate::levels::even_beside;
+use crate::groups::{Groups, JobEvening};
+use crate::levels::even_if_shown;
 use crate::witness::Witness;
 use assign_engine::solve;
 use lists::List;
@@ -21,13 +22,15 @@ use spread_certificate::{Even, Spread, check_even};
 use std::alloc::{AllocError, Global};
 
 /// Finds caps that even out what collectors have, and the best plan within them. It covers as many items as any feasible
-/// assignment, and of those that do leaves the fewest. A collector has `jobs` bins in a row, and may have `slack` percent more items
-/// than where the loads are the most even, rounded up. At most so many items move for that.
+/// assignment, and of those that do leaves the fewest. A collector has `jobs` bins in a row, a bin for each job. What it has of the jobs that
+/// are evened out together may be `slack` percent more than where the loads are the most even, rounded up. How each job is evened out
+/// is told by its place; a job of which nothing is told is evened out together with others. At most so many items move for that.
 pub fn spread_plan(
     alloc: Global,
     instance: &Instance,
     jobs: u32,
     slack: u32,
+    by_job: &[JobEvening],
     most_moves: Option<u32>,
 ) -> Result<Spread, AllocError>
     ensures caps { IfOk result (λ s. AreCaps instance.now s.caps) }
@@ -41,14 +44,14 @@ pub fn spread_plan(
 {
     instance.is_problem();
     let (start, _work) = solve(alloc, instance)?;
-    let evenest = evenest_from(alloc, instance, jobs, start.pairs.as_slice())?;
+    let groups = Groups::new(alloc, instance, jobs, slack, by_job)?;
+    let evenest = evenest_from(alloc, instance, &groups, start.pairs.as_slice())?;
     let shifts = shifts_within(
         alloc,
         instance,
-        jobs,
+        &groups,
         start.pairs.as_slice(),
         evenest.loads.as_slice(),
-        slack,
     )?;
     let caps = caps_after(
         alloc,
@@ -58,7 +61,7 @@ pub fn spread_plan(
     )?;
     let spread = spread_into(alloc, instance, caps, start)?;
     let pairs = spread.plan.pairs.as_slice();
-    let even = even_beside(alloc, instance, jobs, slack, evenest, pairs)?;
+    let even = even_if_shown(alloc, instance, jobs, slack, &groups, evenest, pairs)?;
     let shown = with_even(alloc, instance, spread, even)?;
     Ok(shown)
 }
@@ -143,22 +146,22 @@ fn spread_into(
     })
 }
 
-/// The spread with what shows how even it is, where the judge finds no fault in that.
+/// The spread with what shows how even it is, if there is something and the judge finds no fault in it.
 fn with_even(
     alloc: Global,
     instance: &Instance,
     spread: Spread,
-    even: Even,
+    even: Option<Even>,
 ) -> Result<Spread, AllocError>
     requires best { best_fault instance.now spread ≡ None }
     requires feasible { IsFeasible instance.now spread.plan.pairs }
     ensures judged { IfOk result (λ s. spread_fault instance.now s ≡ None) }
-    ensures told { IfOk result (λ s. IfSome s.even (λ e. e ≡ even)) }
+    ensures told { IfOk result (λ s. IfSome s.even (λ e. even ≡ Some e)) }
     ensures caps { IfOk result (λ s. s.caps ≡ spread.caps) }
     ensures plan { IfOk result (λ s. s.plan ≡ spread.plan) }
     ensures free { IfOk result (λ s. (s.free_item_prices ≡ spread.free_item_prices) × (s.free_bin_prices ≡ spread.free_bin_prices)) }
 {
-    let shown = telling(spread, Some(even));
+    let shown = telling(spread, even);
     match check_even(alloc, instance, &shown)? {
         None => Ok(shown),
         Some(_) => Ok(telling(shown, None)),

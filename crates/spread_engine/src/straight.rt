@@ -1,4 +1,4 @@
-//! Straight shifts: each item once, from where it is to the bin of the collector that has the fewest, or that has the most room.
+//! Straight shifts: each item once, from where it is to the bin of the group that has the fewest, or that has the most room.
 use crate::board::Board;
 use crate::numbers::{NONE, count_of, number_at};
 use price_certificate::Instance;
@@ -8,7 +8,7 @@ use std::alloc::AllocError;
 const MOST_PASSES: usize = 16;
 
 impl Board {
-    /// Shifts items to lighter collectors, until no item has one of its own.
+    /// Shifts items to lighter groups, until no item has one of its own.
     pub(crate) fn shift_to_lighter(&mut self, instance: &Instance) -> Result<(), AllocError> {
         for _ in 0..MOST_PASSES {
             let before = self.shifts.len();
@@ -29,7 +29,7 @@ impl Board {
         Ok(())
     }
 
-    /// The bin for the item of a place whose collector has the fewest items, at least two fewer than the one that it is at.
+    /// The bin for the item of a place whose group has the fewest items, at least two fewer than the one that it is at.
     fn lightest(&self, instance: &Instance, place: u32) -> Option<u32> {
         let from = self.owner(self.bin_of(place));
         if from == NONE {
@@ -47,7 +47,7 @@ impl Board {
         best
     }
 
-    /// Shifts items off the collectors that have more than they may.
+    /// Shifts items off the groups that have more than they may.
     pub(crate) fn shift_into_bounds(
         &mut self,
         instance: &Instance,
@@ -61,12 +61,12 @@ impl Board {
         Ok(())
     }
 
-    /// How many items more a collector may have.
-    fn spare(&self, bounds: &[u32], collector: u32) -> u32 {
-        number_at(bounds, collector).saturating_sub(self.load(collector))
+    /// How many items more a group may have.
+    fn spare(&self, bounds: &[u32], group: u32) -> u32 {
+        number_at(bounds, group).saturating_sub(self.load(group))
     }
 
-    /// The bin for the item of a place whose collector may have the most items more, where the one that it is at has too many.
+    /// The bin for the item of a place whose group may have the most items more, where the one that it is at has too many.
     fn roomiest(&self, instance: &Instance, bounds: &[u32], place: u32) -> Option<u32> {
         let from = self.owner(self.bin_of(place));
         if from == NONE || self.load(from) <= number_at(bounds, from) {

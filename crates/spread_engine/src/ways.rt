@@ -1,6 +1,7 @@
-//! Ways over several collectors, from those that have more items than they may to those that have fewer: an item of the one goes to a second,
+//! Ways over several groups, from those that have more items than they may to those that have fewer: an item of the one goes to a second,
 //! an item of the second to a third. They are found many at a time: levels first, by breadth, and then ways along the levels, by depth.
 use crate::board::Board;
+use crate::groups::Groups;
 use crate::numbers::{NONE, count_of, increase, is_marked, mark, number_at, put, repeated};
 use price_certificate::Instance;
 use std::alloc::{AllocError, Global};
@@ -11,18 +12,18 @@ const MOST_LOOKS: u64 = 1 << 32;
 /// What a search knows. A bin gives an item away that goes to a bin of the next level.
 #[derive(Drop)]
 pub(crate) struct Search {
-    /// How many bins in a row a collector has.
-    jobs: u32,
-    /// The collectors that are left alone.
+    /// The first bin that may be one of each group, and the one after the last.
+    rows: Vec<(u32, u32)>,
+    /// The groups that are left alone.
     pub(crate) closed: Vec<bool>,
-    /// The level of each bin that is to give an item away, and of each collector of which any bin may.
+    /// The level of each bin that is to give an item away, and of each group of which any bin may.
     levels: Vec<u32>,
     pub(crate) opened: Vec<u32>,
     /// Which bins were looked at as one to go to.
     seen: Vec<bool>,
     /// The bins that are to give an item away, in order of levels.
     queue: Vec<u32>,
-    /// Where each bin, each place and each collector goes on to be looked at: at a place, at one of its item's bins, at a bin.
+    /// Where each bin, each place and each group goes on to be looked at: at a place, at one of its item's bins, at a bin.
     turns: Vec<u32>,
     arcs: Vec<u32>,
     doors: Vec<u32>,
@@ -41,29 +42,44 @@ enum Step {
     Next,
 }
 
+fn rows_of(alloc: Global, groups: &Groups) -> Result<Vec<(u32, u32)>, AllocError> {
+    let mut rows = Vec::with_capacity(alloc, groups.count())?;
+    for group in 0..groups.count() {
+        rows.push(groups.row(u32::try_from(group).unwrap_or(NONE)))?;
+    }
+    Ok(rows)
+}
+
 impl Search {
     pub(crate) fn new(
         alloc: Global,
         instance: &Instance,
-        jobs: u32,
+        groups: &Groups,
         board: &Board,
     ) -> Result<Search, AllocError> {
         let bins = instance.bins();
         let places = board.seats.len();
-        let collectors = board.loads.len();
         Ok(Search {
-            jobs,
-            closed: vec![in alloc; false; collectors]?,
+            rows: rows_of(alloc, groups)?,
+            closed: vec![in alloc; false; groups.count()]?,
             levels: repeated(alloc, NONE, bins)?,
-            opened: repeated(alloc, NONE, collectors)?,
+            opened: repeated(alloc, NONE, groups.count())?,
             seen: vec![in alloc; false; bins]?,
             queue: Vec::with_capacity(alloc, bins)?,
             turns: repeated(alloc, NONE, bins)?,
             arcs: repeated(alloc, 0, places)?,
-            doors: repeated(alloc, 0, collectors)?,
+            doors: repeated(alloc, 0, groups.count())?,
             stack: Vec::with_capacity(alloc, bins)?,
             looks: 0,
         })
+    }
+
+    /// The first bin that may be one of a group, and the one after the last.
+    fn row(&self, group: u32) -> (u32, u32) {
+        match self.rows.get(group as usize) {
+            Some(row) => *row,
+            None => (0, 0),
+        }
     }
 
     fn look(&mut self, many: usize) {
@@ -85,12 +101,9 @@ impl Search {
         for bin in 0..count_of(self.turns.as_slice()) {
             put(&mut self.turns, bin, board.first(bin));
         }
-        for collector in 0..count_of(self.doors.as_slice()) {
-            put(
-                &mut self.doors,
-                collector,
-                collector.saturating_mul(self.jobs),
-            );
+        for group in 0..count_of(self.doors.as_slice()) {
+            let (first, _) = self.row(group);
+            put(&mut self.doors, group, first);
         }
         let tables = self.turns.len().saturating_add(self.arcs.len());
         self.look(tables);
@@ -105,39 +118,38 @@ impl Search {
         Ok(())
     }
 
-    /// Some bin of a collector is to give an item away.
-    fn open(&mut self, board: &Board, collector: u32, level: u32) -> Result<(), AllocError> {
-        if number_at(self.opened.as_slice(), collector) != NONE {
+    /// Some bin of a group is to give an item away.
+    fn open(&mut self, board: &Board, group: u32, level: u32) -> Result<(), AllocError> {
+        if number_at(self.opened.as_slice(), group) != NONE {
             return Ok(());
         }
-        put(&mut self.opened, collector, level);
-        let first = collector.saturating_mul(self.jobs);
-        for bin in first..first.saturating_add(self.jobs) {
-            if board.owner(bin) == collector {
+        put(&mut self.opened, group, level);
+        let (first, end) = self.row(group);
+        for bin in first..end {
+            if board.owner(bin) == group {
                 self.open_bin(bin, level)?;
             }
         }
         Ok(())
     }
 
-    /// Opens the collectors that have more than they may, and says whether there is one.
+    /// Opens the groups that have more than they may, and says whether there is one.
     fn open_full(&mut self, board: &Board, bounds: &[u32]) -> Result<bool, AllocError> {
-        for collector in 0..count_of(self.opened.as_slice()) {
-            if self.has_too_many(board, bounds, collector) {
-                self.open(board, collector, 0)?;
+        for group in 0..count_of(self.opened.as_slice()) {
+            if self.has_too_many(board, bounds, group) {
+                self.open(board, group, 0)?;
             }
         }
         Ok(!self.queue.is_empty())
     }
 
-    fn has_too_many(&self, board: &Board, bounds: &[u32], collector: u32) -> bool {
-        !is_marked(self.closed.as_slice(), collector)
-            && board.load(collector) > number_at(bounds, collector)
+    fn has_too_many(&self, board: &Board, bounds: &[u32], group: u32) -> bool {
+        !is_marked(self.closed.as_slice(), group) && board.load(group) > number_at(bounds, group)
     }
 
-    /// Whether items may go to bins of a collector at all.
-    fn is_of_use(&self, collector: u32) -> bool {
-        collector != NONE && !is_marked(self.closed.as_slice(), collector)
+    /// Whether items may go to bins of a group at all.
+    fn is_of_use(&self, group: u32) -> bool {
+        group != NONE && !is_marked(self.closed.as_slice(), group)
     }
 
     /// Looks at the bins where an item could go, and says whether one is the end of a way.
@@ -237,17 +249,18 @@ impl Search {
             && number_at(self.turns.as_slice(), bin) != NONE
     }
 
-    /// The bin of a collector of this level that gives the next item away.
-    fn door(&mut self, board: &Board, collector: u32, level: u32) -> Option<u32> {
-        for _ in 0..self.jobs {
-            let bin = number_at(self.doors.as_slice(), collector);
-            if board.owner(bin) == collector && self.is_open(bin, level) {
-                return Some(bin);
-            }
-            if (bin / self.jobs.max(1)) != collector {
+    /// The bin of a group of this level that gives the next item away.
+    fn door(&mut self, board: &Board, group: u32, level: u32) -> Option<u32> {
+        let (first, end) = self.row(group);
+        for _ in first..end {
+            let bin = number_at(self.doors.as_slice(), group);
+            if bin >= end {
                 break;
             }
-            increase(&mut self.doors, collector);
+            if board.owner(bin) == group && self.is_open(bin, level) {
+                return Some(bin);
+            }
+            increase(&mut self.doors, group);
         }
         None
     }
@@ -317,17 +330,17 @@ impl Search {
         Ok(false)
     }
 
-    /// Finds a way from a collector, depth first along the levels, and says whether there is one. The way stands on the stack.
+    /// Finds a way from a group, depth first along the levels, and says whether there is one. The way stands on the stack.
     fn find_way(
         &mut self,
         instance: &Instance,
         board: &Board,
         bounds: &[u32],
-        collector: u32,
+        group: u32,
     ) -> Result<bool, AllocError> {
         self.stack.clear();
         for _ in 0..MOST_LOOKS {
-            let Some(bin) = self.last_bin(board, collector) else {
+            let Some(bin) = self.last_bin(board, group) else {
                 return Ok(false);
             };
             if self.is_over() {
@@ -344,11 +357,11 @@ impl Search {
         Ok(false)
     }
 
-    /// The last bin of the way, or one of the collector where it begins.
-    fn last_bin(&mut self, board: &Board, collector: u32) -> Option<u32> {
+    /// The last bin of the way, or one of the group where it begins.
+    fn last_bin(&mut self, board: &Board, group: u32) -> Option<u32> {
         match self.stack.last().copied() {
             Some(bin) => Some(bin),
-            None => self.door(board, collector, 0),
+            None => self.door(board, group, 0),
         }
     }
 
@@ -366,17 +379,17 @@ impl Search {
         Ok(())
     }
 
-    /// Shifts along ways from a collector until it has no more items than it may, or there is no way.
+    /// Shifts along ways from a group until it has no more items than it may, or there is no way.
     fn lower(
         &mut self,
         instance: &Instance,
         board: &mut Board,
         bounds: &[u32],
-        collector: u32,
+        group: u32,
     ) -> Result<(), AllocError> {
         for _ in 0..instance.items() {
-            if !self.has_too_many(board, bounds, collector)
-                || !self.find_way(instance, board, bounds, collector)?
+            if !self.has_too_many(board, bounds, group)
+                || !self.find_way(instance, board, bounds, group)?
             {
                 break;
             }
@@ -385,8 +398,8 @@ impl Search {
         Ok(())
     }
 
-    /// Shifts along ways until no collector has more items than it may, or none of those that do can be lowered; the collectors that the
-    /// last search came to are opened then. Says whether a collector still has too many.
+    /// Shifts along ways until no group has more items than it may, or none of those that do can be lowered; the groups that the
+    /// last search came to are opened then. Says whether a group still has too many.
     pub(crate) fn lower_all(
         &mut self,
         instance: &Instance,
@@ -401,9 +414,9 @@ impl Search {
             if self.is_over() || !self.find_levels(instance, board, bounds)? {
                 break;
             }
-            for collector in 0..count_of(self.opened.as_slice()) {
-                if self.has_too_many(board, bounds, collector) {
-                    self.lower(instance, board, bounds, collector)?;
+            for group in 0..count_of(self.opened.as_slice()) {
+                if self.has_too_many(board, bounds, group) {
+                    self.lower(instance, board, bounds, group)?;
                 }
             }
         }

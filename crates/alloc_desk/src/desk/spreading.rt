@@ -14,7 +14,7 @@ use allocation_core::{Core, Event, answers_fit};
 use fleet::JobSpec;
 use price_certificate::Instance;
 use spread_certificate::Spread;
-use spread_engine::spread_plan;
+use spread_engine::{JobEvening, spread_plan};
 use std::alloc::{AllocError, Global};
 use std::sync::Wait;
 use std::sync::ledger::Ledger;
@@ -22,8 +22,9 @@ use std::sync::ledger::Ledger;
 impl<L: Ledger, B: Ledger, N: DeskName> Desk<L, B, N> {
     /// Finds caps that make loads even and cost no coverage, and the best plan within them, for the state at hand, and has them
     /// published, again while they are refused since other events came between, and at most so many times. A collector may have so many
-    /// percent more targets than where the loads are the most even, and at most so many targets move for that. The lock is held for
-    /// the reading of the instance and for each Spread, with the check of it; not while one is searched. What was submitted stays in
+    /// percent more targets than where the loads are the most even, and at most so many targets move for that. How each job is evened
+    /// out is told by its place, and a job of which nothing is told is evened out together with others. The lock is held for the
+    /// reading of the instance and for each Spread, with the check of it; not while one is searched. What was submitted stays in
     /// the journal.
     pub fn spread(
         &self,
@@ -32,6 +33,7 @@ impl<L: Ledger, B: Ledger, N: DeskName> Desk<L, B, N> {
         pass: &mut Pass<L, B, N>,
         tries: u32,
         slack: u32,
+        by_job: &[JobEvening],
         most_moves: Option<u32>,
     ) -> Result<Reallocated, SpreadError>
         ensures least { pass.old.calls ≤ pass.new.calls }
@@ -42,7 +44,7 @@ impl<L: Ledger, B: Ledger, N: DeskName> Desk<L, B, N> {
     {
         let mut lost = None;
         for _turn in 0..tries {
-            match self.spread_once(rt, alloc, pass, slack, most_moves) {
+            match self.spread_once(rt, alloc, pass, slack, by_job, most_moves) {
                 Ok(SpreadAttempt::Published(number)) => return Ok(Reallocated::Published(number)),
                 Ok(SpreadAttempt::Unchanged(number)) => return Ok(Reallocated::Unchanged(number)),
                 Ok(SpreadAttempt::NumbersSpent) => return Err(SpreadError::NumbersSpent),
@@ -61,6 +63,7 @@ impl<L: Ledger, B: Ledger, N: DeskName> Desk<L, B, N> {
         alloc: Global,
         pass: &mut Pass<L, B, N>,
         slack: u32,
+        by_job: &[JobEvening],
         most_moves: Option<u32>,
     ) -> Result<SpreadAttempt, EnterError>
         ensures came_to { IfOk result (λ a. CameToSpread N.opening pass.old slack most_moves a) }
@@ -72,7 +75,7 @@ impl<L: Ledger, B: Ledger, N: DeskName> Desk<L, B, N> {
         let Ok((instance, jobs)) = self.question(rt, pass) else {
             return Err(EnterError::Memory);
         };
-        let Ok(spread) = spread_for(alloc, &instance, jobs, slack, most_moves) else {
+        let Ok(spread) = spread_for(alloc, &instance, jobs, slack, by_job, most_moves) else {
             return Err(EnterError::Memory);
         };
         let receipt = self.submit(rt, pass, Event::Spread(spread))?;
@@ -114,10 +117,11 @@ fn spread_for(
     instance: &Instance,
     jobs: u32,
     slack: u32,
+    by_job: &[JobEvening],
     most_moves: Option<u32>,
 ) -> Result<Spread, AllocError>
     ensures { IfOk result (IsFound instance.now jobs slack most_moves) }
 {
-    let spread = spread_plan(alloc, instance, jobs, slack, most_moves)?;
+    let spread = spread_plan(alloc, instance, jobs, slack, by_job, most_moves)?;
     Ok(spread)
 }

@@ -56,7 +56,7 @@ fn slack_or(absent: u32, found: Option<&Value>) -> Result<u32, SettingsError>
     }
 }
 
-fn slack_in(value: &Value) -> Option<u32>
+pub(crate) fn slack_in(value: &Value) -> Option<u32>
     ensures { result ≡ slack_in_data (view value.now) }
 {
     let slack = number(value)?;
