@@ -1,7 +1,6 @@
 pub mod AttemptLemmas
 pub mod ChangedLemmas
 pub mod GainLemmas
-pub mod JobLemmas
 pub mod JournalLemmas
 pub mod ReachedLemmas
 pub mod ReceiptLemmas

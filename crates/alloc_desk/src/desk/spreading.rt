@@ -1,6 +1,5 @@
 //! Reallocation that makes loads even: the search runs without the lock.
 ghost use Rattle.std.specs.Prelude.{◌≡◌, ◌+◌, ◌≤◌, Err, IfOk, OnOk, OnErr, length};
-ghost use Rattle.fleet.specs.declared.limits.TheConstants.{MOST_JOBS};
 ghost use Rattle.alloc_desk.specs.Reached.{IsFull, Reached};
 ghost use Rattle.alloc_desk.specs.Spreading.{CameToSpread, EndedSpread, IsFound, IsQuestion};
 
@@ -11,7 +10,6 @@ use crate::pass::Pass;
 use crate::record::EnterError;
 use crate::spread_attempt::{SpreadAttempt, SpreadError, spread_attempted};
 use allocation_core::{Core, Event, answers_fit};
-use fleet::JobSpec;
 use price_certificate::Instance;
 use spread_certificate::Spread;
 use spread_engine::{JobEvening, spread_plan};
@@ -100,15 +98,8 @@ fn question_of(core: &Core) -> Result<(Instance, u32), AllocError>
     ensures { IfOk result (IsQuestion core.now) }
 {
     let instance = core.instance()?;
-    let jobs = count_of(core.fleet().jobs());
+    let jobs = core.fleet().jobs().len() as u32;
     Ok((instance, jobs))
-}
-
-fn count_of(jobs: &[JobSpec]) -> u32
-    requires { length jobs.now ≤ MOST_JOBS }
-    ensures { result ≡ length jobs.now }
-{
-    jobs.len() as u32
 }
 
 /// A spread in which the judge finds no fault.
