@@ -1,0 +1,5 @@
+mod Lists
+mod Opening
+mod Promised
+mod Once
+mod OneHistory
