@@ -20,6 +20,7 @@ CLAIMS = [
     ("A spread", "what *capped* and *even* of `allocd check` say of a plan", ["spread_certificate.IsBestWithin", "IsEvenWithin"]),
     ("A best allocation", "what *best of its moment* says of a published allocation", ["IsBest"]),
     ("The whole headline", "all steps of the machine, every published allocation and every booked report", ["AlwaysBest", "AlwaysMost", "AlwaysBooked"]),
+    ("Events from a first line", "what is promised of events from whatever state a first line opens", ["IsPromised"]),
 ]
 HEAD = re.compile(r"(?:abbrev |unfoldable )?pub (?:record |rec )?([^\s:({]+)")
 WORD = re.compile(r"◌\S+?◌|[A-Za-z_][\w'-]*")
