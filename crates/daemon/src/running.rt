@@ -1,11 +1,11 @@
 //! The threads over one desk.
-ghost use Rattle.std.specs.Thread.{IsSend, IsSync};
+ghost use Rattle.std.specs.Thread.{IsSend};
 
 use alloc_desk::{DeskName, Pass};
 use event_loops::Gate;
 use http_get::Scrape;
 use sd_server::{DEFAULT_LOOPS, Handler, serve_by_loops};
-use service_tasks::{Configuration, Crew, JournalFile, Office, Schedule, Shared, Sources, Watch};
+use service_tasks::{Configuration, Crew, JournalFile, Office, Schedule, Shared, Watch};
 use std::alloc::{AllocGlobal, Global};
 use std::fs::OpenFile;
 use std::io::Write;
@@ -109,36 +109,12 @@ where
         served
     }
 
-    /// Refreshes sources side by side until the desk is to be closed, on a thread for each, as far as there are devices.
+    /// Refreshes sources until the desk is to be closed.
     fn refresh<S: Scrape + Send>(&self, pass: &Mutex<Pass<L, B, N>>, watch: &mut Watch<S>) {
         let Watch { devices, sources } = watch;
-        let threads = sources.count().min(devices.len());
-        self.refresh_by(pass, sources, &mut devices.as_mut_slice()[..threads]);
-    }
-
-    /// Refreshes sources by these devices, each on a thread of its own.
-    fn refresh_by<S: Scrape + Send>(
-        &self,
-        pass: &Mutex<Pass<L, B, N>>,
-        sources: &Sources,
-        devices: &mut [S],
-    ) {
-        if devices.len() < 2 {
-            if let Some(device) = devices.first_mut() {
-                self.shared.refresh_sources(pass, sources, device);
-            }
-            return;
+        if let Some(device) = devices.first_mut() {
+            self.shared.refresh_sources(pass, sources, device);
         }
-        let (front, back) = devices.split_at_mut(devices.len() / 2);
-        thread::join(
-            &self.rt,
-            ||
-                requires { IsSync R.row × IsSend R.row × IsSync L.row × IsSend L.row × IsSync B.row × IsSend B.row × IsSync N.row × IsSend N.row × IsSend S.row }
-            { self.refresh_by(pass, sources, front) },
-            ||
-                requires { IsSync R.row × IsSend R.row × IsSync L.row × IsSend L.row × IsSync B.row × IsSend B.row × IsSync N.row × IsSend N.row × IsSend S.row }
-            { self.refresh_by(pass, sources, back) },
-        );
     }
 
     /// Answers requests until the gate is stopped. Where no server can be, the service ends.

@@ -21,7 +21,7 @@ use std::thread::Threads;
 use std::time::{Clock, Duration};
 
 /// How many sources are asked at once at most.
-const MOST_REFRESHERS: usize = 16;
+const MOST_REFRESHERS: usize = 1;
 
 /// Serves over an allocator with its journal until the service is to end, and gives the allocator back as it is then. The archive
 /// begins the journals after it. The configuration is read again when a request asks for it.
