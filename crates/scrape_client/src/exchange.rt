@@ -183,7 +183,10 @@ impl Exchange {
         ensures kept { Keeps cx.old cx.new }
     {
         if let Some(line) = self.line.take() {
-            self.line = polled(line, cx).err();
+            match polled(line, cx) {
+                Ok(_ended) => {}
+                Err(line) => self.line = Some(line),
+            }
         }
     }
 }
