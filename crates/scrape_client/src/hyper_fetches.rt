@@ -87,28 +87,34 @@ where
     /// Waits for the next end, at most so long.
     fn wait(&mut self, time: Duration, cx: &mut Context<'_>) -> Poll<io::Result<()>>
         requires { AllPollable ⟦<Marked as Future>⟧.can_poll (set_places self.old.fetches) }
-        ensures again { AllPollable ⟦<Marked as Future>⟧.can_poll (set_places self.new.fetches) }
+        ensures again { OnPending result (AllPollable ⟦<Marked as Future>⟧.can_poll (set_places self.new.fetches)) }
         ensures armed { OnPending result (IsArmed cx.new) }
         ensures kept { Keeps cx.old cx.new }
     {
-        if let Poll::Ready(Some((mark, fetched))) = self.fetches.poll_next(cx) {
-            self.asker.hear(mark, fetched);
-            return cx.yield_now();
+        if self.fetches.is_empty() {
+            return self.pause(time, cx);
         }
-        match self.handle.time().sleep(self.rt, time) {
-            Ok(pause) => self.pause(pause, cx),
-            Err(e) => Poll::Ready(Err(e)),
+        match self.fetches.poll_next(cx) {
+            Poll::Ready(Some((mark, fetched))) => {
+                self.asker.hear(mark, fetched);
+                cx.yield_now()
+            }
+            Poll::Ready(None) => Poll::Ready(Err(io::ErrorKind::UnexpectedEof.into())),
+            Poll::Pending => self.pause(time, cx),
         }
     }
 
     /// Asks to be polled again after a pause.
-    fn pause(&mut self, pause: Sleep, cx: &mut Context<'_>) -> Poll<io::Result<()>>
+    fn pause(&mut self, time: Duration, cx: &mut Context<'_>) -> Poll<io::Result<()>>
         requires { AllPollable ⟦<Marked as Future>⟧.can_poll (set_places self.old.fetches) }
-        ensures again { AllPollable ⟦<Marked as Future>⟧.can_poll (set_places self.new.fetches) }
+        ensures again { OnPending result (AllPollable ⟦<Marked as Future>⟧.can_poll (set_places self.new.fetches)) }
         ensures armed { OnPending result (IsArmed cx.new) }
         ensures kept { Keeps cx.old cx.new }
     {
-        let mut pause = pause;
+        let mut pause = match self.handle.time().sleep(self.rt, time) {
+            Ok(pause) => pause,
+            Err(e) => return Poll::Ready(Err(e)),
+        };
         match pause.poll(cx) {
             Poll::Ready(_) => cx.yield_now(),
             Poll::Pending => {
