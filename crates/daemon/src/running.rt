@@ -79,8 +79,7 @@ where
         served
     }
 
-    /// Runs the threads but that which keeps the journal. Where another desk follows, requests are answered until a refresh that has begun
-    /// has ended, too.
+    /// Runs the threads but that which keeps the journal. Where another desk follows, requests are answered until all others have ended.
     fn run_others<S: FetchSeveral + Send + Drop, C: Configuration + Send>(
         &self,
         listener: &TcpListener,
