@@ -3,7 +3,7 @@ use fleet_events::{Answer, Event, Refusal};
 use sd_routes::Ask;
 
 /// How many routes there are, what no route has among them.
-const ROUTE_COUNT: usize = 21;
+const ROUTE_COUNT: usize = 24;
 /// How many status codes are told apart.
 const STATUS_COUNT: usize = 15;
 /// How many kinds of events there are.
@@ -33,6 +33,9 @@ pub(crate) const ROUTES: [&str; ROUTE_COUNT] = [
     "/metrics",
     "POST /-/reload",
     "POST /-/quit",
+    "/targets",
+    "/collectors",
+    "/collectors/{id}",
     "none",
 ];
 
@@ -229,7 +232,7 @@ fn place_of(ask: &Ask) -> usize {
         Ask::JobTargets(_) => 3,
         Ask::CollectorTargets { .. } => 4,
         Ask::Uncovered(_) => 5,
-        Ask::Acknowledged(_) => 6,
+        Ask::Acknowledged { .. } => 6,
         Ask::Certificate => 7,
         Ask::Join => 8,
         Ask::Leave(_) => 9,
@@ -243,6 +246,9 @@ fn place_of(ask: &Ask) -> usize {
         Ask::Metrics => 17,
         Ask::Reload => 18,
         Ask::Quit => 19,
+        Ask::FindTargets(_) => 20,
+        Ask::Collectors => 21,
+        Ask::Collector(_) => 22,
     }
 }
 
