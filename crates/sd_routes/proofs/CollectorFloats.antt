@@ -1,7 +1,7 @@
 -- The pages of collectors have no float, so their texts are known.
 use Rattle.std.proofs.Common.{◌≡◌, ℕ, List, [], ◌∷◌, codes, Option, Some, None, Bool, true, false, refl}
 use Rattle.std.proofs.lemmas.Bool.{or_from}
-use Rattle.serde_json.specs.Data.{Data, Members, no_members}
+use Rattle.serde_json.specs.Data.{Members, no_members, put}
 use Rattle.serde_json.specs.Written.{has_float, members_have_float}
 use Rattle.json_values.proofs.Lists.{no_float}
 use Rattle.json_values.specs.Spelling.{list_data, number_data}
@@ -16,7 +16,7 @@ use Rattle.sd_routes.proofs.Floats.{put_no_float}
 
 with_held_no_float : (ms : Members) (shares : List (List ℕ × ℕ)) → members_have_float ms ≡ false → members_have_float (with_held ms shares) ≡ false
 with_held_no_float ms [] h = h
-with_held_no_float ms (share ∷ shares) h = with_held_no_float _ shares (put_no_float share.0 (number_data share.1) ms refl h)
+with_held_no_float ms (share ∷ shares) h = with_held_no_float (put share.0 (number_data share.1) ms) shares (put_no_float share.0 (number_data share.1) ms refl h)
 
 number_no_float : (number : Option ℕ) → has_float (number_or_null number) ≡ false
 number_no_float None = refl

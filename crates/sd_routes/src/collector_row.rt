@@ -35,7 +35,7 @@ pub struct CollectorRow {
 pub fn collectors_page(alloc: Global, rows: &[CollectorRow]) -> Result<Text, AllocError>
     ensures { IfOk result (λ t. t ≡ compact_text (list_data collector_data rows.now)) }
 {
-    let page = Value::Array(collector_values(alloc, rows)?);
+    let page = collectors_value(alloc, rows)?;
     text_of(alloc, &page)
 }
 
@@ -46,6 +46,12 @@ pub fn collector_page(alloc: Global, row: &CollectorRow) -> Result<Text, AllocEr
 {
     let page = collector_value(alloc, row)?;
     text_of(alloc, &page)
+}
+
+fn collectors_value(alloc: Global, rows: &[CollectorRow]) -> Result<Value, AllocError>
+    ensures { IfOk result (λ v. view v ≡ list_data collector_data rows.now) }
+{
+    Ok(Value::Array(collector_values(alloc, rows)?))
 }
 
 fn collector_values(alloc: Global, rows: &[CollectorRow]) -> Result<Vec<Value>, AllocError>
@@ -65,7 +71,7 @@ fn collector_value(alloc: Global, row: &CollectorRow) -> Result<Value, AllocErro
     let last_take = number_or_null(row.last_take);
     let limits = row.limits.write(alloc)?;
     let reach = row.reach.write(alloc)?;
-    let taken = number_or_null(row.taken.map(u64::from));
+    let taken = taken_value(row.taken);
     let (draining, id, name) = (row.draining, row.id, row.name.as_str());
     json!(in alloc; {
         "draining": draining,
@@ -87,6 +93,15 @@ fn held_value(alloc: Global, held: &[(Text, u32)]) -> Result<Value, AllocError>
         put(&mut members, alloc, share.0.as_str(), Value::from(share.1))?;
     }
     Ok(Value::Object(members))
+}
+
+fn taken_value(number: Option<AllocationNumber>) -> Value
+    ensures { view result ≡ number_or_null number }
+{
+    match number {
+        Some(number) => Value::from(number),
+        None => Value::Null,
+    }
 }
 
 fn number_or_null(number: Option<u64>) -> Value

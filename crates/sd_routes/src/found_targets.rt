@@ -25,7 +25,6 @@ pub struct FoundTarget {
 }
 
 /// How many targets were found, and the first of them: an object.
-#[tactic(auto, using(crate::proofs::FoundFloats::found_no_float))]
 pub fn found_page(alloc: Global, all: u32, found: &[FoundTarget]) -> Result<Text, AllocError>
     ensures { IfOk result (λ t. t ≡ compact_text (found_data all found.now)) }
 {
