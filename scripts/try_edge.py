@@ -2,7 +2,8 @@
 """Runs `allocd serve` over settings, sources and figures that scripts/try_serve.py does not look at, and tells of each thing whether it holds: try_edge.py [PART ..]
 
 Where it listens and keeps its journal, each job's own rules, reloads with more sources, other orders and too many jobs, who is uncovered,
-names as text, the page and its links, what is counted, how long it took, what strangers send and don't send, answers to the byte, rounds over renewals and starts, YAML, lists that are acknowledged, loads that are made even. It needs Linux and the program (ALLOCD_PROGRAM, or dist/allocd)."""
+names as text, the page and its links, what is counted, how long it took, what strangers send and don't send, answers to the byte, rounds over renewals and
+starts, sources that fall silent beside others, YAML, lists that are acknowledged, loads that are made even. It needs Linux and the program (ALLOCD_PROGRAM, or dist/allocd)."""
 
 import html.parser
 import http.client
@@ -262,6 +263,7 @@ def series(folder):
     with open(os.path.join(os.path.dirname(__file__), "..", "docs", "operate", "HTTP.md")) as it:
         paths = set(re.findall(r"^\| `(?:GET|POST|PUT|DELETE) (/[^`?]*)", it.read(), re.M))
     routes = re.findall(r'^allocd_http_requests_total\{route="([^"]+)",status="503"\} 0$', text, re.M)
+    paths = {path.replace("{collector}", "{id}") for path in paths}
     missing = {path for path in paths if path not in {route.split(" ")[-1].partition("?")[0] for route in routes} | {"/readyz"}}
     tell("each route has its series from the start", len(routes) > 20 and not missing, missing)
     kinds = re.findall(r'^allocd_events_refused_total\{event="([^"]+)"\} \d+$', text, re.M)
@@ -547,6 +549,54 @@ def rounds_kept(folder):
     ends(service)
 
 
+LIMIT = 3
+
+
+def beside_silent(folder, silent):
+    """How long it took until a service was ready with three sources beside so many that take a connection and never answer, and how long at most
+    one of the three was left alone then."""
+    with socket.create_server(("127.0.0.1", 0)) as dumb:
+        port = dumb.getsockname()[1]
+        quick = [f"/quick{silent}/{i}" for i in range(3)]
+        found = [url(f"/dumb{i}", "1s", port) for i in range(silent)] + [url(path, "1s") for path in quick]
+        for i, path in enumerate(quick):
+            Source.lists[path] = [f"127.0.0.1:{7300 + i}"]
+        service = Service(folder, config([{"job_name": "n", "http_sd_configs": found}], fetch_timeout=f"{LIMIT}s"), f"{folder}/journal{silent}")
+        began = time.monotonic()
+        service.is_up()
+        comes(lambda: service.ask("GET", "/-/ready")[0] == 200, 60)
+        took = time.monotonic() - began
+        time.sleep(6)
+        figures = [service.figure(f'allocd_refresh_last_success_timestamp_seconds{{job="n",source="n/{i + 1}"}}') for i in range(silent + 3)]
+        now = time.monotonic()
+        service.it.kill()
+        service.ended()
+    # the second refresh of each comes after a part of its interval
+    gaps = [after - before for path in quick for before, after in zip(Source.asked[path][1:], [*Source.asked[path][2:], now])]
+    return took, max(gaps, default=60), figures
+
+
+def silences(folder):
+    for silent in (1, 6):
+        took, gap, figures = beside_silent(folder, silent)
+        who = "a source that never answers" if silent == 1 else f"{silent} sources that never answer"
+        tell(f"beside {who} others keep their second", gap < 1.6, f"{gap:.2f} seconds at most")
+        tell("the service is ready after one fetch_timeout, and not their sum", LIMIT - 0.5 < took < LIMIT + 1.5, f"after {took:.2f} seconds")
+        told = [figure is not None and abs(time.time() - figure) < 5 for figure in figures]
+        tell("it tells when each source last gave its list", told == [False] * silent + [True] * 3 and figures[0] == 0, figures)
+    with socket.create_server(("127.0.0.1", 0)) as dumb:
+        jobs = [{"job_name": "n", "http_sd_configs": [url("/dumb", "1s", dumb.getsockname()[1])]}]
+        service = Service(folder, config(jobs, fetch_timeout="20s"), f"{folder}/journal.silent")
+        service.is_up()
+        time.sleep(0.5)
+        reloaded(service, config([*jobs, static("m", 2)], fetch_timeout="20s"))
+        began = time.monotonic()
+        tell("a reload waits for no source", has(service, 'allocd_targets{job="m"}', 2) and time.monotonic() - began < 5, f"after {time.monotonic() - began:.2f} seconds")
+        began = time.monotonic()
+        ends(service)
+        tell("nor does the end of the service", time.monotonic() - began < 5, f"after {time.monotonic() - began:.2f} seconds")
+
+
 # What `accept` says, and whether the answer is YAML.
 ACCEPTS = [
     (None, False), ("*/*", False), ("application/json", False), ("application/yaml", True), ("application/x-yaml", True), ("text/yaml", True),
@@ -746,5 +796,5 @@ def evens_in_turn(folder):
 SOURCE = http.server.ThreadingHTTPServer(("127.0.0.1", 0), Source)
 SOURCE.daemon_threads = True
 threading.Thread(target=SOURCE.serve_forever, daemon=True).start()
-PARTS = (settings, relabels, reloads, uncovered, texts, page, series, figures, talks, requests, held_rows, stalls, rounds, rounds_kept, yaml, acknowledge, spreads, spreads_by_job, evens, evens_in_turn)
+PARTS = (settings, relabels, reloads, uncovered, texts, page, series, figures, talks, requests, held_rows, stalls, rounds, rounds_kept, silences, yaml, acknowledge, spreads, spreads_by_job, evens, evens_in_turn)
 run_parts(PARTS, sys.argv[1:])

@@ -2,10 +2,14 @@
 ghost use Rattle.std.specs.Prelude.{◌≡◌, Some, IfOk, IfErr};
 ghost use Rattle.std.specs.Arc.{arc_value};
 ghost use Rattle.alloc_desk.specs.Views.{shares_of};
+ghost use Rattle.fleet_events.specs.declared.answer.Answer.TheVariants.{Not};
+ghost use Rattle.fleet_events.specs.declared.refusal.Refusal.TheVariants.{UnknownCollector};
+ghost use Rattle.sd_routes.specs.declared.change.Change.TheVariants.{Release};
+ghost use Rattle.sd_routes.specs.declared.responding.Said.TheVariants.{Answer as Answered};
 ghost use Rattle.service_state.specs.Jobs.{place_of};
 ghost use Rattle.sd_server.specs.Texts.{certificate_text, job_text};
 ghost use Rattle.sd_server.specs.Entries.{Leads, OnceKept};
-ghost use Rattle.sd_server.specs.Says.{IsAtOnce, IsEntered, IsUncoveredText, OfSome, Says, SaysCopy, SaysDocument, SaysEvent, SaysIn, SaysJob, SaysLive, SaysMetrics, SaysNot, SaysPage, SaysQuit, SaysReady, SaysRefused, SaysReload, SaysText, SaysUncovered};
+ghost use Rattle.sd_server.specs.Says.{IsAtOnce, IsEntered, IsUncoveredText, OfSome, Says, SaysCopy, SaysDocument, SaysEvent, SaysChange, SaysIn, SaysJob, SaysLive, SaysMetrics, SaysNot, SaysOfLeft, SaysPage, SaysQuit, SaysReady, SaysRefused, SaysReload, SaysText, SaysUncovered};
 
 use crate::certificate_page::certificate_page;
 use crate::counter::Counter;
@@ -19,8 +23,10 @@ use event_loops::Gate;
 use fleet_events::CollectorId;
 use lists::{List, Plain, Text};
 use price_certificate::{Instance, Plan};
+use reach_rules::CollectorName;
 use sd_routes::{
-    Ask, Notice, RequestError, Said, event_of, job_page, misshapen_member, uncovered_page,
+    Ask, Change, Notice, RequestError, Said, Wanted, event_of, job_page, misshapen_member,
+    uncovered_page,
 };
 use service_pages::{Shown, status_page};
 use service_state::{
@@ -138,7 +144,8 @@ impl<R: Wait + Clock + Copy, L: Ledger, B: Ledger, N: DeskName> Handler<R, L, B,
         ensures { Leads (SaysIn N.opening (arc_value self.now.pages) ask.now self.now.epoch body.now) result }
     {
         match event_of(self.alloc, ask, body, self.epoch) {
-            Ok(Some(event)) => self.entered(event),
+            Ok(Some(Wanted::Event(event))) => self.entered(event),
+            Ok(Some(Wanted::OfNamed { name, change })) => self.changed(&name, change),
             Ok(None) => self.shown(ask),
             Err(error) => Entry::Now(self.refused(ask, body, error)),
         }
@@ -155,6 +162,43 @@ impl<R: Wait + Clock + Copy, L: Ledger, B: Ledger, N: DeskName> Handler<R, L, B,
             },
             _ => Said::Refused(error),
         }
+    }
+
+    /// It happens to the collector that has the name. Its number is never another's, so where it leaves before, it happens to none.
+    #[tactic(auto, unfolding(crate::specs::Says::SaysChange))]
+    fn changed(&self, name: &CollectorName, change: Change) -> Entry
+        ensures { Leads (SaysChange N.opening name.now change) result }
+    {
+        match self.named(name.as_str()) {
+            Some(id) => self.entered(change.event(id)),
+            None => self.changed_of_left(name.as_str(), change),
+        }
+    }
+
+    /// Of a collector that left, the lists can be let go.
+    fn changed_of_left(&self, name: &str, change: Change) -> Entry
+        ensures { Leads (SaysOfLeft N.opening change) result }
+    {
+        match change {
+            Change::Release => self.released_of_left(name),
+            Change::Leave | Change::Drain | Change::SetLimits(_) => unknown_collector(),
+        }
+    }
+
+    fn released_of_left(&self, name: &str) -> Entry
+        ensures { Leads (SaysOfLeft N.opening Release) result }
+    {
+        match self.left_number(name) {
+            Some(id) => self.entered(Change::Release.event(id)),
+            None => unknown_collector(),
+        }
+    }
+
+    /// The last number of a collector that had the name, where that is known.
+    fn left_number(&self, name: &str) -> Option<CollectorId> {
+        let names = self.state.names(&self.rt, self.alloc).ok()?;
+        let known = names.iter().find(|known| known.0.as_str() == name)?;
+        Some(known.1)
     }
 
     fn entered(&self, event: Event) -> Entry
@@ -233,8 +277,11 @@ impl<R: Wait + Clock + Copy, L: Ledger, B: Ledger, N: DeskName> Handler<R, L, B,
             Ask::Quit => self.quit(),
             Ask::Status => self.status(),
             Ask::Uncovered(job) => self.uncovered(job.as_str()),
+            Ask::FindTargets(text) => self.found(text.as_str()),
             Ask::JobTargets(job) => self.job(job.as_str()),
-            Ask::Acknowledged(told) => self.acknowledged(told),
+            Ask::Acknowledged { told, counts } => self.acknowledged(told, *counts),
+            Ask::Collectors => self.collectors(),
+            Ask::Collector(which) => self.one_collector(which),
             Ask::Reload
             | Ask::CollectorTargets { .. }
             | Ask::Join
@@ -502,6 +549,12 @@ impl<R: Wait + Clock + Copy, L: Ledger, B: Ledger, N: DeskName> Handler<R, L, B,
             Err(EnterError::Memory) => Err(RequestError::Memory),
         }
     }
+}
+
+fn unknown_collector() -> Entry
+    ensures { Leads (λ said. said ≡ Answered (Not UnknownCollector)) result }
+{
+    Entry::Now(Said::Answer(Answer::Not(Refusal::UnknownCollector)))
 }
 
 fn copied(text: &Text) -> Said

@@ -24,6 +24,9 @@ pub enum Route {
     Metrics,
     Reload,
     Quit,
+    FindTargets,
+    Collectors,
+    Collector,
     /// What has no route.
     NoRoute,
 }
@@ -53,6 +56,9 @@ pub(crate) const ROUTES: [Route; ROUTE_COUNT] = [
     Route::Metrics,
     Route::Reload,
     Route::Quit,
+    Route::FindTargets,
+    Route::Collectors,
+    Route::Collector,
     Route::NoRoute,
 ];
 
@@ -88,6 +94,9 @@ impl Route {
             Route::Metrics => "/metrics",
             Route::Reload => "POST /-/reload",
             Route::Quit => "POST /-/quit",
+            Route::FindTargets => "/targets",
+            Route::Collectors => "/collectors",
+            Route::Collector => "/collectors/{id}",
             Route::NoRoute => "none",
         }
     }
@@ -101,7 +110,7 @@ fn asked(ask: &Ask) -> Route {
         Ask::JobTargets(_) => Route::JobTargets,
         Ask::CollectorTargets { .. } => Route::CollectorTargets,
         Ask::Uncovered(_) => Route::Uncovered,
-        Ask::Acknowledged(_) => Route::Acknowledged,
+        Ask::Acknowledged { .. } => Route::Acknowledged,
         Ask::Certificate => Route::Certificate,
         Ask::Join => Route::Join,
         Ask::Leave(_) => Route::Leave,
@@ -115,5 +124,8 @@ fn asked(ask: &Ask) -> Route {
         Ask::Metrics => Route::Metrics,
         Ask::Reload => Route::Reload,
         Ask::Quit => Route::Quit,
+        Ask::FindTargets(_) => Route::FindTargets,
+        Ask::Collectors => Route::Collectors,
+        Ask::Collector(_) => Route::Collector,
     }
 }

@@ -268,6 +268,11 @@ impl ServiceState {
         let _ = self.names.lock(rt).note_asked(name, id, at);
     }
 
+    /// When the collector of this number asked for a list last, in seconds since 1970, if it did.
+    pub fn last_asked(&self, rt: &impl Wait, id: CollectorId) -> Option<u64> {
+        self.names.lock(rt).last_asked(id)
+    }
+
     /// Somebody asks under a name that no live collector has. Gives the number that the last one had it under, where one had it.
     pub fn number_of(&self, rt: &impl Wait, name: &str) -> Option<CollectorId> {
         let mut names = self.names.lock(rt);
