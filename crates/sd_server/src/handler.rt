@@ -28,15 +28,16 @@ use sd_routes::{
     Ask, Change, Notice, RequestError, Said, Wanted, event_of, job_page, misshapen_member,
     uncovered_page,
 };
+use service_pages::{Shown, status_page};
 use service_state::{
-    Asked, ChangeNote, ConfigPages, EventKind, Figures, Kept, LONGEST_WAIT_MILLIS, Route,
-    ServiceState, figures_of, metrics_page, status_page,
+    Asked, ChangeNote, ConfigPages, EventKind, Figures, Kept, LONGEST_WAIT_MILLIS, Notes, Route,
+    ServiceState, figures_of, metrics_page,
 };
 use std::alloc::{AllocError, Global};
 use std::net::SocketAddr;
 use std::sync::ledger::Ledger;
 use std::sync::{Arc, Mutex, Wait};
-use std::time::{Clock, Duration};
+use std::time::{Clock, Duration, Instant};
 use tokio::sync::oneshot::Receiver;
 use tokio::time::{Handle, Timeout};
 
@@ -115,13 +116,19 @@ impl<R: Wait + Clock + Copy, L: Ledger, B: Ledger, N: DeskName> Handler<R, L, B,
         }
     }
 
-    /// What counts a request of a route, once it is told something.
-    pub(crate) fn counter(&self, route: Route) -> Option<Counter<R>> {
+    /// When it is, where a clock tells.
+    pub(crate) fn now(&self) -> Option<Instant> {
+        Instant::now(&self.rt).ok()
+    }
+
+    /// What counts a request of a route that began then, once it is told something.
+    pub(crate) fn counter(&self, route: Route, begun: Option<Instant>) -> Option<Counter<R>> {
         let state = Arc::try_clone(&self.state).ok()?;
         Some(Counter {
             rt: self.rt,
             state,
             route,
+            begun,
         })
     }
 
@@ -338,9 +345,7 @@ impl<R: Wait + Clock + Copy, L: Ledger, B: Ledger, N: DeskName> Handler<R, L, B,
     }
 
     fn metrics_text(&self) -> Result<Text, AllocError> {
-        if let Some(gate) = &self.gate {
-            self.state.set_connections(gate.taken(), gate.most());
-        }
+        self.count_connections();
         let figures = self.figures()?;
         let notes = self.state.notes(&self.rt, self.alloc)?;
         metrics_page(self.alloc, &figures, &notes, &self.state)
@@ -356,9 +361,30 @@ impl<R: Wait + Clock + Copy, L: Ledger, B: Ledger, N: DeskName> Handler<R, L, B,
     }
 
     fn status_text(&self) -> Result<Text, AllocError> {
+        self.count_connections();
         let figures = self.figures()?;
         let notes = self.state.notes(&self.rt, self.alloc)?;
-        status_page(self.alloc, &figures, &notes, &self.state)
+        self.status_page_of(&figures, &notes)
+    }
+
+    fn status_page_of(&self, figures: &Figures, notes: &Notes) -> Result<Text, AllocError> {
+        let standing = self.state.standing(&self.rt, self.kept.is_some());
+        let shown = Shown {
+            figures,
+            sources: notes.sources.as_slice(),
+            allocations: notes.allocations.as_slice(),
+            loads: notes.loads.as_slice(),
+            asked: notes.asked.as_slice(),
+            standing: &standing,
+        };
+        status_page(self.alloc, &shown)
+    }
+
+    /// Notes how many connections there are.
+    fn count_connections(&self) {
+        if let Some(gate) = &self.gate {
+            self.state.set_connections(gate.taken(), gate.most());
+        }
     }
 
     fn figures(&self) -> Result<Figures, AllocError> {

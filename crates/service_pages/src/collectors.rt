@@ -3,7 +3,7 @@ use crate::cells::{
     begin_bad_cell, begin_cell, begin_cell_of, counted_words, end_cell, length_of_time, number_cell,
 };
 use crate::figures::{CollectorFigures, JobFigures, ShareFigures};
-use crate::links::list_link;
+use crate::links::{collector_link, list_link};
 use crate::notes::LoadNote;
 use crate::page::Shown;
 use hypertext::Hypertext;
@@ -35,7 +35,7 @@ fn write_collector(
     collector: &CollectorFigures,
 ) -> Result<(), AllocError> {
     page.markup("<tr><th scope=\"row\">")?;
-    page.text(collector.name.as_str())?;
+    collector_link(page, collector.id, collector.name.as_str())?;
     page.markup("</th>")?;
     number_cell(page, "Id", u64::from(collector.id))?;
     write_standing(page, collector)?;

@@ -18,6 +18,15 @@ pub(crate) fn job_link(page: &mut Hypertext, job: &str) -> Result<(), AllocError
     page.markup("</a>")
 }
 
+/// A link to a collector, by its number.
+pub(crate) fn collector_link(page: &mut Hypertext, id: u32, name: &str) -> Result<(), AllocError> {
+    page.markup("<a href=\"/collectors/")?;
+    page.number(u128::from(id))?;
+    page.markup("\">")?;
+    page.text(name)?;
+    page.markup("</a>")
+}
+
 /// A link to what a collector has of a job, which is only looked at.
 pub(crate) fn list_link(
     page: &mut Hypertext,

@@ -37,7 +37,7 @@ summary{cursor:pointer;white-space:nowrap}
 ";
 
 const LINKS: &str =
-    "<nav><a href=\"/jobs\">jobs</a><a href=\"/scrape_configs\">scrape configs</a><a href=\"/scrape_configs?rules=true\">as read</a><a href=\"/certificate\">certificate</a><a href=\"/metrics\">metrics</a><a href=\"/-/ready\">ready</a><a href=\"/livez\">live</a><a href=\"/-/healthy\">healthy</a></nav>\n";
+    "<nav><a href=\"/jobs\">jobs</a><a href=\"/collectors\">collectors</a><a href=\"/scrape_configs\">scrape configs</a><a href=\"/scrape_configs?rules=true\">as read</a><a href=\"/certificate\">certificate</a><a href=\"/metrics\">metrics</a><a href=\"/-/ready\">ready</a><a href=\"/livez\">live</a><a href=\"/-/healthy\">healthy</a></nav>\n";
 
 /// What the page shows.
 #[derive(Clone, Copy)]

@@ -69,7 +69,7 @@ impl<S: FetchSeveral + Drop, F: Drop, C: Configuration + Drop> Office<S, F, C> {
     /// Tells that the configuration that was read last is not followed.
     pub(crate) fn refuse<R: Clock + Eprint + Copy>(&self, rt: &R) {
         log_warning(rt, "no memory to follow the configuration");
-        self.state.set_reloaded(false);
+        self.state.set_not_reloaded();
     }
 
     /// Remembers for the next journal the names that collectors have or had. Where there is no memory for them those from before stay.
@@ -95,7 +95,7 @@ impl<S: FetchSeveral + Drop, F: Drop, C: Configuration + Drop> Office<S, F, C> {
         );
         if self.schedule.is_read {
             self.schedule.is_read = false;
-            self.state.set_reloaded(false);
+            self.state.set_not_reloaded();
         }
     }
 
@@ -190,6 +190,7 @@ fn state_of<R: Clock>(
     if let Ok(since) = rt.since_1970() {
         state.set_started(since.as_secs());
     }
+    state.set_version(service.version);
     if let Some(lost_lines) = &service.lost_lines {
         state.set_log(Arc::try_clone(lost_lines)?);
     }

@@ -85,7 +85,7 @@ where
         office.follow(&next, sources)?;
         *service = next;
     } else {
-        office.state.set_reloaded(false);
+        office.state.set_not_reloaded();
     }
     Ok(core)
 }
