@@ -98,7 +98,9 @@ fn push_found(
         return Ok(());
     };
     let handing_over = waiting.iter().any(|one| one.target == number);
-    found.push(found_target(core, number, &spec.name, target, handing_over)?)
+    let one = found_target(core, number, &spec.name, target, handing_over)?;
+    found.push(one)?;
+    Ok(())
 }
 
 fn found_target(

@@ -1,5 +1,5 @@
 //! What stands at the foot of the page: version, time, configuration and journal.
-use crate::cells::length_of_time;
+use crate::cells::{counted_words, length_of_time};
 use crate::figures::Figures;
 use crate::standing::Standing;
 use hypertext::Hypertext;
@@ -12,7 +12,12 @@ pub(crate) fn write_foot(
 ) -> Result<(), AllocError> {
     page.markup("<footer><p>allocd ")?;
     page.text(standing.version)?;
-    write_since(page, ", up for ", standing.seconds_since(standing.started))?;
+    write_time(
+        page,
+        ", up for ",
+        standing.seconds_since(standing.started),
+        "",
+    )?;
     write_configuration(page, standing)?;
     write_journal(page, figures, standing)?;
     write_connections(page, standing)?;
@@ -20,16 +25,18 @@ pub(crate) fn write_foot(
     page.markup("</p></footer>\n")
 }
 
-/// How long ago something was, where that is known.
-fn write_since(
+/// So many seconds between words, where that is known.
+fn write_time(
     page: &mut Hypertext,
-    words: &'static str,
+    before: &'static str,
     seconds: Option<u64>,
+    behind: &'static str,
 ) -> Result<(), AllocError> {
     match seconds {
         Some(seconds) => {
-            page.markup(words)?;
-            length_of_time(page, seconds)
+            page.markup(before)?;
+            length_of_time(page, seconds)?;
+            page.markup(behind)
         }
         None => Ok(()),
     }
@@ -41,11 +48,8 @@ fn write_configuration(page: &mut Hypertext, standing: &Standing) -> Result<(), 
     } else {
         page.markup("; an earlier configuration is followed")?;
     }
-    write_since(
-        page,
-        " that was read before ",
-        standing.seconds_since(standing.followed_since),
-    )
+    let seconds = standing.seconds_since(standing.followed_since);
+    write_time(page, ", read ", seconds, " ago")
 }
 
 fn write_journal(
@@ -84,12 +88,17 @@ fn write_work(
     standing: &Standing,
 ) -> Result<(), AllocError> {
     page.markup("; ")?;
-    page.number(u128::from(standing.refreshes))?;
-    page.markup(" refreshes of sources, ")?;
+    let refreshes = u128::from(standing.refreshes);
+    counted_words(
+        page,
+        refreshes,
+        "refresh of a source, ",
+        "refreshes of sources, ",
+    )?;
     page.number(u128::from(standing.failed_refreshes))?;
-    page.markup(" of them in vain; ")?;
-    page.number(u128::from(standing.reallocations))?;
-    page.markup(" reallocations; ")?;
+    page.markup(" in vain; ")?;
+    let searches = u128::from(standing.reallocations);
+    counted_words(page, searches, "reallocation; ", "reallocations; ")?;
     page.number(figures.samples)?;
     page.markup(" samples booked")
 }
