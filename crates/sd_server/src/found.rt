@@ -1,5 +1,5 @@
 //! The live targets that have a text.
-ghost use Rattle.std.specs.Prelude.{◌≤◌, length, IfOk};
+ghost use Rattle.std.specs.Prelude.{◌+◌, ◌≤◌, length, IfOk};
 ghost use Rattle.sd_server.specs.declared.found.TheConstants.{MOST_FOUND};
 
 use alloc_desk::NumberedTarget;
