@@ -148,8 +148,8 @@ impl<R: Wait + Clock + Eprint + Copy, L: Ledger, B: Ledger, N: DeskName> Shared<
     ) {
         self.state.count_refresh();
         let number = source.settings.number;
-        let cause = fetched.as_ref().err().copied();
-        let list = self.list_of(job, number, &fetched.map_err(|cause| cause.fault()));
+        let cause = cause_of(&fetched);
+        let list = self.list_of(job, number, &with_fault(fetched));
         self.tell(job, number, &list, cause);
         if let Ok(event) = list {
             self.submit_news(pass, job.name.as_str(), &mut source.listed, event);
@@ -249,6 +249,22 @@ impl<R: Wait + Clock + Eprint + Copy, L: Ledger, B: Ledger, N: DeskName> Shared<
             let is_refused = matches!(answer, Answer::Not(_));
             listed.submitted(text, is_refused);
         }
+    }
+}
+
+/// Why there is no answer, where there is none.
+fn cause_of(fetched: &Result<Reply, Cause>) -> Option<Cause> {
+    match fetched {
+        Ok(_) => None,
+        Err(cause) => Some(*cause),
+    }
+}
+
+/// What asking came to, as lists know it.
+fn with_fault(fetched: Result<Reply, Cause>) -> Result<Reply, FetchFault> {
+    match fetched {
+        Ok(reply) => Ok(reply),
+        Err(cause) => Err(cause.fault()),
     }
 }
 
