@@ -149,10 +149,12 @@ impl<R: Wait + Clock + Eprint + Copy, L: Ledger, B: Ledger, N: DeskName> Shared<
         self.state.count_refresh();
         let number = source.settings.number;
         let cause = cause_of(&fetched);
-        let list = self.list_of(job, number, &with_fault(fetched));
+        let fetched = with_fault(fetched);
+        let list = self.list_of(job, number, &fetched);
         self.tell(job, number, &list, cause);
-        if let Ok(event) = list {
-            self.submit_news(pass, job.name.as_str(), &mut source.listed, event);
+        match list {
+            Ok(event) => self.submit_news(pass, job.name.as_str(), &mut source.listed, event),
+            Err(_told) => {}
         }
     }
 
