@@ -42,7 +42,7 @@ struct Refresher<'a, R, L: Ledger, B: Ledger, N: DeskName> {
     shared: &'a Shared<R, L, B, N>,
     pass: &'a mut Pass<L, B, N>,
     jobs: &'a List<Job>,
-    sources: &'a mut Sources,
+    sources: Sources,
 }
 
 impl<R: Wait + Clock + Eprint + Copy, L: Ledger, B: Ledger, N: DeskName> Asker
@@ -123,19 +123,18 @@ impl<R: Wait + Clock + Eprint + Copy, L: Ledger, B: Ledger, N: DeskName> Shared<
         pass: &mut Pass<L, B, N>,
         watch: &mut Watch<S>,
     ) -> io::Result<()> {
-        let Watch {
-            device,
-            jobs,
-            sources,
-        } = watch;
+        let none = Sources::new(Vec::new(self.alloc));
+        let sources = std::mem::replace(&mut watch.sources, none);
         let mut refresher = Refresher {
             shared: self,
             pass,
-            jobs,
+            jobs: &watch.jobs,
             sources,
         };
-        let asked = device.fetch_for(&mut refresher);
-        refresher.sources.give_up();
+        let asked = watch.device.fetch_for(&mut refresher);
+        let mut sources = refresher.sources;
+        sources.give_up();
+        watch.sources = sources;
         asked
     }
 
