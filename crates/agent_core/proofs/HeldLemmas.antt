@@ -1,0 +1,214 @@
+-- Each report is of a target of a list that was taken, and what is served is of the last one, over whole runs.
+use Rattle.std.proofs.Common.{◌≡◌, ℕ, zero, suc, ◌+◌, ◌<◌, ◌≤◌, ◌++◌, ◌⊎◌, List, [], ◌∷◌, Bool, true, false, Option, None, Some, All, Contains, length, get_or, cond, refl, sym, ap, subst, ◌∙◌, inl, inr, arith}
+use Rattle.std.specs.Prelude.{Any, ◌&&◌, ◌==◌, option_map, not, nat_lt, filter}
+use Rattle.std.specs.List.{cons_option, range_with_len}
+use Rattle.std.proofs.lemmas.Bool.Decides.{nat_tests}
+use Rattle.std.proofs.lemmas.Grind.{common_steps}
+use Rattle.std.proofs.lemmas.List.Elements.{All-append, All-cons, All-nil, All-filter}
+use Rattle.agent_core.specs.Told.{Told, carried, is_open, mark_of, report_of, slot, with_report}
+use Rattle.agent_core.specs.Choices.{after, chosen, chosen_of, points_of, with_chosen}
+use Rattle.agent_core.specs.Agents.{Input, Asked, Gone, Over, Shown, Taken, Unknown, State, is_listed, is_nobody, is_same, may_report, next, nobody, places, reported, reports_of, shown_standing, state_after}
+use Rattle.agent_core.specs.Laws.{IsHeld, IsTaken, IsTold, ServesTaken, last_taken}
+use Rattle.agent_core.specs.declared.serving.Standing.{Standing}
+use Rattle.agent_core.specs.declared.serving.Standing.TheVariants.{Nobody, Holding, Following}
+use Rattle.agent_core.specs.declared.target.Series.{Series}
+use Rattle.agent_core.specs.declared.target.Listed.{Listed}
+use Rattle.agent_core.specs.declared.slot.Point.{Point}
+use Rattle.agent_core.specs.declared.report.Head.{Head}
+use Rattle.agent_core.specs.declared.report.Report.{Report}
+
+-- ---- reports of a list
+
+-- a report is of a target of a list, by this head
+record IsOf (head : Head) (targets : List Listed) (report : Report) : Type 0 where
+  by_head : report.head ≡ head
+  listed : Listed
+  among : Contains targets listed
+  target : report.target ≡ listed.target
+  series : report.series ≡ listed.series
+  alone : listed.alone ≡ true
+
+more_targets : (head : Head) (first : Listed) (targets : List Listed) (report : Report) → IsOf head targets report → IsOf head (first ∷ targets) report
+more_targets head first targets report of = record {
+  by_head = of.by_head;
+  listed = of.listed;
+  among = (suc of.among.0, omega (arith, of.among.1), of.among.2);
+  target = of.target;
+  series = of.series;
+  alone = of.alone;
+}
+
+all_more : (head : Head) (first : Listed) (targets : List Listed) (reports : List Report) → All (IsOf head targets) reports → All (IsOf head (first ∷ targets)) reports
+all_more head first targets reports all k d l = more_targets head first targets (get_or reports k d) (all k d l)
+
+of_first : (told : Told) (head : Head) (points : List Point) (listed : Listed) (targets : List Listed) (report : Report) → chosen_of told head points listed ≡ Some report → IsOf head (listed ∷ targets) report
+of_first told head points listed targets report e = by listed.alone refl (is_open told head.epoch head.round listed.target) (slot (mark_of told listed.series) points) e
+  where
+    by : (alone : Bool) → listed.alone ≡ alone → (opens : Bool) (o : Option Point) → cond (alone && opens) (option_map (report_of head listed) o) None ≡ Some report → IsOf head (listed ∷ targets) report
+    by false is opens o e = absurd (cc e)
+    by true is false o e = absurd (cc e)
+    by true is true None e = absurd (cc e)
+    by true is true (Some point) e =
+        let same : report_of head listed point ≡ report = cc e in
+        subst (IsOf head (listed ∷ targets)) same (record { by_head = refl; listed = listed; among = (0, omega arith, refl); target = refl; series = refl; alone = is })
+
+chosen_by : (told : Told) (head : Head) (said : List (Series × List Point)) (listed : Listed) (targets : List Listed) (o : Option Report) → chosen_of told head (points_of said listed.series) listed ≡ o
+    → ((t : Told) → All (IsOf head targets) (chosen t head said targets)) → All (IsOf head (listed ∷ targets)) (cons_option o (chosen (with_chosen told o) head said targets))
+chosen_by told head said listed targets None is rest = all_more head listed targets (chosen told head said targets) (rest told)
+chosen_by told head said listed targets (Some report) is rest =
+    All-cons (IsOf head (listed ∷ targets)) report (chosen (with_report told report) head said targets)
+    (of_first told head (points_of said listed.series) listed targets report is)
+    (all_more head listed targets (chosen (with_report told report) head said targets) (rest (with_report told report)))
+
+chosen_held : (told : Told) (head : Head) (said : List (Series × List Point)) (targets : List Listed) → All (IsOf head targets) (chosen told head said targets)
+chosen_held told head said [] = All-nil (IsOf head [])
+chosen_held told head said (listed ∷ targets) =
+    chosen_by told head said listed targets (chosen_of told head (points_of said listed.series) listed) refl (λ t. chosen_held t head said targets)
+
+-- ---- what a state holds, of these inputs
+
+record IsGrounded (inputs : List Input) (s : State) : Type 0 where
+  head : Head
+  taken : Any (IsTaken head s.targets) inputs
+  collector : s.head.collector ≡ head.collector
+  epoch : s.head.epoch ≡ head.epoch
+  number : s.head.number ≡ head.number
+  told : Any (IsTold s.head.epoch s.head.round) inputs
+
+abbrev Holds : List Input → State → Type 0
+Holds inputs s = (is_nobody s.standing ≡ true) ⊎ IsGrounded inputs s
+
+held_by : (inputs : List Input) (s : State) (report : Report) → IsGrounded inputs s → IsOf s.head s.targets report → IsHeld inputs report
+held_by inputs s report g of =
+    record {
+      head = g.head;
+      targets = s.targets;
+      taken = g.taken;
+      collector = ap (λ (h : Head). h.collector) of.by_head ∙ g.collector;
+      epoch = ap (λ (h : Head). h.epoch) of.by_head ∙ g.epoch;
+      number = ap (λ (h : Head). h.number) of.by_head ∙ g.number;
+      listed = of.listed;
+      among = of.among;
+      target = of.target;
+      series = of.series;
+      alone = of.alone;
+      told = subst (λ (h : Head). Any (IsTold h.epoch h.round) inputs) (sym of.by_head) g.told;
+    }
+
+held_reports : (inputs : List Input) (s : State) (input : Input) → Holds inputs s → All (IsHeld inputs) (reported s input)
+held_reports inputs s (Taken at head until targets) holds = All-nil (IsHeld inputs)
+held_reports inputs s (Shown at head until targets) holds = All-nil (IsHeld inputs)
+held_reports inputs s (Gone at) holds = All-nil (IsHeld inputs)
+held_reports inputs s (Unknown at) holds = All-nil (IsHeld inputs)
+held_reports inputs s Over holds = All-nil (IsHeld inputs)
+held_reports inputs s (Asked now said) holds = by (is_nobody s.standing) refl (nat_lt now s.until)
+  where
+    grounded : is_nobody s.standing ≡ false → Holds inputs s → IsGrounded inputs s
+    grounded is (inl nobody) = absurd (cc (is, nobody))
+    grounded is (inr g) = g
+
+    by : (nobody : Bool) → is_nobody s.standing ≡ nobody → (opens : Bool) → All (IsHeld inputs) (cond (not nobody && opens) (chosen s.told s.head said s.targets) [])
+    by true is opens = All-nil (IsHeld inputs)
+    by false is false = All-nil (IsHeld inputs)
+    by false is true =
+        let g = grounded is holds in
+        λ k d l. held_by inputs s (get_or (chosen s.told s.head said s.targets) k d) g (chosen_held s.told s.head said s.targets k d l)
+
+-- a holder stays one of the same list, in the round that was told last
+shown_holds : (inputs : List Input) (s : State) (at : ℕ) (head : Head) (until : ℕ) (targets : List Listed) → Contains inputs (Shown at head until targets) → Holds inputs s → Holds inputs (next s (Shown at head until targets))
+shown_holds inputs s at head until targets there (inl none) = inl (standing_none s.standing (is_same s head targets) none)
+  where
+    standing_none : (standing : Standing) (same : Bool) → is_nobody standing ≡ true → is_nobody (shown_standing standing same at) ≡ true
+    standing_none Nobody same e = refl
+    standing_none Holding same e = absurd (cc e)
+    standing_none (Following since) same e = absurd (cc e)
+shown_holds inputs s at head until targets there (inr g) = inr (by (s.head.epoch == head.epoch) refl)
+  where
+    by : (b : Bool) → (s.head.epoch == head.epoch) ≡ b → IsGrounded inputs (record (cond b (record s { head = record s.head { round = head.round }; until = until }) (record s { until = 0 })) {
+      standing = shown_standing s.standing (is_same s head targets) at;
+      served = filter (is_listed s.targets targets) s.served;
+      heard = at;
+    })
+    by true is =
+        let same : head.epoch ≡ s.head.epoch = grind (arith, nat_tests, is) in
+        record {
+          head = g.head; taken = g.taken; collector = g.collector; epoch = g.epoch; number = g.number;
+          told = (there.0, Shown at head until targets, there.1, there.2, (same, refl));
+        }
+    by false is = record { head = g.head; taken = g.taken; collector = g.collector; epoch = g.epoch; number = g.number; told = g.told }
+
+holds_next : (inputs : List Input) (s : State) (input : Input) → Contains inputs input → Holds inputs s → Holds inputs (next s input)
+holds_next inputs s (Taken at head until targets) there holds = inr (record {
+  head = head;
+  taken = (there.0, Taken at head until targets, there.1, there.2, (refl, refl));
+  collector = refl; epoch = refl; number = refl;
+  told = (there.0, Taken at head until targets, there.1, there.2, (refl, refl));
+})
+holds_next inputs s (Shown at head until targets) there holds = shown_holds inputs s at head until targets there holds
+holds_next inputs s (Gone at) there holds = inl refl
+holds_next inputs s (Unknown at) there holds = inl refl
+holds_next inputs s Over there (inl none) = inl none
+holds_next inputs s Over there (inr g) = inr (record { head = g.head; taken = g.taken; collector = g.collector; epoch = g.epoch; number = g.number; told = g.told })
+holds_next inputs s (Asked now said) there holds = by (may_report s now) holds
+  where
+    by : (b : Bool) → Holds inputs s → Holds inputs (cond b (record s { told = after s.told s.head said s.targets }) s)
+    by true (inl none) = inl none
+    by true (inr g) = inr (record { head = g.head; taken = g.taken; collector = g.collector; epoch = g.epoch; number = g.number; told = g.told })
+    by false h = h
+
+-- these inputs are among those
+abbrev Within : List Input → List Input → Type 0
+Within all inputs = (k : ℕ) (d : Input) → k < length inputs → Contains all (get_or inputs k d)
+
+held_run : (all : List Input) (s : State) (inputs : List Input) → Within all inputs → Holds all s → All (IsHeld all) (reports_of s inputs)
+held_run all s [] within holds = All-nil (IsHeld all)
+held_run all s (input ∷ inputs) within holds =
+    let there : Contains all input = within 0 input (omega arith) in
+    All-append (IsHeld all) (reported s input) (reports_of (next s input) inputs) (held_reports all s input holds)
+    (held_run all (next s input) inputs (λ k d l. within (suc k) d (omega (arith, l))) (holds_next all s input there holds))
+
+pub whole_held : (told : Told) (lease : Option ℕ) (inputs : List Input) → All (IsHeld inputs) (reports_of (nobody told lease) inputs)
+whole_held told lease inputs = held_run inputs (nobody told lease) inputs (λ k d l. (k, l, at k d l)) (inl refl)
+  where
+    at : (k : ℕ) (d : Input) → k < length inputs → get_or inputs k (get_or inputs k d) ≡ get_or inputs k d
+    at k d l = grind (arith, common_steps)
+
+-- ---- what is served
+
+places_below : (n from : ℕ) → All (λ (place : ℕ). place < from + n) (range_with_len from n)
+places_below zero from = All-nil (λ (place : ℕ). place < from + 0)
+places_below (suc n) from =
+    let rest = places_below n (from + 1) in
+    All-cons (λ (place : ℕ). place < from + suc n) from (range_with_len (from + 1) n) (omega arith) (λ k d l. omega (arith, rest k d l))
+
+serves_next : (s : State) (input : Input) → All (λ (place : ℕ). place < length s.targets) s.served → All (λ (place : ℕ). place < length (next s input).targets) (next s input).served
+serves_next s (Taken at head until targets) h = λ k d l. omega (arith, places_below (length targets) 0 k d l)
+serves_next s (Shown at head until targets) h = by (s.head.epoch == head.epoch)
+  where
+    by : (b : Bool) → All (λ (place : ℕ). place < length (cond b (record s { head = record s.head { round = head.round }; until = until }) (record s { until = 0 })).targets) (filter (is_listed s.targets targets) s.served)
+    by true = All-filter (is_listed s.targets targets) (λ (place : ℕ). place < length s.targets) s.served h
+    by false = All-filter (is_listed s.targets targets) (λ (place : ℕ). place < length s.targets) s.served h
+serves_next s (Gone at) h = λ k d l. absurd (omega (arith, l))
+serves_next s (Unknown at) h = h
+serves_next s Over h = h
+serves_next s (Asked now said) h = by (may_report s now)
+  where
+    by : (b : Bool) → All (λ (place : ℕ). place < length (cond b (record s { told = after s.told s.head said s.targets }) s).targets) (cond b (record s { told = after s.told s.head said s.targets }) s).served
+    by true = h
+    by false = h
+
+served_run : (s : State) (targets : List Listed) (inputs : List Input) → s.targets ≡ targets → All (λ (place : ℕ). place < length s.targets) s.served → ServesTaken (state_after s inputs) (last_taken targets inputs)
+served_run s targets [] e h = record { targets = e; places = h }
+served_run s targets (Taken at head until ts ∷ inputs) e h = served_run (next s (Taken at head until ts)) ts inputs refl (serves_next s (Taken at head until ts) h)
+served_run s targets (Shown at head until ts ∷ inputs) e h =
+    let stays : (b : Bool) → (cond b (record s { head = record s.head { round = head.round }; until = until }) (record s { until = 0 })).targets ≡ s.targets = λ b. elim b as (λ v. (cond v (record s { head = record s.head { round = head.round }; until = until }) (record s { until = 0 })).targets ≡ s.targets) [ true ↦ refl | false ↦ refl ] in
+    served_run (next s (Shown at head until ts)) targets inputs (stays (s.head.epoch == head.epoch) ∙ e) (serves_next s (Shown at head until ts) h)
+served_run s targets (Gone at ∷ inputs) e h = served_run (next s (Gone at)) [] inputs refl (serves_next s (Gone at) h)
+served_run s targets (Unknown at ∷ inputs) e h = served_run (next s (Unknown at)) targets inputs e (serves_next s (Unknown at) h)
+served_run s targets (Over ∷ inputs) e h = served_run (next s Over) targets inputs e (serves_next s Over h)
+served_run s targets (Asked now said ∷ inputs) e h =
+    let stays : (b : Bool) → (cond b (record s { told = after s.told s.head said s.targets }) s).targets ≡ s.targets = λ b. elim b as (λ v. (cond v (record s { told = after s.told s.head said s.targets }) s).targets ≡ s.targets) [ true ↦ refl | false ↦ refl ] in
+    served_run (next s (Asked now said)) targets inputs (stays (may_report s now) ∙ e) (serves_next s (Asked now said) h)
+
+pub whole_served : (told : Told) (lease : Option ℕ) (inputs : List Input) → ServesTaken (state_after (nobody told lease) inputs) (last_taken [] inputs)
+whole_served told lease inputs = served_run (nobody told lease) [] inputs refl (λ k d l. absurd (omega (arith, l)))
