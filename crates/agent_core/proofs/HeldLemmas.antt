@@ -1,13 +1,13 @@
 -- Each report is of a target of a list that was taken, and what is served is of the last one, over whole runs.
-use Rattle.std.proofs.Common.{◌≡◌, ℕ, zero, suc, ◌+◌, ◌<◌, ◌≤◌, ◌++◌, ◌⊎◌, List, [], ◌∷◌, Bool, true, false, Option, None, Some, All, Contains, length, get_or, cond, refl, sym, ap, subst, ◌∙◌, inl, inr, arith}
+use Rattle.std.proofs.Common.{◌≡◌, ℕ, zero, suc, ◌+◌, ◌<◌, ◌⊎◌, List, [], ◌∷◌, Bool, true, false, Option, None, Some, All, Contains, length, get_or, take, cond, refl, sym, ap, subst, ◌∙◌, inl, inr, arith}
 use Rattle.std.specs.Prelude.{Any, ◌&&◌, ◌==◌, option_map, not, nat_lt, filter}
 use Rattle.std.specs.List.{cons_option, range_with_len}
 use Rattle.std.proofs.lemmas.Bool.Decides.{nat_tests}
 use Rattle.std.proofs.lemmas.Grind.{common_steps}
 use Rattle.std.proofs.lemmas.List.Elements.{All-append, All-cons, All-nil, All-filter}
-use Rattle.agent_core.specs.Told.{Told, carried, is_open, mark_of, report_of, slot, with_report}
+use Rattle.agent_core.specs.Told.{Told, is_open, mark_of, report_of, slot, with_report}
 use Rattle.agent_core.specs.Choices.{after, chosen, chosen_of, points_of, with_chosen}
-use Rattle.agent_core.specs.Agents.{Input, Asked, Gone, Over, Shown, Taken, Unknown, State, is_listed, is_nobody, is_same, may_report, next, nobody, places, reported, reports_of, shown_standing, state_after}
+use Rattle.agent_core.specs.Agents.{Input, Asked, Cut, Gone, Over, Shown, Taken, Unknown, State, is_listed, is_nobody, is_same, may_report, next, nobody, reported, reports_of, shown_standing, state_after}
 use Rattle.agent_core.specs.Laws.{IsHeld, IsTaken, IsTold, ServesTaken, last_taken}
 use Rattle.agent_core.specs.declared.serving.Standing.{Standing}
 use Rattle.agent_core.specs.declared.serving.Standing.TheVariants.{Nobody, Holding, Following}
@@ -101,6 +101,7 @@ held_reports inputs s (Shown at head until targets) holds = All-nil (IsHeld inpu
 held_reports inputs s (Gone at) holds = All-nil (IsHeld inputs)
 held_reports inputs s (Unknown at) holds = All-nil (IsHeld inputs)
 held_reports inputs s Over holds = All-nil (IsHeld inputs)
+held_reports inputs s (Cut now said count) holds = All-nil (IsHeld inputs)
 held_reports inputs s (Asked now said) holds = by (is_nobody s.standing) refl (nat_lt now s.until)
   where
     grounded : is_nobody s.standing ≡ false → Holds inputs s → IsGrounded inputs s
@@ -132,7 +133,11 @@ shown_holds inputs s at head until targets there (inr g) = inr (by (s.head.epoch
     by true is =
         let same : head.epoch ≡ s.head.epoch = grind (arith, nat_tests, is) in
         record {
-          head = g.head; taken = g.taken; collector = g.collector; epoch = g.epoch; number = g.number;
+          head = g.head;
+          taken = g.taken;
+          collector = g.collector;
+          epoch = g.epoch;
+          number = g.number;
           told = (there.0, Shown at head until targets, there.1, there.2, (same, refl));
         }
     by false is = record { head = g.head; taken = g.taken; collector = g.collector; epoch = g.epoch; number = g.number; told = g.told }
@@ -141,7 +146,9 @@ holds_next : (inputs : List Input) (s : State) (input : Input) → Contains inpu
 holds_next inputs s (Taken at head until targets) there holds = inr (record {
   head = head;
   taken = (there.0, Taken at head until targets, there.1, there.2, (refl, refl));
-  collector = refl; epoch = refl; number = refl;
+  collector = refl;
+  epoch = refl;
+  number = refl;
   told = (there.0, Taken at head until targets, there.1, there.2, (refl, refl));
 })
 holds_next inputs s (Shown at head until targets) there holds = shown_holds inputs s at head until targets there holds
@@ -152,6 +159,12 @@ holds_next inputs s Over there (inr g) = inr (record { head = g.head; taken = g.
 holds_next inputs s (Asked now said) there holds = by (may_report s now) holds
   where
     by : (b : Bool) → Holds inputs s → Holds inputs (cond b (record s { told = after s.told s.head said s.targets }) s)
+    by true (inl none) = inl none
+    by true (inr g) = inr (record { head = g.head; taken = g.taken; collector = g.collector; epoch = g.epoch; number = g.number; told = g.told })
+    by false h = h
+holds_next inputs s (Cut now said count) there holds = by (may_report s now) holds
+  where
+    by : (b : Bool) → Holds inputs s → Holds inputs (cond b (record s { told = after s.told s.head said (take count s.targets) }) s)
     by true (inl none) = inl none
     by true (inr g) = inr (record { head = g.head; taken = g.taken; collector = g.collector; epoch = g.epoch; number = g.number; told = g.told })
     by false h = h
@@ -196,6 +209,11 @@ serves_next s (Asked now said) h = by (may_report s now)
     by : (b : Bool) → All (λ (place : ℕ). place < length (cond b (record s { told = after s.told s.head said s.targets }) s).targets) (cond b (record s { told = after s.told s.head said s.targets }) s).served
     by true = h
     by false = h
+serves_next s (Cut now said count) h = by (may_report s now)
+  where
+    by : (b : Bool) → All (λ (place : ℕ). place < length (cond b (record s { told = after s.told s.head said (take count s.targets) }) s).targets) (cond b (record s { told = after s.told s.head said (take count s.targets) }) s).served
+    by true = h
+    by false = h
 
 served_run : (s : State) (targets : List Listed) (inputs : List Input) → s.targets ≡ targets → All (λ (place : ℕ). place < length s.targets) s.served → ServesTaken (state_after s inputs) (last_taken targets inputs)
 served_run s targets [] e h = record { targets = e; places = h }
@@ -209,6 +227,9 @@ served_run s targets (Over ∷ inputs) e h = served_run (next s Over) targets in
 served_run s targets (Asked now said ∷ inputs) e h =
     let stays : (b : Bool) → (cond b (record s { told = after s.told s.head said s.targets }) s).targets ≡ s.targets = λ b. elim b as (λ v. (cond v (record s { told = after s.told s.head said s.targets }) s).targets ≡ s.targets) [ true ↦ refl | false ↦ refl ] in
     served_run (next s (Asked now said)) targets inputs (stays (may_report s now) ∙ e) (serves_next s (Asked now said) h)
+served_run s targets (Cut now said count ∷ inputs) e h =
+    let stays : (b : Bool) → (cond b (record s { told = after s.told s.head said (take count s.targets) }) s).targets ≡ s.targets = λ b. elim b as (λ v. (cond v (record s { told = after s.told s.head said (take count s.targets) }) s).targets ≡ s.targets) [ true ↦ refl | false ↦ refl ] in
+    served_run (next s (Cut now said count)) targets inputs (stays (may_report s now) ∙ e) (serves_next s (Cut now said count) h)
 
 pub whole_served : (told : Told) (lease : Option ℕ) (inputs : List Input) → ServesTaken (state_after (nobody told lease) inputs) (last_taken [] inputs)
 whole_served told lease inputs = served_run (nobody told lease) [] inputs refl (λ k d l. absurd (omega (arith, l)))

@@ -1,12 +1,12 @@
 -- No scrape twice, and nothing older than what was told before, over whole runs.
-use Rattle.std.proofs.Common.{◌≡◌, ℕ, ◌<◌, ◌≤◌, ◌++◌, List, [], ◌∷◌, Bool, true, false, Option, None, Some, All, length, get_or, cond, refl, sym, ap, subst, ◌∙◌, append_assoc, append-nil, inl, inr, arith}
-use Rattle.std.specs.Prelude.{AllPairs, ◌&&◌, ◌==◌, option_map, not, nat_lt}
+use Rattle.std.proofs.Common.{◌≡◌, ℕ, ◌≤◌, ◌++◌, List, [], ◌∷◌, Bool, true, false, Option, None, Some, All, get_or, take, cond, refl, sym, ap, subst, append_assoc, append-nil, arith}
+use Rattle.std.specs.Prelude.{AllPairs, ◌&&◌, ◌==◌, option_map}
 use Rattle.std.specs.List.{cons_option}
 use Rattle.std.proofs.lemmas.List.Quantifiers.{all_pairs_push}
 use Rattle.std.proofs.lemmas.List.Elements.{All-push}
 use Rattle.agent_core.specs.Told.{Told, carried, is_open, mark_of, report_of, slot, with_report}
 use Rattle.agent_core.specs.Choices.{after, chosen, chosen_of, points_of, with_chosen}
-use Rattle.agent_core.specs.Agents.{Input, Asked, Gone, Over, Shown, Taken, Unknown, State, may_report, next, reported, reports_of}
+use Rattle.agent_core.specs.Agents.{Input, Asked, Cut, Gone, Over, Shown, Taken, Unknown, State, may_report, next, reported, reports_of}
 use Rattle.agent_core.specs.Laws.{IsApart, IsNews}
 use Rattle.agent_core.specs.declared.target.Series.{Series}
 use Rattle.agent_core.specs.declared.target.Listed.{Listed}
@@ -65,8 +65,8 @@ apart_from : (told : Told) (before report : Report) → IsSaid told before → I
 apart_from told before report said news = record {
   later = λ same. let mark = ap (mark_of told) same in omega (arith, said.time, news.later, mark);
   another = λ e r t.
-    let moved : is_open told before.head.epoch before.head.round before.target ≡ is_open told report.head.epoch report.head.round report.target = (λ i. is_open told (e i) (r i) (t i)) in
-    absurd (cc (said.closed, news.unsaid, moved));
+      let moved : is_open told before.head.epoch before.head.round before.target ≡ is_open told report.head.epoch report.head.round report.target = (λ i. is_open told (e i) (r i) (t i)) in
+      absurd (cc (said.closed, news.unsaid, moved));
 }
 
 -- a report more
@@ -86,7 +86,7 @@ chosen_news : (told : Told) (head : Head) (points : List Point) (listed : Listed
 chosen_news told head points listed report e = by listed.alone (is_open told head.epoch head.round listed.target) refl (slot (mark_of told listed.series) points) refl e
   where
     by : (alone opens : Bool) → is_open told head.epoch head.round listed.target ≡ opens → (o : Option Point) → slot (mark_of told listed.series) points ≡ o
-      → cond (alone && opens) (option_map (report_of head listed) o) None ≡ Some report → IsNews told report
+        → cond (alone && opens) (option_map (report_of head listed) o) None ≡ Some report → IsNews told report
     by false opens is o s e = absurd (cc e)
     by true false is o s e = absurd (cc e)
     by true true is None s e = absurd (cc e)
@@ -111,15 +111,27 @@ chooses start told done head said (listed ∷ targets) run =
 nothing_more : (start told : Told) (done : List Report) → IsRun start told done → IsRun start told (done ++ [])
 nothing_more start told done run = subst (IsRun start told) (sym (append-nil done)) run
 
+grows_by : (told : Told) (head : Head) (said : List (Series × List Point)) (listed : Listed) (o : Option Report) → chosen_of told head (points_of said listed.series) listed ≡ o → Grows told (with_chosen told o)
+grows_by told head said listed None is = record { marks = λ q. omega arith; rounds = λ e r t closed. closed }
+grows_by told head said listed (Some report) is = grows_told told report (chosen_news told head (points_of said listed.series) listed report is)
+
+grows_after : (told : Told) (head : Head) (said : List (Series × List Point)) (targets : List Listed) → Grows told (after told head said targets)
+grows_after told head said [] = record { marks = λ q. omega arith; rounds = λ e r t closed. closed }
+grows_after told head said (listed ∷ targets) =
+    let o = chosen_of told head (points_of said listed.series) listed in
+    grown_on told (with_chosen told o) (after (with_chosen told o) head said targets) (grows_by told head said listed o refl) (grows_after (with_chosen told o) head said targets)
+
+-- no report more, where what was told grows
+keeps : (start old new : Told) (done : List Report) → Grows old new → IsRun start old done → IsRun start new done
+keeps start old new done grows run = record {
+  apart = run.apart;
+  said = λ k d l. said_on old new (get_or done k d) grows (run.said k d l);
+  news = run.news;
+  grown = grown_on start old new run.grown grows;
+}
+
 steps : (start : Told) (s : State) (done : List Report) (input : Input) → IsRun start s.told done → IsRun start (next s input).told (done ++ reported s input)
-steps start s done (Taken at head until targets) run =
-    let grows = grows_carried s.told at targets in
-    nothing_more start (carried s.told at targets) done (record {
-      apart = run.apart;
-      said = λ k d l. said_on s.told (carried s.told at targets) (get_or done k d) grows (run.said k d l);
-      news = run.news;
-      grown = grown_on start s.told (carried s.told at targets) run.grown grows;
-    })
+steps start s done (Taken at head until targets) run = nothing_more start (carried s.told at targets) done (keeps start s.told (carried s.told at targets) done (grows_carried s.told at targets) run)
 steps start s done (Shown at head until targets) run = by (s.head.epoch == head.epoch)
   where
     by : (b : Bool) → IsRun start (cond b (record s { head = record s.head { round = head.round }; until = until }) (record s { until = 0 })).told (done ++ [])
@@ -132,6 +144,11 @@ steps start s done (Asked now said) run = by (may_report s now)
   where
     by : (b : Bool) → IsRun start (cond b (record s { told = after s.told s.head said s.targets }) s).told (done ++ cond b (chosen s.told s.head said s.targets) [])
     by true = chooses start s.told done s.head said s.targets run
+    by false = nothing_more start s.told done run
+steps start s done (Cut now said count) run = by (may_report s now)
+  where
+    by : (b : Bool) → IsRun start (cond b (record s { told = after s.told s.head said (take count s.targets) }) s).told (done ++ [])
+    by true = nothing_more start (after s.told s.head said (take count s.targets)) done (keeps start s.told (after s.told s.head said (take count s.targets)) done (grows_after s.told s.head said (take count s.targets)) run)
     by false = nothing_more start s.told done run
 
 runs : (start : Told) (s : State) (done : List Report) (inputs : List Input) → IsRun start s.told done → (told : Told) × IsRun start told (done ++ reports_of s inputs)

@@ -1,5 +1,5 @@
 -- How what was told grows: marks rise, and a target of which was told in a round stays told of.
-use Rattle.std.proofs.Common.{◌≡◌, ℕ, zero, suc, ◌+◌, ◌-◌, ◌<◌, ◌≤◌, ◌||◌, ◌&&◌, List, [], ◌∷◌, ◌++◌, Bool, true, false, Option, None, Some, nat_eq, cond, refl, sym, ap, subst, ◌∙◌, inl, inr, arith}
+use Rattle.std.proofs.Common.{◌≡◌, ℕ, zero, suc, ◌-◌, ◌<◌, ◌≤◌, ◌||◌, ◌&&◌, List, [], ◌∷◌, ◌++◌, Bool, true, false, Option, None, Some, nat_eq, cond, refl, sym, ap, subst, ◌∙◌, arith}
 use Rattle.std.specs.Prelude.{◌==◌, not, nat_lt, max, unwrap_or, slice_get, filter, length}
 use Rattle.std.specs.List.{list_any}
 use Rattle.std.specs.Map.{lookup, values_of}
@@ -61,7 +61,7 @@ lookup_put_by q k v e marks true is rest =
 lookup_put_by q k v e marks false is rest =
     ap (λ (r : Option ℕ). cond (same_series q e.0) (Some e.1) r) rest
     ∙ swapped (same_series q e.0) (same_series q k) v e.1 (lookup (same_series q) marks)
-      (λ a b. absurd (cc (is, ap (λ (x : Series). same_series x e.0) (sym (series_are q k b)) ∙ a)))
+    (λ a b. absurd (cc (is, ap (λ (x : Series). same_series x e.0) (sym (series_are q k b)) ∙ a)))
 
 -- the value that was put in is the one that is found, and those of other series stay
 pub lookup_put : (marks : List (Series × ℕ)) (k q : Series) (v : ℕ) → lookup (same_series q) (insert_entry same_series marks k v) ≡ cond (same_series q k) (Some v) (lookup (same_series q) marks)
@@ -191,7 +191,7 @@ stays_closed told report epoch round target news closed = by (is_later told repo
     equal e r en rn among later o = (grind (arith, nat_tests, later, o), grind (arith, nat_tests, later, o))
 
     by : (b : Bool) → is_later told report.head.epoch report.head.round ≡ b
-      → open_at report.head.epoch report.head.round epoch round (list_any (nat_eq target) (insert_key nat_eq (cond b [] told.targets) report.target)) ≡ false
+        → open_at report.head.epoch report.head.round epoch round (list_any (nat_eq target) (insert_key nat_eq (cond b [] told.targets) report.target)) ≡ false
     by true is = closed_later told.epoch told.round epoch round report.head.epoch report.head.round (list_any (nat_eq target) told.targets) (list_any (nat_eq target) (insert_key nat_eq [] report.target)) closed is
     by false is =
         let at = equal told.epoch told.round report.head.epoch report.head.round (list_any (nat_eq report.target) told.targets) is news in

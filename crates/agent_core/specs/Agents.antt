@@ -1,5 +1,5 @@
 -- An agent that stands between the allocator and its Prometheus, as a machine: what it is told, and what comes of it.
-use Rattle.std.specs.Prelude.{ℕ, ◌-◌, ◌==◌, ◌&&◌, Bool, true, false, List, [], ◌∷◌, ◌++◌, Option, None, Some, nat_lt, nat_le, not, filter, length, slice_get, if◌then◌else◌}
+use Rattle.std.specs.Prelude.{ℕ, ◌-◌, ◌==◌, ◌&&◌, Bool, true, false, List, [], ◌∷◌, ◌++◌, Option, None, Some, nat_lt, nat_le, not, filter, length, slice_get, take, if◌then◌else◌}
 use Rattle.std.specs.List.{list_any, range_with_len}
 use Rattle.std.specs.Option.{option_map_or}
 use Rattle.std.specs.Cmp.Lexicographic.{pointwise}
@@ -46,6 +46,8 @@ pub data Input : Type 0 where
   Over : Input
   -- Prometheus said of each series these scrapes
   Asked : (now : ℕ) (said : List (Series × List Point)) → Input
+  -- the same, and memory ended behind so many targets: what was chosen is lost
+  Cut : (now : ℕ) (said : List (Series × List Point)) (count : ℕ) → Input
 
 abbrev pub no_head : Head
 no_head = record { collector = 0; epoch = 0; number = 0; round = 0 }
@@ -102,6 +104,7 @@ next s (Gone at) = record s { standing = Nobody; until = 0; targets = []; served
 next s (Unknown at) = record s { standing = Nobody; until = 0; heard = at }
 next s Over = record s { until = 0 }
 next s (Asked now said) = if may_report s now then record s { told = after s.told s.head said s.targets } else s
+next s (Cut now said count) = if may_report s now then record s { told = after s.told s.head said (take count s.targets) } else s
 
 -- the reports that it chooses
 abbrev pub reported : State → Input → List Report
@@ -110,6 +113,7 @@ reported s (Shown at head until targets) = []
 reported s (Gone at) = []
 reported s (Unknown at) = []
 reported s Over = []
+reported s (Cut now said count) = []
 reported s (Asked now said) = if may_report s now then chosen s.told s.head said s.targets else []
 
 -- a whole run: its reports, and what it leaves

@@ -1,7 +1,7 @@
 -- What holds of every run of an agent, whatever it is told: by the allocator, by Prometheus and by the clock, in whatever order.
 use Rattle.std.specs.Prelude.{◌≡◌, ◌≢◌, ℕ, ◌<◌, true, List, [], ◌∷◌, Option, All, Any, AllPairs, Contains, length}
 use Rattle.agent_core.specs.Told.{Told, is_open, mark_of}
-use Rattle.agent_core.specs.Agents.{Input, Asked, Gone, Over, Shown, Taken, Unknown, State, nobody, reports_of, state_after}
+use Rattle.agent_core.specs.Agents.{Input, Asked, Cut, Gone, Over, Shown, Taken, Unknown, State, nobody, reports_of, state_after}
 use Rattle.agent_core.specs.declared.target.Listed.{Listed}
 use Rattle.agent_core.specs.declared.report.Head.{Head}
 use Rattle.agent_core.specs.declared.report.Report.{Report}
@@ -32,6 +32,7 @@ IsTaken head targets (Gone at) = ⊥
 IsTaken head targets (Unknown at) = ⊥
 IsTaken head targets Over = ⊥
 IsTaken head targets (Asked now said) = ⊥
+IsTaken head targets (Cut now said count) = ⊥
 
 -- an input tells that a round of an epoch is open
 abbrev pub IsTold : ℕ → ℕ → Input → Type 0
@@ -41,6 +42,7 @@ IsTold epoch round (Gone at) = ⊥
 IsTold epoch round (Unknown at) = ⊥
 IsTold epoch round Over = ⊥
 IsTold epoch round (Asked now said) = ⊥
+IsTold epoch round (Cut now said count) = ⊥
 
 -- a report is of a target of a list among these inputs, in a round that was told
 pub record IsHeld (inputs : List Input) (report : Report) : Type 0 where
@@ -70,6 +72,7 @@ last_taken targets (Gone at ∷ inputs) = last_taken [] inputs
 last_taken targets (Unknown at ∷ inputs) = last_taken targets inputs
 last_taken targets (Over ∷ inputs) = last_taken targets inputs
 last_taken targets (Asked now said ∷ inputs) = last_taken targets inputs
+last_taken targets (Cut now said count ∷ inputs) = last_taken targets inputs
 
 -- What is served is of the list that was taken last, whatever was shown since.
 pub record ServesTaken (s : State) (last : List Listed) : Type 0 where

@@ -1,9 +1,8 @@
 -- What an agent told the allocator, as far as it has to know it: the last round with its targets, and of each series the time of the last scrape.
 -- This is what is written down before a report is posted.
-use Rattle.std.specs.Prelude.{ℕ, ◌-◌, ◌==◌, ◌&&◌, ◌||◌, Bool, not, List, [], ◌∷◌, Option, None, Some, nat_lt, nat_eq, max, length, filter, unwrap_or, slice_get, if◌then◌else◌}
+use Rattle.std.specs.Prelude.{ℕ, ◌-◌, ◌==◌, ◌&&◌, ◌||◌, Bool, not, List, [], ◌∷◌, Option, nat_lt, nat_eq, max, length, filter, unwrap_or, slice_get, if◌then◌else◌}
 use Rattle.std.specs.List.{list_any}
 use Rattle.std.specs.Map.{lookup, values_of}
-use Rattle.std.specs.Option.{option_map}
 use Rattle.indexmap.specs.IndexMap.{insert_entry}
 use Rattle.indexmap.specs.IndexSet.{insert_key}
 use Rattle.agent_core.specs.Targets.{same_series}

@@ -1,11 +1,13 @@
 //! What an agent holds of the allocator, what it serves its Prometheus, and what it reports.
-ghost use Rattle.std.specs.Prelude.{◌≡◌, IfOk, OnErr, OnOk};
-ghost use Rattle.agent_core.specs.Agents.{Asked, Gone, Over, Shown, Taken, Unknown, is_same, may_report, next, nobody, reported, serving_of, with_lists, with_round};
+ghost use Rattle.std.specs.Prelude.{◌≡◌, ℕ, IfOk, OnErr, OnOk};
+ghost use Rattle.agent_core.specs.Agents.{Asked, Cut, Gone, Over, Shown, Taken, Unknown, is_same, may_report, next, nobody, reported, serving_of, with_lists, with_round};
 
 use crate::choosing::{Said, choose};
 use crate::memory::Memory;
 use crate::report::{Head, Report};
-use crate::serving::{Serving, Standing, is_expired, is_nobody, keep_listed, places, shown_standing};
+use crate::serving::{
+    Serving, Standing, is_expired, is_nobody, keep_listed, places, shown_standing,
+};
 use crate::target::Listed;
 use indexmap::IndexSet;
 use std::alloc::{AllocError, Global};
@@ -169,10 +171,11 @@ impl Agent {
     }
 
     /// Chooses reports of what Prometheus said, as it is asked at a time. Each is noted in the memory, which is to be written down before the
-    /// first is posted. Without memory those that were chosen are lost.
+    /// first is posted. Without memory none is given, and those that were chosen before it ended are lost.
     pub fn choose(&mut self, now: u64, said: &Said) -> Result<Vec<Report>, AllocError>
         ensures reports { IfOk result (λ v. v.items ≡ reported self.old (Asked now said.now.entries)) }
         ensures state { OnOk result (self.new ≡ next self.old (Asked now said.now.entries)) }
+        ensures err { OnErr result ((count : ℕ) × (self.new ≡ next self.old (Cut now said.now.entries count))) }
     {
         if !self.may_report(now) {
             return Ok(Vec::new(self.alloc));
@@ -193,7 +196,11 @@ impl Agent {
     fn hold(&mut self, at: u64, lists: Lists)
         ensures { self.new ≡ with_lists self.old at lists.head lists.until lists.targets.keys }
     {
-        let Lists { head, until, targets } = lists;
+        let Lists {
+            head,
+            until,
+            targets,
+        } = lists;
         self.standing = Standing::Holding;
         self.head = head;
         self.until = until;

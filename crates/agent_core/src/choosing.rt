@@ -1,5 +1,5 @@
 //! Which reports are made of what Prometheus said.
-ghost use Rattle.std.specs.Prelude.{◌≡◌, ◌++◌, [], IfOk, OnErr, OnOk};
+ghost use Rattle.std.specs.Prelude.{◌≡◌, ◌++◌, [], ℕ, take, IfOk, OnErr, OnOk};
 ghost use Rattle.std.specs.List.{cons_option};
 ghost use Rattle.agent_core.specs.Choices.{after, chosen, chosen_of, points_of, with_chosen};
 
@@ -24,6 +24,7 @@ pub(crate) fn choose(
 ) -> Result<Vec<Report>, AllocError>
     ensures reports { IfOk result (λ v. v.items ≡ chosen memory.old head said.now.entries targets.now) }
     ensures memory { OnOk result (memory.new ≡ after memory.old head said.now.entries targets.now) }
+    ensures err { OnErr result ((count : ℕ) × (memory.new ≡ after memory.old head said.now.entries (take count targets.now))) }
 {
     let mut reports = Vec::new(alloc);
     for listed in targets {

@@ -172,11 +172,7 @@ impl Memory {
     }
 
     /// The marks of a list's series, where a series without one has this one.
-    fn marks_for(
-        &self,
-        floor: u64,
-        targets: &[Listed],
-    ) -> Result<IndexMap<Series, u64>, AllocError>
+    fn marks_for(&self, floor: u64, targets: &[Listed]) -> Result<IndexMap<Series, u64>, AllocError>
         ensures { IfOk result (λ m. m.entries ≡ marks_for (record self.now { floor = floor }) targets.now []) }
     {
         let mut marks = IndexMap::new(self.alloc);
@@ -199,11 +195,7 @@ impl Memory {
 }
 
 /// A series has this mark. Without memory nothing changes.
-fn set_mark(
-    marks: &mut IndexMap<Series, u64>,
-    series: &Series,
-    time: u64,
-) -> Result<(), AllocError>
+fn set_mark(marks: &mut IndexMap<Series, u64>, series: &Series, time: u64) -> Result<(), AllocError>
     ensures ok { OnOk result (marks.new.entries ≡ insert_entry same_series marks.old.entries series.now time) }
     ensures err { OnErr result (marks.new.entries ≡ marks.old.entries) }
 {
