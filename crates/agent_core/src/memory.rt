@@ -88,6 +88,13 @@ impl Memory {
         self.targets.as_slice()
     }
 
+    /// Of each series of the last list the time up to which no scrape is reported any more.
+    pub fn marks(&self) -> &IndexMap<Series, u64>
+        ensures { result.now.entries ≡ self.now.marks }
+    {
+        &self.marks
+    }
+
     /// Nothing up to this time is reported of a series without a mark.
     pub fn floor(&self) -> u64
         ensures { result ≡ self.now.floor }
