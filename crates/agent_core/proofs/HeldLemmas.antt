@@ -1,14 +1,15 @@
 -- Each report is of a target of a list that was taken, and what is served is of the last one, over whole runs.
-use Rattle.std.proofs.Common.{◌≡◌, ℕ, zero, suc, ◌+◌, ◌<◌, ◌⊎◌, List, [], ◌∷◌, Bool, true, false, Option, None, Some, All, Contains, length, get_or, take, cond, refl, sym, ap, subst, ◌∙◌, inl, inr, arith}
+use Rattle.std.proofs.Common.{◌≡◌, ℕ, zero, suc, ◌+◌, ◌<◌, ◌++◌, ◌⊎◌, List, [], ◌∷◌, Bool, true, false, Option, None, Some, All, Contains, length, get_or, take, cond, refl, sym, ap, subst, ◌∙◌, append_assoc, append-nil, inl, inr, arith}
 use Rattle.std.specs.Prelude.{Any, ◌&&◌, ◌==◌, option_map, not, nat_lt, filter}
 use Rattle.std.specs.List.{cons_option, range_with_len}
 use Rattle.std.proofs.lemmas.Bool.Decides.{nat_tests}
 use Rattle.std.proofs.lemmas.Grind.{common_steps}
-use Rattle.std.proofs.lemmas.List.Elements.{All-append, All-cons, All-nil, All-filter}
+use Rattle.std.proofs.lemmas.List.Elements.{All-cons, All-nil, All-filter}
+use Rattle.std.proofs.lemmas.List.Quantifiers.{Any-push}
 use Rattle.agent_core.specs.Told.{Told, is_open, mark_of, report_of, slot, with_report}
 use Rattle.agent_core.specs.Choices.{after, chosen, chosen_of, points_of, with_chosen}
-use Rattle.agent_core.specs.Agents.{Input, Asked, Cut, Gone, Over, Shown, Taken, Unknown, State, is_listed, is_nobody, is_same, may_report, next, nobody, reported, reports_of, shown_standing, state_after}
-use Rattle.agent_core.specs.Laws.{IsHeld, IsTaken, IsTold, ServesTaken, last_taken}
+use Rattle.agent_core.specs.Agents.{Input, Asked, Cut, Gone, Over, Shown, Taken, Unknown, State, is_listed, is_nobody, is_same, may_report, next, nobody, reported, shown_standing, state_after}
+use Rattle.agent_core.specs.Laws.{IsHeld, IsTold, ServesTaken, held, last_taken}
 use Rattle.agent_core.specs.declared.serving.Standing.{Standing}
 use Rattle.agent_core.specs.declared.serving.Standing.TheVariants.{Nobody, Holding, Following}
 use Rattle.agent_core.specs.declared.target.Series.{Series}
@@ -65,25 +66,25 @@ chosen_held told head said [] = All-nil (IsOf head [])
 chosen_held told head said (listed ∷ targets) =
     chosen_by told head said listed targets (chosen_of told head (points_of said listed.series) listed) refl (λ t. chosen_held t head said targets)
 
--- ---- what a state holds, of these inputs
+-- ---- what a state holds, behind these inputs
 
-record IsGrounded (inputs : List Input) (s : State) : Type 0 where
+record IsGrounded (seen : List Input) (list : Option (Head × List Listed)) (s : State) : Type 0 where
   head : Head
-  taken : Any (IsTaken head s.targets) inputs
+  is : list ≡ Some (head, s.targets)
   collector : s.head.collector ≡ head.collector
   epoch : s.head.epoch ≡ head.epoch
   number : s.head.number ≡ head.number
-  told : Any (IsTold s.head.epoch s.head.round) inputs
+  told : Any (IsTold s.head.epoch s.head.round) seen
 
-abbrev Holds : List Input → State → Type 0
-Holds inputs s = (is_nobody s.standing ≡ true) ⊎ IsGrounded inputs s
+abbrev Holds : List Input → Option (Head × List Listed) → State → Type 0
+Holds seen list s = (is_nobody s.standing ≡ true) ⊎ IsGrounded seen list s
 
-held_by : (inputs : List Input) (s : State) (report : Report) → IsGrounded inputs s → IsOf s.head s.targets report → IsHeld inputs report
-held_by inputs s report g of =
+held_by : (before : List Input) (s : State) (report : Report) → IsGrounded before (held None before) s → IsOf s.head s.targets report → IsHeld before report
+held_by before s report g of =
     record {
       head = g.head;
       targets = s.targets;
-      taken = g.taken;
+      list = g.is;
       collector = ap (λ (h : Head). h.collector) of.by_head ∙ g.collector;
       epoch = ap (λ (h : Head). h.epoch) of.by_head ∙ g.epoch;
       number = ap (λ (h : Head). h.number) of.by_head ∙ g.number;
@@ -92,40 +93,55 @@ held_by inputs s report g of =
       target = of.target;
       series = of.series;
       alone = of.alone;
-      told = subst (λ (h : Head). Any (IsTold h.epoch h.round) inputs) (sym of.by_head) g.told;
+      told = subst (λ (h : Head). Any (IsTold h.epoch h.round) before) (sym of.by_head) g.told;
     }
 
-held_reports : (inputs : List Input) (s : State) (input : Input) → Holds inputs s → All (IsHeld inputs) (reported s input)
-held_reports inputs s (Taken at head until targets) holds = All-nil (IsHeld inputs)
-held_reports inputs s (Shown at head until targets) holds = All-nil (IsHeld inputs)
-held_reports inputs s (Gone at) holds = All-nil (IsHeld inputs)
-held_reports inputs s (Unknown at) holds = All-nil (IsHeld inputs)
-held_reports inputs s Over holds = All-nil (IsHeld inputs)
-held_reports inputs s (Cut now said count) holds = All-nil (IsHeld inputs)
-held_reports inputs s (Asked now said) holds = by (is_nobody s.standing) refl (nat_lt now s.until)
+held_reports : (before : List Input) (s : State) (input : Input) → Holds before (held None before) s → All (IsHeld before) (reported s input)
+held_reports before s (Taken at head until targets) holds = All-nil (IsHeld before)
+held_reports before s (Shown at head until targets) holds = All-nil (IsHeld before)
+held_reports before s (Gone at) holds = All-nil (IsHeld before)
+held_reports before s (Unknown at) holds = All-nil (IsHeld before)
+held_reports before s Over holds = All-nil (IsHeld before)
+held_reports before s (Cut now said count) holds = All-nil (IsHeld before)
+held_reports before s (Asked now said) holds = by (is_nobody s.standing) refl (nat_lt now s.until)
   where
-    grounded : is_nobody s.standing ≡ false → Holds inputs s → IsGrounded inputs s
+    grounded : is_nobody s.standing ≡ false → Holds before (held None before) s → IsGrounded before (held None before) s
     grounded is (inl nobody) = absurd (cc (is, nobody))
     grounded is (inr g) = g
 
-    by : (nobody : Bool) → is_nobody s.standing ≡ nobody → (opens : Bool) → All (IsHeld inputs) (cond (not nobody && opens) (chosen s.told s.head said s.targets) [])
-    by true is opens = All-nil (IsHeld inputs)
-    by false is false = All-nil (IsHeld inputs)
+    by : (nobody : Bool) → is_nobody s.standing ≡ nobody → (opens : Bool) → All (IsHeld before) (cond (not nobody && opens) (chosen s.told s.head said s.targets) [])
+    by true is opens = All-nil (IsHeld before)
+    by false is false = All-nil (IsHeld before)
     by false is true =
         let g = grounded is holds in
-        λ k d l. held_by inputs s (get_or (chosen s.told s.head said s.targets) k d) g (chosen_held s.told s.head said s.targets k d l)
+        λ k d l. held_by before s (get_or (chosen s.told s.head said s.targets) k d) g (chosen_held s.told s.head said s.targets k d l)
+
+-- what is among some inputs is among more
+any_on : (P : Input → Type 0) (seen : List Input) (input : Input) → Any P seen → Any P (seen ++ input ∷ [])
+any_on P seen input a = (a.0, a.1, grind (arith, common_steps, a.2), grind (arith, common_steps, a.2, a.3), a.4)
+
+grounded_on : (seen : List Input) (list : Option (Head × List Listed)) (s : State) (input : Input) → IsGrounded seen list s → IsGrounded (seen ++ input ∷ []) list s
+grounded_on seen list s input g = record {
+  head = g.head;
+  is = g.is;
+  collector = g.collector;
+  epoch = g.epoch;
+  number = g.number;
+  told = any_on (IsTold s.head.epoch s.head.round) seen input g.told;
+}
 
 -- a holder stays one of the same list, in the round that was told last
-shown_holds : (inputs : List Input) (s : State) (at : ℕ) (head : Head) (until : ℕ) (targets : List Listed) → Contains inputs (Shown at head until targets) → Holds inputs s → Holds inputs (next s (Shown at head until targets))
-shown_holds inputs s at head until targets there (inl none) = inl (standing_none s.standing (is_same s head targets) none)
+shown_holds : (seen : List Input) (list : Option (Head × List Listed)) (s : State) (at : ℕ) (head : Head) (until : ℕ) (targets : List Listed) → Holds seen list s
+    → Holds (seen ++ Shown at head until targets ∷ []) list (next s (Shown at head until targets))
+shown_holds seen list s at head until targets (inl none) = inl (standing_none s.standing (is_same s head targets) none)
   where
     standing_none : (standing : Standing) (same : Bool) → is_nobody standing ≡ true → is_nobody (shown_standing standing same at) ≡ true
     standing_none Nobody same e = refl
     standing_none Holding same e = absurd (cc e)
     standing_none (Following since) same e = absurd (cc e)
-shown_holds inputs s at head until targets there (inr g) = inr (by (s.head.epoch == head.epoch) refl)
+shown_holds seen list s at head until targets (inr g) = inr (by (s.head.epoch == head.epoch) refl)
   where
-    by : (b : Bool) → (s.head.epoch == head.epoch) ≡ b → IsGrounded inputs (record (cond b (record s { head = record s.head { round = head.round }; until = until }) (record s { until = 0 })) {
+    by : (b : Bool) → (s.head.epoch == head.epoch) ≡ b → IsGrounded (seen ++ Shown at head until targets ∷ []) list (record (cond b (record s { head = record s.head { round = head.round }; until = until }) (record s { until = 0 })) {
       standing = shown_standing s.standing (is_same s head targets) at;
       served = filter (is_listed s.targets targets) s.served;
       heard = at;
@@ -134,57 +150,68 @@ shown_holds inputs s at head until targets there (inr g) = inr (by (s.head.epoch
         let same : head.epoch ≡ s.head.epoch = grind (arith, nat_tests, is) in
         record {
           head = g.head;
-          taken = g.taken;
+          is = g.is;
           collector = g.collector;
           epoch = g.epoch;
           number = g.number;
-          told = (there.0, Shown at head until targets, there.1, there.2, (same, refl));
+          told = Any-push (IsTold s.head.epoch head.round) seen (Shown at head until targets) (same, refl);
         }
-    by false is = record { head = g.head; taken = g.taken; collector = g.collector; epoch = g.epoch; number = g.number; told = g.told }
+    by false is = record {
+      head = g.head;
+      is = g.is;
+      collector = g.collector;
+      epoch = g.epoch;
+      number = g.number;
+      told = any_on (IsTold s.head.epoch s.head.round) seen (Shown at head until targets) g.told;
+    }
 
-holds_next : (inputs : List Input) (s : State) (input : Input) → Contains inputs input → Holds inputs s → Holds inputs (next s input)
-holds_next inputs s (Taken at head until targets) there holds = inr (record {
+holds_next : (seen : List Input) (list : Option (Head × List Listed)) (s : State) (input : Input) → Holds seen list s → Holds (seen ++ input ∷ []) (held list (input ∷ [])) (next s input)
+holds_next seen list s (Taken at head until targets) holds = inr (record {
   head = head;
-  taken = (there.0, Taken at head until targets, there.1, there.2, (refl, refl));
+  is = refl;
   collector = refl;
   epoch = refl;
   number = refl;
-  told = (there.0, Taken at head until targets, there.1, there.2, (refl, refl));
+  told = Any-push (IsTold head.epoch head.round) seen (Taken at head until targets) (refl, refl);
 })
-holds_next inputs s (Shown at head until targets) there holds = shown_holds inputs s at head until targets there holds
-holds_next inputs s (Gone at) there holds = inl refl
-holds_next inputs s (Unknown at) there holds = inl refl
-holds_next inputs s Over there (inl none) = inl none
-holds_next inputs s Over there (inr g) = inr (record { head = g.head; taken = g.taken; collector = g.collector; epoch = g.epoch; number = g.number; told = g.told })
-holds_next inputs s (Asked now said) there holds = by (may_report s now) holds
+holds_next seen list s (Shown at head until targets) holds = shown_holds seen list s at head until targets holds
+holds_next seen list s (Gone at) holds = inl refl
+holds_next seen list s (Unknown at) holds = inl refl
+holds_next seen list s Over (inl none) = inl none
+holds_next seen list s Over (inr g) = inr (let more = grounded_on seen list s Over g in record { head = more.head; is = more.is; collector = more.collector; epoch = more.epoch; number = more.number; told = more.told })
+holds_next seen list s (Asked now said) holds = by (may_report s now) holds
   where
-    by : (b : Bool) → Holds inputs s → Holds inputs (cond b (record s { told = after s.told s.head said s.targets }) s)
+    by : (b : Bool) → Holds seen list s → Holds (seen ++ Asked now said ∷ []) list (cond b (record s { told = after s.told s.head said s.targets }) s)
     by true (inl none) = inl none
-    by true (inr g) = inr (record { head = g.head; taken = g.taken; collector = g.collector; epoch = g.epoch; number = g.number; told = g.told })
-    by false h = h
-holds_next inputs s (Cut now said count) there holds = by (may_report s now) holds
+    by true (inr g) = inr (let more = grounded_on seen list s (Asked now said) g in record { head = more.head; is = more.is; collector = more.collector; epoch = more.epoch; number = more.number; told = more.told })
+    by false (inl none) = inl none
+    by false (inr g) = inr (grounded_on seen list s (Asked now said) g)
+holds_next seen list s (Cut now said count) holds = by (may_report s now) holds
   where
-    by : (b : Bool) → Holds inputs s → Holds inputs (cond b (record s { told = after s.told s.head said (take count s.targets) }) s)
+    by : (b : Bool) → Holds seen list s → Holds (seen ++ Cut now said count ∷ []) list (cond b (record s { told = after s.told s.head said (take count s.targets) }) s)
     by true (inl none) = inl none
-    by true (inr g) = inr (record { head = g.head; taken = g.taken; collector = g.collector; epoch = g.epoch; number = g.number; told = g.told })
-    by false h = h
+    by true (inr g) = inr (let more = grounded_on seen list s (Cut now said count) g in record { head = more.head; is = more.is; collector = more.collector; epoch = more.epoch; number = more.number; told = more.told })
+    by false (inl none) = inl none
+    by false (inr g) = inr (grounded_on seen list s (Cut now said count) g)
 
--- these inputs are among those
-abbrev Within : List Input → List Input → Type 0
-Within all inputs = (k : ℕ) (d : Input) → k < length inputs → Contains all (get_or inputs k d)
+held_one : (list : Option (Head × List Listed)) (input : Input) (inputs : List Input) → held (held list (input ∷ [])) inputs ≡ held list (input ∷ inputs)
+held_one list (Taken at head until targets) inputs = refl
+held_one list (Shown at head until targets) inputs = refl
+held_one list (Gone at) inputs = refl
+held_one list (Unknown at) inputs = refl
+held_one list Over inputs = refl
+held_one list (Asked now said) inputs = refl
+held_one list (Cut now said count) inputs = refl
 
-held_run : (all : List Input) (s : State) (inputs : List Input) → Within all inputs → Holds all s → All (IsHeld all) (reports_of s inputs)
-held_run all s [] within holds = All-nil (IsHeld all)
-held_run all s (input ∷ inputs) within holds =
-    let there : Contains all input = within 0 input (omega arith) in
-    All-append (IsHeld all) (reported s input) (reports_of (next s input) inputs) (held_reports all s input holds)
-    (held_run all (next s input) inputs (λ k d l. within (suc k) d (omega (arith, l))) (holds_next all s input there holds))
+holds_run : (seen : List Input) (list : Option (Head × List Listed)) (s : State) (inputs : List Input) → Holds seen list s → Holds (seen ++ inputs) (held list inputs) (state_after s inputs)
+holds_run seen list s [] holds = subst (λ (xs : List Input). Holds xs list s) (sym (append-nil seen)) holds
+holds_run seen list s (input ∷ inputs) holds =
+    let rest = holds_run (seen ++ input ∷ []) (held list (input ∷ [])) (next s input) inputs (holds_next seen list s input holds) in
+    subst (λ (h : Option (Head × List Listed)). Holds (seen ++ input ∷ inputs) h (state_after (next s input) inputs)) (held_one list input inputs)
+    (subst (λ (xs : List Input). Holds xs (held (held list (input ∷ [])) inputs) (state_after (next s input) inputs)) (append_assoc seen (input ∷ []) inputs) rest)
 
-pub whole_held : (told : Told) (lease : Option ℕ) (inputs : List Input) → All (IsHeld inputs) (reports_of (nobody told lease) inputs)
-whole_held told lease inputs = held_run inputs (nobody told lease) inputs (λ k d l. (k, l, at k d l)) (inl refl)
-  where
-    at : (k : ℕ) (d : Input) → k < length inputs → get_or inputs k (get_or inputs k d) ≡ get_or inputs k d
-    at k d l = grind (arith, common_steps)
+pub whole_held : (told : Told) (lease : Option ℕ) (before : List Input) (input : Input) → All (IsHeld before) (reported (state_after (nobody told lease) before) input)
+whole_held told lease before input = held_reports before (state_after (nobody told lease) before) input (holds_run [] None (nobody told lease) before (inl refl))
 
 -- ---- what is served
 

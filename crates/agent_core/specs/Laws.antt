@@ -1,7 +1,7 @@
 -- What holds of every run of an agent, whatever it is told: by the allocator, by Prometheus and by the clock, in whatever order.
-use Rattle.std.specs.Prelude.{◌≡◌, ◌≢◌, ℕ, ◌<◌, true, List, [], ◌∷◌, Option, All, Any, AllPairs, Contains, length}
+use Rattle.std.specs.Prelude.{◌≡◌, ◌≢◌, ℕ, ◌<◌, true, List, [], ◌∷◌, Option, Some, None, All, Any, AllPairs, Contains, length}
 use Rattle.agent_core.specs.Told.{Told, is_open, mark_of}
-use Rattle.agent_core.specs.Agents.{Input, Asked, Cut, Gone, Over, Shown, Taken, Unknown, State, nobody, reports_of, state_after}
+use Rattle.agent_core.specs.Agents.{Input, Asked, Cut, Gone, Over, Shown, Taken, Unknown, State, nobody, reported, reports_of, state_after}
 use Rattle.agent_core.specs.declared.target.Listed.{Listed}
 use Rattle.agent_core.specs.declared.report.Head.{Head}
 use Rattle.agent_core.specs.declared.report.Report.{Report}
@@ -24,15 +24,16 @@ pub record IsNews (told : Told) (report : Report) : Type 0 where
 abbrev pub NothingOlder : Type 0
 NothingOlder = (s : State) (inputs : List Input) → All (IsNews s.told) (reports_of s inputs)
 
--- an input is a list that was taken
-abbrev pub IsTaken : Head → List Listed → Input → Type 0
-IsTaken head targets (Taken at h until ts) = (h ≡ head) × (ts ≡ targets)
-IsTaken head targets (Shown at h until ts) = ⊥
-IsTaken head targets (Gone at) = ⊥
-IsTaken head targets (Unknown at) = ⊥
-IsTaken head targets Over = ⊥
-IsTaken head targets (Asked now said) = ⊥
-IsTaken head targets (Cut now said count) = ⊥
+-- the list that is held behind these inputs: the one that was taken last, none where the collector was told since that it holds nothing, or is not known
+abbrev pub held : Option (Head × List Listed) → List Input → Option (Head × List Listed)
+held list [] = list
+held list (Taken at head until targets ∷ inputs) = held (Some (head, targets)) inputs
+held list (Shown at head until targets ∷ inputs) = held list inputs
+held list (Gone at ∷ inputs) = held None inputs
+held list (Unknown at ∷ inputs) = held None inputs
+held list (Over ∷ inputs) = held list inputs
+held list (Asked now said ∷ inputs) = held list inputs
+held list (Cut now said count ∷ inputs) = held list inputs
 
 -- an input tells that a round of an epoch is open
 abbrev pub IsTold : ℕ → ℕ → Input → Type 0
@@ -44,11 +45,11 @@ IsTold epoch round Over = ⊥
 IsTold epoch round (Asked now said) = ⊥
 IsTold epoch round (Cut now said count) = ⊥
 
--- a report is of a target of a list among these inputs, in a round that was told
-pub record IsHeld (inputs : List Input) (report : Report) : Type 0 where
+-- a report is of a target of the list that is held behind these inputs, in a round of its epoch that was told
+pub record IsHeld (before : List Input) (report : Report) : Type 0 where
   pub head : Head
   pub targets : List Listed
-  pub taken : Any (IsTaken head targets) inputs
+  pub list : held None before ≡ Some (head, targets)
   pub collector : report.head.collector ≡ head.collector
   pub epoch : report.head.epoch ≡ head.epoch
   pub number : report.head.number ≡ head.number
@@ -57,11 +58,11 @@ pub record IsHeld (inputs : List Input) (report : Report) : Type 0 where
   pub target : report.target ≡ listed.target
   pub series : report.series ≡ listed.series
   pub alone : listed.alone ≡ true
-  pub told : Any (IsTold report.head.epoch report.head.round) inputs
+  pub told : Any (IsTold report.head.epoch report.head.round) before
 
--- No report is under a number, an epoch or a round that was not told, nor of a target that the list did not have.
+-- No report is under a number, an epoch or a round that was not told, nor of a target that the list does not have which is held when it is chosen.
 abbrev pub OnlyHeld : Type 0
-OnlyHeld = (told : Told) (lease : Option ℕ) (inputs : List Input) → All (IsHeld inputs) (reports_of (nobody told lease) inputs)
+OnlyHeld = (told : Told) (lease : Option ℕ) (before : List Input) (input : Input) → All (IsHeld before) (reported (state_after (nobody told lease) before) input)
 
 -- the targets of the list that was taken last, none where the collector was told since that it holds nothing
 abbrev pub last_taken : List Listed → List Input → List Listed

@@ -11,8 +11,8 @@ pub fn nothing_older()
     ensures { NothingOlder }
 {}
 
-/// Whatever an agent is told: each report is of a target of a list that it took, by the epoch and the number of that list and as its
-/// collector, and of a round that was told of this epoch.
+/// Whatever an agent is told: each report is of a target of the list that it holds when it chooses the report, by the epoch and the number of
+/// that list and as its collector, and of a round that was told of this epoch.
 pub fn only_what_was_held()
     ensures { OnlyHeld }
 {}
