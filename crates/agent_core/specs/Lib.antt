@@ -1,0 +1,5 @@
+pub mod Agents
+pub mod Choices
+pub mod Laws
+pub mod Targets
+pub mod Told

@@ -1,0 +1,3 @@
+pub mod MarkLemmas
+pub mod NumberLemmas
+pub mod SeriesLemmas
