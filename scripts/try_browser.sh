@@ -14,6 +14,6 @@ for _ in $(seq 100); do
     curl -sf http://127.0.0.1:8080/metrics | grep -q 'allocd_targets_covered{job="web"} [1-9]' && break
     sleep 0.2
 done
-chromium --headless --no-sandbox --disable-gpu --hide-scrollbars --window-size=900,760 --screenshot="$picture" http://127.0.0.1:8080/ 2> /dev/null
+chromium --headless --no-sandbox --disable-gpu --hide-scrollbars --window-size=1280,800 --screenshot="$picture" http://127.0.0.1:8080/ 2> /dev/null
 curl -s -X POST http://127.0.0.1:8080/-/quit
 wait "$service"

@@ -2,12 +2,15 @@
 """Runs `allocd serve` over settings, sources and figures that scripts/try_serve.py does not look at, and tells of each thing whether it holds: try_edge.py [PART ..]
 
 Where it listens and keeps its journal, each job's own rules, reloads with more sources, other orders and too many jobs, who is uncovered,
-names as text, what is counted, what strangers send and don't send, answers to the byte, rounds over renewals and starts, YAML, lists that are acknowledged, loads that are made even. It needs Linux and the program (ALLOCD_PROGRAM, or dist/allocd)."""
+names as text, the page and its links, what is counted, how long it took, what strangers send and don't send, answers to the byte, rounds over renewals and
+starts, sources that fall silent beside others, YAML, lists that are acknowledged, loads that are made even. It needs Linux and the program (ALLOCD_PROGRAM, or dist/allocd)."""
 
+import html.parser
 import http.client
 import http.server
 import json
 import os
+import re
 import socket
 import sys
 import threading
@@ -152,6 +155,141 @@ def texts(folder):
         tell("no name makes two lines of the log", not any(line.startswith("level=error") for line in it))
 
 
+class Page(html.parser.HTMLParser):
+    """The title, the links, what needs attention and the tables of a page: rows by a table's caption."""
+
+    def __init__(self, text):
+        super().__init__()
+        self.title, self.links, self.needs, self.tables, self.tags, self.inside = "", [], [], {}, set(), []
+        self.feed(text)
+
+    def handle_starttag(self, tag, attributes):
+        attributes = dict(attributes)
+        self.tags.add(tag)
+        if tag not in ("meta", "br"):
+            self.inside.append(tag)
+        if tag == "a":
+            self.links.append(attributes["href"])
+        if tag == "li":
+            self.needs.append([attributes.get("class"), ""])
+        if tag == "caption":
+            self.caption = ""
+        if tag == "tr" and "tbody" in self.inside:
+            self.tables[self.caption].append([])
+        if tag in ("td", "th") and "tbody" in self.inside:
+            self.tables[self.caption][-1].append("")
+
+    def handle_endtag(self, tag):
+        assert self.inside.pop() == tag, (tag, self.inside)
+        if tag == "caption":
+            self.tables[self.caption] = []
+
+    def handle_data(self, text):
+        if "title" in self.inside:
+            self.title += text
+        elif "li" in self.inside:
+            self.needs[-1][1] += text
+        elif "caption" in self.inside:
+            self.caption += text
+        elif "tbody" in self.inside and ("td" in self.inside or "th" in self.inside):
+            self.tables[self.caption][-1][-1] += text
+
+    def bad(self):
+        return [text for kind, text in self.needs if kind == "bad"]
+
+
+def page(folder):
+    Source.lists["/found"] = ["127.0.0.1:7001"]
+    odd = "a/b <i>&amp;?#%"
+    found = {"job_name": "found", "http_sd_configs": [url("/found"), url("/", port=1)]}
+    jobs = [static(odd, 3), static("n", 2, 9100), found]
+    service = started(folder, jobs)
+    has(service, 'allocd_targets_covered{job="found"}', 1)
+    look = lambda: Page(service.ask("GET", "/")[1])
+    first = look()
+    tell("what needs attention stands on top, and its title counts it", first.title == "allocd: 2 things need attention" and [re.sub(r"\d+$", "N", text) for text in first.bad()] == [
+        "1 of 2 sources fail: the last lists stay", "1 of 1 collector has not taken allocation N"], (first.title, first.bad()))
+    tell("it has no script, and each table a caption", "script" not in first.tags and list(first.tables) == ["Jobs", "Collectors", "Discovery sources", "Last allocations"], list(first.tables))
+    tell("a job's name is text", [row[0] for row in first.tables["Jobs"]] == [odd, "n", "found"], first.tables["Jobs"])
+    ways = sorted({link for link in first.links if link.startswith("/")})
+    answers = {way: service.ask("GET", way)[0] for way in ways}
+    tell("each of its links is answered 200", set(answers.values()) == {200}, {way: status for way, status in answers.items() if status != 200})
+    of_jobs = [link for link in ways if link.startswith("/jobs/")]
+    tell("those of a job have its name in one segment", "/jobs/a%2Fb%20%3Ci%3E%26amp%3B%3F%23%25/targets" in of_jobs, of_jobs)
+    tell("a link to a list takes nothing", service.figure('allocd_collector_taken_allocation{collector="a"}') == 0)
+    sources = [row[0] for row in first.tables["Discovery sources"]]
+    tell("sources that fail stand first", sources == ["found/2", "found/1"], sources)
+    for job in (urllib.parse.quote(odd, safe=""), "n", "found"):
+        service.ask("GET", f"/jobs/{job}/targets?collector_id=a")
+    tell("who asked for all lists is behind no more", comes(lambda: look().title == "allocd: 1 thing needs attention", 5), look().bad())
+    service.ask("PUT", "/collectors/1/limits", {"limits": {odd: 1}})
+    tell("targets without a collector are told by job", comes(lambda: f"2 of 6 targets have no collector: {odd} 2" in look().bad(), 10), look().bad())
+    tell("with a link to why", f"/jobs/{urllib.parse.quote(odd, safe='')}/uncovered" in look().links, look().links)
+    service.write("{")
+    service.ask("POST", "/-/reload")
+    tell("a configuration that is not followed, too", any("is faulty" in text for text in look().bad()), look().bad())
+    reloaded(service, config(jobs))
+    tell("until it is mended", not any("is faulty" in text for text in look().bad()), look().bad())
+    service.ask("POST", "/collectors/1/drain", {})
+    row = look().tables["Collectors"][0]
+    tell("the collectors have their state", row[:3] == ["a", "1", "draining"], row)
+    ends(service)
+    service = Service(folder, config([{"job_name": "none"}]))
+    service.is_up()
+    tell("where nothing is live that needs attention", comes(lambda: "No target is live: no source lists one" in look().bad(), 10), look().bad())
+    text = service.ask("GET", "/")[1]
+    tell("version and journal stand at the foot", "<footer><p>allocd 0.1.0, up for " in text and "; no journal is written" in text, text.rpartition("<footer>")[2])
+    ends(service)
+
+
+KINDS = "discover join leave drain limits install spread round take serve release report".split()
+OWN_BOUNDS = [0.005, 0.01, 0.025, 0.05, 0.1, 0.2, 0.4, 1, 3, 8, 20, 60, 120]
+
+
+def durations_in(text, name, labels=""):
+    """The buckets of a histogram, its sum and its count."""
+    one = lambda what, more="": float(re.search(rf"^{re.escape(name + what + (more and '{' + more + '}'))} (\S+)$", text, re.M)[1])
+    before = labels and labels + ","
+    told = re.findall(rf'^{re.escape(name)}_bucket\{{{re.escape(before)}le="([^"]+)"\}} (\d+)$', text, re.M)
+    return [float(bound) for bound, _ in told], [int(count) for _, count in told], one("_sum", labels), one("_count", labels)
+
+
+def series(folder):
+    begun = time.time()
+    service = started(folder, [static("n", 4)])
+    text = service.ask("GET", "/metrics")[1]
+    samples = re.findall(r"^([^#\s]\S*(?:\{.*\})?) \S+$", text, re.M)
+    tell("no series is told twice", len(samples) == len(set(samples)), [name for name in samples if samples.count(name) > 1])
+    with open(os.path.join(os.path.dirname(__file__), "..", "docs", "operate", "HTTP.md")) as it:
+        paths = set(re.findall(r"^\| `(?:GET|POST|PUT|DELETE) (/[^`?]*)", it.read(), re.M))
+    routes = re.findall(r'^allocd_http_requests_total\{route="([^"]+)",status="503"\} 0$', text, re.M)
+    paths = {path.replace("{collector}", "{id}") for path in paths}
+    missing = {path for path in paths if path not in {route.split(" ")[-1].partition("?")[0] for route in routes} | {"/readyz"}}
+    tell("each route has its series from the start", len(routes) > 20 and not missing, missing)
+    kinds = re.findall(r'^allocd_events_refused_total\{event="([^"]+)"\} \d+$', text, re.M)
+    tell("each kind of events has one", kinds == KINDS, kinds)
+    tell("the version is told", re.findall(r'^allocd_build_info\{version="([^"]+)"\} 1$', text, re.M) == run(["--version"])[1].decode().split()[1:])
+    read = service.figure("allocd_config_last_reload_success_timestamp_seconds")
+    tell("and when the configuration was read", int(begun) <= read <= time.time(), (begun, read))
+    has(service, "allocd_allocation", 1)
+    for _ in range(5):
+        service.ask("GET", "/jobs")
+    text = service.ask("GET", "/metrics")[1]
+    bounds, counts, total, count = durations_in(text, "allocd_http_request_duration_seconds", 'route="/jobs"')
+    tell("how long requests took is told by route", (bounds[:-1], bounds[-1], count, counts[-1]) == (OWN_BOUNDS, float("inf"), 5, 5), (bounds, counts, count))
+    tell("each bucket has those below it, and their sum is what they took", counts == sorted(counts) and 0 < total < 5 * 60, (counts, total))
+    _, counts, total, count = durations_in(text, "allocd_reallocation_duration_seconds")
+    tell("so is how long searches took", count == service.figure("allocd_reallocations_total") == counts[-1] and total > 0, (counts, total))
+    time.sleep(1.1)
+    reloaded(service, config([static("n", 5)]))
+    again = service.figure("allocd_config_last_reload_success_timestamp_seconds")
+    tell("a reload is a later one", again > read, (read, again))
+    service.write("{")
+    service.ask("POST", "/-/reload")
+    tell("but for one that is not taken", service.figure("allocd_config_last_reload_success_timestamp_seconds") == again)
+    ends(service)
+
+
 COUNTED = {
     'allocd_events_total{event="join",answer="Joined"}': 2,
     'allocd_events_total{event="join",answer="AlreadyJoined"}': 1,
@@ -236,7 +374,7 @@ TALKS = [
     ("a release of a collector that is not there", post(b"/collectors/9/release", b""), "reads", b"HTTP/1.1 404 Not Found\r\n", b'\r\n\r\n{"refused":"UnknownCollector"}'),
     ("a release by another method", post(b"/collectors/1/release", b"", method=b"GET"), "reads",
      b"HTTP/1.1 405 Method Not Allowed\r\ncontent-type: application/json\r\nx-content-type-options: nosniff\r\nallow: POST\r\n", b'\r\n\r\n{"refused":"Method"}'),
-    ("a release of what is no number", post(b"/collectors/z/release", b""), "reads", b"HTTP/1.1 400 Bad Request\r\n", b'\r\n\r\n{"refused":"Shape"}'),
+    ("a release of a name that nobody had", post(b"/collectors/z/release", b""), "reads", b"HTTP/1.1 404 Not Found\r\n", b'\r\n\r\n{"refused":"UnknownCollector"}'),
     ("limits that are all of its own", post(b"/collectors/1/limits", b'{"limits":{}}', method=b"PUT"), "reads", b"HTTP/1.1 200 OK\r\n", b'\r\n\r\n{"answer":"LimitsSet"}'),
 ]
 
@@ -248,8 +386,8 @@ GROUP = b'{"labels":{"__meta_allocator_target":"0","__metrics_path__":"/metrics"
 # Requests in order, to a service of a job that nobody holds a target of: method, path, body, and how the answer begins, and its body, or its end.
 ROWS = [
     ("GET", "/x", b"", b"404 Not Found\r\n", b'\r\n\r\n{"refused":"NoRoute"}'),
-    ("POST", "/jobs", b"", b"405 Method Not Allowed\r\n" + JSON + b"allow: GET\r\n", b'\r\n\r\n{"refused":"Method"}'),
-    ("DELETE", "/collectors/z", b"", b"400 Bad Request\r\n", b'\r\n\r\n{"refused":"Shape"}'),
+    ("POST", "/jobs", b"", b"405 Method Not Allowed\r\n" + JSON + b"allow: GET, HEAD\r\n", b'\r\n\r\n{"refused":"Method"}'),
+    ("DELETE", "/collectors/z", b"", b"404 Not Found\r\n", b'\r\n\r\n{"refused":"UnknownCollector"}'),
     ("GET", "/jobs/%FF/targets", b"", b"400 Bad Request\r\n", b'\r\n\r\n{"refused":"Shape"}'),
     ("GET", "/jobs/k/targets?collector_id=a", b"", b"404 Not Found\r\n", b'\r\n\r\n{"refused":"UnknownJob"}'),
     ("GET", "/jobs/j/targets?collector_id=a", b"", b"404 Not Found\r\n", b'\r\n\r\n{"refused":"UnknownCollector"}'),
@@ -411,6 +549,54 @@ def rounds_kept(folder):
     ends(service)
 
 
+LIMIT = 3
+
+
+def beside_silent(folder, silent):
+    """How long it took until a service was ready with three sources beside so many that take a connection and never answer, and how long at most
+    one of the three was left alone then."""
+    with socket.create_server(("127.0.0.1", 0)) as dumb:
+        port = dumb.getsockname()[1]
+        quick = [f"/quick{silent}/{i}" for i in range(3)]
+        found = [url(f"/dumb{i}", "1s", port) for i in range(silent)] + [url(path, "1s") for path in quick]
+        for i, path in enumerate(quick):
+            Source.lists[path] = [f"127.0.0.1:{7300 + i}"]
+        service = Service(folder, config([{"job_name": "n", "http_sd_configs": found}], fetch_timeout=f"{LIMIT}s"), f"{folder}/journal{silent}")
+        began = time.monotonic()
+        service.is_up()
+        comes(lambda: service.ask("GET", "/-/ready")[0] == 200, 60)
+        took = time.monotonic() - began
+        time.sleep(6)
+        figures = [service.figure(f'allocd_refresh_last_success_timestamp_seconds{{job="n",source="n/{i + 1}"}}') for i in range(silent + 3)]
+        now = time.monotonic()
+        service.it.kill()
+        service.ended()
+    # the second refresh of each comes after a part of its interval
+    gaps = [after - before for path in quick for before, after in zip(Source.asked[path][1:], [*Source.asked[path][2:], now])]
+    return took, max(gaps, default=60), figures
+
+
+def silences(folder):
+    for silent in (1, 6):
+        took, gap, figures = beside_silent(folder, silent)
+        who = "a source that never answers" if silent == 1 else f"{silent} sources that never answer"
+        tell(f"beside {who} others keep their second", gap < 1.6, f"{gap:.2f} seconds at most")
+        tell("the service is ready after one fetch_timeout, and not their sum", LIMIT - 0.5 < took < LIMIT + 1.5, f"after {took:.2f} seconds")
+        told = [figure is not None and abs(time.time() - figure) < 5 for figure in figures]
+        tell("it tells when each source last gave its list", told == [False] * silent + [True] * 3 and figures[0] == 0, figures)
+    with socket.create_server(("127.0.0.1", 0)) as dumb:
+        jobs = [{"job_name": "n", "http_sd_configs": [url("/dumb", "1s", dumb.getsockname()[1])]}]
+        service = Service(folder, config(jobs, fetch_timeout="20s"), f"{folder}/journal.silent")
+        service.is_up()
+        time.sleep(0.5)
+        reloaded(service, config([*jobs, static("m", 2)], fetch_timeout="20s"))
+        began = time.monotonic()
+        tell("a reload waits for no source", has(service, 'allocd_targets{job="m"}', 2) and time.monotonic() - began < 5, f"after {time.monotonic() - began:.2f} seconds")
+        began = time.monotonic()
+        ends(service)
+        tell("nor does the end of the service", time.monotonic() - began < 5, f"after {time.monotonic() - began:.2f} seconds")
+
+
 # What `accept` says, and whether the answer is YAML.
 ACCEPTS = [
     (None, False), ("*/*", False), ("application/json", False), ("application/yaml", True), ("application/x-yaml", True), ("text/yaml", True),
@@ -502,7 +688,7 @@ def spreads(folder):
     told = lambda what: [service.figure(f'allocd_collector_targets_{what}{{collector="{name}"}}') for name in "abc"]
     tell("it tells the most even loads, and what each may have", (told("even"), told("cap")) == ([3] * 3, [3] * 3), (told("even"), told("cap")))
     page = service.ask("GET", "/")[1]
-    tell("the page does, too", page.count("<td>3</td><td>no limit</td><td></td><td>3</td><td>3</td>") == 3)
+    tell("the page does, too", page.count('<td data-h="Even load">3</td><td data-h="Cap">3</td>') == 3)
     status, document = service.ask("GET", "/certificate")
     judged = run(["check"], document.encode())
     tell("its certificate is that of the best within the caps", (status, judged[0], judged[1][:4]) == (200, 0, b"best"), judged)
@@ -610,5 +796,5 @@ def evens_in_turn(folder):
 SOURCE = http.server.ThreadingHTTPServer(("127.0.0.1", 0), Source)
 SOURCE.daemon_threads = True
 threading.Thread(target=SOURCE.serve_forever, daemon=True).start()
-PARTS = (settings, relabels, reloads, uncovered, texts, figures, talks, requests, held_rows, stalls, rounds, rounds_kept, yaml, acknowledge, spreads, spreads_by_job, evens, evens_in_turn)
+PARTS = (settings, relabels, reloads, uncovered, texts, page, series, figures, talks, requests, held_rows, stalls, rounds, rounds_kept, silences, yaml, acknowledge, spreads, spreads_by_job, evens, evens_in_turn)
 run_parts(PARTS, sys.argv[1:])

@@ -56,7 +56,7 @@ JSON = b"content-type: application/json\r\n"
 # What a source sends one after the other, and what becomes of it: a new list, or why the list stays.
 ANSWERS = [
     (HEAD + JSON + b'content-length: 21\r\n\r\n[{"targets":["h:1"]}]', "Discovered 1 0"),
-    (HEAD + JSON + b'content-length: 21\r\n\r\n[{"targets"', "no answer"),
+    (HEAD + JSON + b'content-length: 21\r\n\r\n[{"targets"', "the connection failed"),
     (b"HTTP/1.1 500 Internal Server Error\r\n" + JSON + b"content-length: 2\r\n\r\n[]", "status 500"),
     (HEAD + b"content-length: 2\r\n\r\n[]", "no JSON media type"),
     (HEAD + b"content-type: application/json; charset=utf-8\r\ntransfer-encoding: chunked\r\n\r\n8\r\n[{\"targe\r\nd\r\nts\":[\"h:2\"]}]\r\n0\r\n\r\n", "Discovered 1 1"),

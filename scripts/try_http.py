@@ -36,7 +36,7 @@ def exchanges(title):
 
 def said(port, words):
     """What curl would print of a request, in lines."""
-    method, body, url, headers = "GET", None, words[-1], {}
+    method, body, url, headers = "HEAD" if "-sI" in words else "GET", None, words[-1], {}
     for option, value in zip(words, words[1:]):
         if option == "-X":
             method = value
@@ -47,7 +47,7 @@ def said(port, words):
     it = http.client.HTTPConnection("127.0.0.1", port, timeout=30)
     it.request(method, url[url.index("/") :], body=body, headers=headers)
     answer = it.getresponse()
-    head = [f"HTTP/1.1 {answer.status} {answer.reason}", *(f"{name}: {value}" for name, value in answer.getheaders()), ""] if "-si" in words else []
+    head = [f"HTTP/1.1 {answer.status} {answer.reason}", *(f"{name}: {value}" for name, value in answer.getheaders()), ""] if {"-si", "-sI"} & set(words) else []
     text = answer.read().decode()
     it.close()
     return "\n".join([*head, text]).rstrip("\n").split("\n")
@@ -57,7 +57,7 @@ def without_times(lines):
     # What is another one at each time.
     times = re.compile(r"^(date: \w{3}, \d\d \w{3} \d{4} \d\d:\d\d:\d\d GMT|x-allocator-epoch: \d+|x-scrape-round-age: \d+)$")
     lines = [line.partition(":")[0] if times.match(line) else line for line in lines]
-    return [re.sub(r'("__param_epoch":)"\d+"', r"\1", line) for line in lines]
+    return [re.sub(r'("__param_epoch":"|"last_take":)\d+', r"\1", line) for line in lines]
 
 
 def transcript(folder, config=CONFIG, title="Each with an answer"):

@@ -110,6 +110,12 @@ def prometheus(folder, port, service):
     return subprocess.Popen(words, stdout=log, stderr=log)
 
 
+def names_in(text):
+    """The families of a text exposition, and the series of its histograms."""
+    families = re.findall(r"^# TYPE (\S+) (\S+)", text, re.M)
+    return {name + more for name, kind in families for more in ("", *(("_bucket", "_sum", "_count") if kind == "histogram" else ()))}
+
+
 def documents(metrics):
     """What the documents name, beside what the service has."""
     table = set(METRIC.findall(text_of("docs/operate/SERVE.md").split("| Metric | What |")[1].split("\n\n")[0]))
@@ -144,7 +150,7 @@ def live(folder):
             tell(f"dashboard: {what}", is_answered(port, expression), expression)
         rules = [rule for group in asked(port, "/api/v1/rules")["groups"] for rule in group["rules"]]
         tell("each rule is loaded, and evaluated without a fault", rules and all(rule["health"] == "ok" for rule in rules), rules)
-        documents(set(re.findall(r"^# TYPE (\S+)", it.ask("GET", "/metrics")[1], re.M)))
+        documents(names_in(it.ask("GET", "/metrics")[1]))
         tell("the service ends", it.quit() == (200, 0))
     finally:
         it.it.kill()

@@ -4,7 +4,7 @@ use Rattle.std.specs.List.{list_any}
 use Rattle.http_header.specs.FieldValue.{FieldValue}
 use Rattle.http_header.specs.HeaderMap.{Entries, get}
 use Rattle.sd_routes.specs.declared.ask.Ask.{Ask}
-use Rattle.sd_routes.specs.declared.ask.Ask.TheVariants.{Status, ScrapeConfigs, Jobs, JobTargets, CollectorTargets, Uncovered, Acknowledged, Certificate, Join, Leave, Drain, Release, SetLimits, Report, Healthy, Live, Ready, Metrics, Reload, Quit}
+use Rattle.sd_routes.specs.declared.ask.Ask.TheVariants.{Status, ScrapeConfigs, Jobs, JobTargets, CollectorTargets, Uncovered, FindTargets, Acknowledged, Certificate, Collectors, Collector, Join, Leave, Drain, Release, SetLimits, Report, Healthy, Live, Ready, Metrics, Reload, Quit}
 use Rattle.admission.specs.declared.key.Key.{Key}
 use Rattle.admission.specs.Sites.{same_letters}
 
@@ -56,13 +56,16 @@ may_ask admin collectors Jobs shown = true
 may_ask admin collectors (JobTargets job) shown = true
 may_ask admin collectors (CollectorTargets job name takes) shown = holds collectors (Some name) shown || is_admin admin shown
 may_ask admin collectors (Uncovered job) shown = true
-may_ask admin collectors (Acknowledged told) shown = true
+may_ask admin collectors (FindTargets text) shown = true
+may_ask admin collectors (Acknowledged told counts) shown = true
 may_ask admin collectors Certificate shown = true
+may_ask admin collectors Collectors shown = true
+may_ask admin collectors (Collector collector) shown = true
 may_ask admin collectors Join shown = holds admin None shown
-may_ask admin collectors (Leave id) shown = holds admin None shown
-may_ask admin collectors (Drain id) shown = holds admin None shown
-may_ask admin collectors (Release id) shown = holds admin None shown
-may_ask admin collectors (SetLimits id) shown = holds admin None shown
+may_ask admin collectors (Leave collector) shown = holds admin None shown
+may_ask admin collectors (Drain collector) shown = holds admin None shown
+may_ask admin collectors (Release collector) shown = holds admin None shown
+may_ask admin collectors (SetLimits collector) shown = holds admin None shown
 may_ask admin collectors Report shown = holds collectors None shown || is_admin admin shown
 may_ask admin collectors Healthy shown = true
 may_ask admin collectors Live shown = true

@@ -26,8 +26,11 @@ pub(crate) fn is_allowed(
         | Ask::Jobs
         | Ask::JobTargets(_)
         | Ask::Uncovered(_)
-        | Ask::Acknowledged(_)
+        | Ask::FindTargets(_)
+        | Ask::Acknowledged { told: _, counts: _ }
         | Ask::Certificate
+        | Ask::Collectors
+        | Ask::Collector(_)
         | Ask::Healthy
         | Ask::Live
         | Ask::Ready

@@ -1,5 +1,5 @@
 //! The journal's copy of an answer, which takes no memory after the event: what it needs was made before.
-ghost use Rattle.std.specs.Prelude.{◌≡◌, IfOk};
+ghost use Rattle.std.specs.Prelude.{◌≡◌, IfOk, None, Some};
 ghost use Rattle.alloc_desk.specs.Spare.{IsSpareOf, IsSpareFor};
 
 use allocation_core::{Answer, Core, Event, ServedList};
@@ -29,6 +29,46 @@ pub(crate) fn copy_with(answer: &Answer, spare: Option<ServedList>) -> Answer
     requires { IsSpareFor answer.now spare }
     ensures { result ≡ answer.now }
 {
+    match spare {
+        Some(lists) => copy_with_lists(answer, lists),
+        None => plain_copy(answer),
+    }
+}
+
+fn copy_with_lists(answer: &Answer, lists: ServedList) -> Answer
+    requires { IsSpareFor answer.now (Some lists) }
+    ensures { result ≡ answer.now }
+{
+    match answer {
+        Answer::Taken {
+            allocation,
+            round,
+            held: _,
+        } => Answer::Taken {
+            allocation: *allocation,
+            round: *round,
+            held: lists.listed,
+        },
+        Answer::Served {
+            allocation,
+            round,
+            listed: _,
+            left_out: _,
+        } => Answer::Served {
+            allocation: *allocation,
+            round: *round,
+            listed: lists.listed,
+            left_out: lists.left_out,
+        },
+        _ => plain_copy(answer),
+    }
+}
+
+/// A copy of an answer without lists.
+fn plain_copy(answer: &Answer) -> Answer
+    requires { IsSpareFor answer.now None }
+    ensures { result ≡ answer.now }
+{
     match answer {
         Answer::Discovered { added, removed } => Answer::Discovered {
             added: *added,
@@ -40,32 +80,7 @@ pub(crate) fn copy_with(answer: &Answer, spare: Option<ServedList>) -> Answer
         Answer::LimitsSet => Answer::LimitsSet,
         Answer::Published(allocation) => Answer::Published(*allocation),
         Answer::RoundOpen(round) => Answer::RoundOpen(*round),
-        Answer::Taken {
-            allocation,
-            round,
-            held: _,
-        } => match spare {
-            Some(lists) => Answer::Taken {
-                allocation: *allocation,
-                round: *round,
-                held: lists.listed,
-            },
-            None => unreachable!(),
-        },
-        Answer::Served {
-            allocation,
-            round,
-            listed: _,
-            left_out: _,
-        } => match spare {
-            Some(lists) => Answer::Served {
-                allocation: *allocation,
-                round: *round,
-                listed: lists.listed,
-                left_out: lists.left_out,
-            },
-            None => unreachable!(),
-        },
+        Answer::Taken { .. } | Answer::Served { .. } => unreachable!(),
         Answer::Released(count) => Answer::Released(*count),
         Answer::Booked => Answer::Booked,
         Answer::Not(refusal) => Answer::Not(*refusal),

@@ -2,7 +2,7 @@
 ghost use Rattle.std.specs.Prelude.{◌≡◌, ◌↔◌, ◌+◌, Some, None, Ok, Err, true, false, slice_get, MatchOption, IfOk, IsOk, OnOk, OnErr, length};
 ghost use Rattle.scrape_books.specs.Books.{total_of};
 ghost use Rattle.allocation_core.specs.State.{current_of, first_state, held_by};
-ghost use Rattle.handover.specs.Handover.{taken_by};
+ghost use Rattle.handover.specs.Handover.{holder_in, taken_by};
 ghost use Rattle.fleet.specs.Fleet.{id_named};
 ghost use Rattle.fleet.specs.Jobs.{are_jobs};
 ghost use Rattle.allocation_core.specs.Steps.{answer_of, refusal_of, state_after, gained};
@@ -178,6 +178,20 @@ impl Core {
         ensures { result ≡ taken_by self.now.taken collector }
     {
         self.holders.taken(collector)
+    }
+
+    /// Who held a target in the allocation of a number. `None` where nobody did, or no allocation has the number.
+    pub fn holder(&self, number: u32, target: TargetId) -> Option<CollectorId>
+        ensures { result ≡ holder_in self.now.published number target }
+    {
+        self.holders.holder(number, target)
+    }
+
+    /// What was booked.
+    pub fn books(&self) -> &Books
+        ensures { result.now ≡ self.now.booked }
+    {
+        &self.books
     }
 
     /// The plan of the last allocation that was published, and the instance that its prices certify it for, which has the caps of a

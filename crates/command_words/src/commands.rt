@@ -8,7 +8,7 @@ use clap::Command;
 use std::alloc::{AllocError, Global};
 
 /// The program's version.
-pub(crate) const VERSION: &str = "0.1.0";
+pub const VERSION: &str = "0.1.0";
 
 const PROGRAM: &str = "Allocates the scrape targets of Prometheus to its collectors";
 

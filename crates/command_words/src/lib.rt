@@ -9,3 +9,4 @@ mod options;
 mod refusal;
 
 pub use asked::{Asked, InputCommand, ServeOptions, SpreadOptions, read_words};
+pub use commands::VERSION;

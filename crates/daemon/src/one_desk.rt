@@ -6,7 +6,7 @@ use crate::running::Served;
 use alloc_desk::{Desk, DeskName, Pass};
 use allocation_core::Core;
 use event_loops::{Gate, Times};
-use http_get::Scrape;
+use http_get::FetchSeveral;
 use sd_server::{Handler, ListTexts};
 use service_state::Kept;
 use service_tasks::{Configuration, Crew, Ending, Office, Service, Shared};
@@ -21,7 +21,7 @@ use std::sync::{Arc, Mutex, Wait};
 use std::thread::Threads;
 use std::time::Clock;
 
-/// How many passes a desk has: of the server, of the schedule, of the journal's file, and of the refreshers.
+/// How many passes a desk has: of the server, of the schedule, of the journal's file, and of the refresher.
 pub(crate) const SEATS: u32 = 4;
 
 /// Serves over one desk until it is to be closed, and gives the allocator back.
@@ -49,7 +49,7 @@ where
     L: Ledger + Send + Sync,
     B: Ledger + Send + Sync,
     N: DeskName + Send + Sync,
-    S: Scrape + Send + Drop,
+    S: FetchSeveral + Send + Drop,
     F: Write + OpenFile + Send,
     C: Configuration + Send + Drop,
     requires core { (core ≡ N.opening) × (N.seats ≡ SEATS) }
@@ -87,7 +87,7 @@ where
     L: Ledger + Send + Sync,
     B: Ledger + Send + Sync,
     N: DeskName + Send + Sync,
-    S: Scrape + Send + Drop,
+    S: FetchSeveral + Send + Drop,
     F: Write + OpenFile + Send,
     C: Configuration + Send + Drop,
     ensures { IfOk result (λ r. IsLater N.opening r.0) }
@@ -127,7 +127,7 @@ where
     L: Ledger + Send + Sync,
     B: Ledger + Send + Sync,
     N: DeskName + Send + Sync,
-    S: Scrape + Send + Drop,
+    S: FetchSeveral + Send + Drop,
     F: Write + OpenFile + Send,
     C: Configuration + Send + Drop,
     ensures { IfOk result (λ r. IsLater N.opening r.0) }
@@ -202,7 +202,7 @@ where
     L: Ledger + Send + Sync,
     B: Ledger + Send + Sync,
     N: DeskName + Send + Sync,
-    S: Scrape + Send + Drop,
+    S: FetchSeveral + Send + Drop,
     F: Write + OpenFile + Send,
     C: Configuration + Send + Drop,
 {

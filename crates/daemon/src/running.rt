@@ -3,7 +3,7 @@ ghost use Rattle.std.specs.Thread.{IsSend};
 
 use alloc_desk::{DeskName, Pass};
 use event_loops::Gate;
-use http_get::Scrape;
+use http_get::FetchSeveral;
 use sd_server::{DEFAULT_LOOPS, Handler, serve_by_loops};
 use service_tasks::{Configuration, Crew, JournalFile, Office, Schedule, Shared, Watch};
 use std::alloc::{AllocGlobal, Global};
@@ -13,7 +13,7 @@ use std::net::{Net, TcpListener, TcpStream};
 use std::random::RandomSource;
 use std::sync::atomic::{AtomicBool, Ordering};
 use std::sync::ledger::Ledger;
-use std::sync::{Arc, Mutex, Wait};
+use std::sync::{Arc, Wait};
 use std::thread::Threads;
 use std::time::Clock;
 use std::{io, thread};
@@ -47,7 +47,7 @@ where
 {
     /// Runs the threads: that which keeps the journal ends once all others have.
     pub(crate) fn run<
-        S: Scrape + Send + Drop,
+        S: FetchSeveral + Send + Drop,
         F: Write + OpenFile + Send,
         C: Configuration + Send + Drop,
     >(&self, office: &mut Office<S, F, C>, crew: &mut Crew<L, B, N>) -> io::Result<()> {
@@ -61,7 +61,7 @@ where
         let Crew {
             scheduler,
             keeper,
-            refreshers,
+            refresher,
         } = crew;
         let file = &mut journal.file;
         let is_last = AtomicBool::new(false);
@@ -71,7 +71,7 @@ where
             || -> io::Result<()>
                 requires { IsSend L.row × IsSend B.row × IsSend N.row × IsSend S.row × IsSend C.row }
             {
-                let served = self.run_others(listener, scheduler, schedule, refreshers, watch);
+                let served = self.run_others(listener, scheduler, schedule, refresher, watch);
                 is_last.store(true, Ordering::SeqCst);
                 served
             },
@@ -79,14 +79,13 @@ where
         served
     }
 
-    /// Runs the threads but that which keeps the journal. Where another desk follows, requests are answered until a refresh that has begun
-    /// has ended, too.
-    fn run_others<S: Scrape + Send + Drop, C: Configuration + Send>(
+    /// Runs the threads but that which keeps the journal. Where another desk follows, requests are answered until all others have ended.
+    fn run_others<S: FetchSeveral + Send + Drop, C: Configuration + Send>(
         &self,
         listener: &TcpListener,
         scheduler: &mut Pass<L, B, N>,
         schedule: &mut Schedule<C>,
-        refreshers: &Mutex<Pass<L, B, N>>,
+        refresher: &mut Pass<L, B, N>,
         watch: &mut Watch<S>,
     ) -> io::Result<()> {
         let (served, ((), ())) = thread::join(
@@ -98,7 +97,7 @@ where
                 let ended = thread::join(
                     &self.rt,
                     || self.schedule(scheduler, schedule),
-                    || self.refresh(refreshers, watch),
+                    || self.shared.refresh_sources(refresher, watch),
                 );
                 if !self.shared.is_quitting() {
                     self.stop();
@@ -107,14 +106,6 @@ where
             },
         );
         served
-    }
-
-    /// Refreshes sources until the desk is to be closed.
-    fn refresh<S: Scrape + Send>(&self, pass: &Mutex<Pass<L, B, N>>, watch: &mut Watch<S>) {
-        let Watch { devices, sources } = watch;
-        if let Some(device) = devices.first_mut() {
-            self.shared.refresh_sources(pass, sources, device);
-        }
     }
 
     /// Answers requests until the gate is stopped. Where no server can be, the service ends.

@@ -5,10 +5,10 @@ ghost use Rattle.service_tasks.specs.Later.{IsLater};
 use crate::one_desk::{SEATS, serve_desk};
 use allocation_core::Core;
 use durable_journal::Archive;
-use http_get::Scrape;
-use scrape_client::HyperScrape;
+use http_get::FetchSeveral;
+use scrape_client::HyperFetches;
 use service_tasks::{Configuration, Ending, Journal, Office, Service, continued};
-use std::alloc::{AllocError, AllocGlobal, Global};
+use std::alloc::{AllocGlobal, Global};
 use std::fs::OpenFile;
 use std::io;
 use std::io::Write;
@@ -18,10 +18,7 @@ use std::random::RandomSource;
 use std::sync::Wait;
 use std::sync::ledger::Blank;
 use std::thread::Threads;
-use std::time::{Clock, Duration};
-
-/// How many sources are asked at once at most.
-const MOST_REFRESHERS: usize = 1;
+use std::time::Clock;
 
 /// Serves over an allocator with its journal until the service is to end, and gives the allocator back as it is then. The archive
 /// begins the journals after it. The configuration is read again when a request asks for it.
@@ -61,7 +58,7 @@ where
     }
 }
 
-/// The office of a service that begins, with devices over HTTP.
+/// The office of a service that begins, whose sources are asked over HTTP.
 fn office_of<R, F, C>(
     rt: &R,
     alloc: Global,
@@ -69,35 +66,14 @@ fn office_of<R, F, C>(
     listener: TcpListener,
     journal: Journal<F>,
     configuration: C,
-) -> io::Result<Office<HyperScrape<R>, F, C>>
+) -> io::Result<Office<HyperFetches<R>, F, C>>
 where
     R: Wait + Clock + Net + RandomSource + AllocGlobal + Copy + Drop,
     F: Drop,
     C: Configuration + Drop,
 {
-    let devices = devices_of(rt, alloc, service.fetch_timeout())?;
-    Office::open(
-        rt,
-        alloc,
-        service,
-        listener,
-        journal,
-        devices,
-        configuration,
-    )
-}
-
-/// A device for each source that is asked at once. Each fetch has so much time.
-fn devices_of<R: Copy>(
-    rt: &R,
-    alloc: Global,
-    limit: Duration,
-) -> Result<Vec<HyperScrape<R>>, AllocError> {
-    let mut devices = Vec::with_capacity(alloc, MOST_REFRESHERS)?;
-    for _ in 0..MOST_REFRESHERS {
-        devices.push(HyperScrape::new(*rt, limit))?;
-    }
-    Ok(devices)
+    let device = HyperFetches::new(*rt, service.fetch_timeout());
+    Office::open(rt, alloc, service, listener, journal, device, configuration)
 }
 
 /// Serves over a desk after the other until the service is to end. It fails where that is since its journal is broken.
@@ -122,7 +98,7 @@ where
         + Send
         + Copy
         + Drop,
-    S: Scrape + Send + Drop,
+    S: FetchSeveral + Send + Drop,
     F: Write + OpenFile + Send + Drop,
     A: Archive<F>,
     C: Configuration + Send + Drop,
@@ -160,7 +136,7 @@ where
         + Send
         + Copy
         + Drop,
-    S: Scrape + Send + Drop,
+    S: FetchSeveral + Send + Drop,
     F: Write + OpenFile + Send,
     C: Configuration + Send + Drop,
     ensures { IfOk result (λ r. IsLater core r.0) }

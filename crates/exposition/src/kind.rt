@@ -9,6 +9,8 @@ pub enum Kind {
     Counter,
     /// They may rise and fall.
     Gauge,
+    /// They count observations by how large these were, beside their sum.
+    Histogram,
 }
 
 impl Kind {
@@ -19,6 +21,7 @@ impl Kind {
         match self {
             Kind::Counter => "counter",
             Kind::Gauge => "gauge",
+            Kind::Histogram => "histogram",
         }
     }
 }

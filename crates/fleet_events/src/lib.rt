@@ -19,7 +19,7 @@ mod writing;
 pub use answer::Answer;
 pub use event::Event;
 pub use ids::{AllocationNumber, CollectorId, Round, TargetId};
-pub use reading::{read_event, read_report};
+pub use reading::{read_event, read_outcome, read_report};
 pub use refusal::Refusal;
 pub use report::Report;
 pub use scrape_books::Outcome;

@@ -241,9 +241,9 @@ pub fn read_report(alloc: Global, value: &Value) -> Result<Option<Event>, AllocE
     })))
 }
 
-/// What a scrape came to: how many samples, or that the target did not answer.
+/// What a scrape came to, by the members `up` and `samples` of an object: how many samples, or that the target did not answer.
 #[tactic(auto, unfolding(crate::specs::Reading::outcome_in))]
-fn read_outcome(alloc: Global, value: &Value) -> Result<Option<Outcome>, AllocError>
+pub fn read_outcome(alloc: Global, value: &Value) -> Result<Option<Outcome>, AllocError>
     ensures { IfOk result (λ o. o ≡ outcome_in (view value.now)) }
 {
     match value.get("up").and_then(Value::as_bool) {

@@ -6,5 +6,6 @@ pub mod Addresses
 pub mod Urls
 pub mod Discoveries
 pub mod Scripts
+pub mod Causes
 pub mod Refreshing
 pub mod Laws

@@ -22,6 +22,11 @@ abbrev pub IsRefresh : Job → List RuleSettings → ℕ → Result Reply FetchF
 IsRefresh job rules source (Ok reply) result = Gives result (found_said job rules source reply)
 IsRefresh job rules source (Err fault) result = result ≡ Err (unanswered fault)
 
+-- what asking a source came to says what it lists, where there is such a source
+abbrev pub IsHeard : Job → List RuleSettings → ℕ → Result Reply FetchFault → Option Get → Result Event RefreshError → Type 0
+IsHeard job rules source came (Some get) result = IsRefresh job rules source came result
+IsHeard job rules source came None result = result ≡ Err NoSource
+
 -- no fetch is made of a source that is not asked
 abbrev pub RefreshedBy : {S : Type 0} → (S → Get → Result Reply FetchFault → S → Type 0) → S → S → Job → List RuleSettings → ℕ → Option Get → Result Event RefreshError → Type 0
 RefreshedBy may old new job rules source (Some get) result = (came : Result Reply FetchFault) × may old get came new × IsRefresh job rules source came result

@@ -5,8 +5,10 @@
 #![tactic(auto)]
 
 mod address;
+mod cause;
 mod discovery;
 mod error;
+mod fetches;
 mod get;
 mod laws;
 mod names;
@@ -21,11 +23,13 @@ mod script;
 mod url;
 
 pub use address::{DEFAULT_PORT, address_of};
+pub use cause::Cause;
 pub use discovery::found;
 pub use error::RefreshError;
+pub use fetches::{Asker, FetchSeveral, Next};
 pub use get::Get;
 pub use laws::names_law;
-pub use refreshing::refresh;
+pub use refreshing::{get_of_source, heard, refresh};
 pub use reply::{FetchFault, Reply};
 pub use scrape::{Scrape, failures_after};
 pub use scrape_request::{get_in, get_of};

@@ -1,12 +1,13 @@
 //! Refreshing what a discovery source lists.
-ghost use Rattle.std.specs.Prelude.{◌≡◌, ◌<◌, ◌≤◌, length, IfOk, IfSome, slice_get};
+ghost use Rattle.std.specs.Prelude.{◌≡◌, ◌≤◌, length, IfOk, IfSome};
 ghost use Rattle.std.specs.Option.{option_map};
 ghost use Rattle.http_get.specs.Urls.{url_get};
-ghost use Rattle.http_get.specs.Refreshing.{source_get, Refreshed};
+ghost use Rattle.http_get.specs.Refreshing.{source_get, IsHeard, Refreshed};
 
 use crate::discovery::found;
 use crate::error::RefreshError;
 use crate::get::Get;
+use crate::reply::{FetchFault, Reply};
 use crate::scrape::Scrape;
 use crate::url::get_of_url;
 use fleet_events::Event;
@@ -29,29 +30,46 @@ pub fn refresh<S: Scrape>(
     let Some(get) = get_of_source(alloc, job, source)? else {
         return Err(RefreshError::NoSource);
     };
-    match scrape.fetch(&get) {
-        Ok(reply) => found(alloc, job, rules, source, &reply),
-        Err(fault) => Err(RefreshError::from(fault)),
+    let fetched = scrape.fetch(&get);
+    heard(alloc, job, rules, source, &fetched)
+}
+
+/// What a job's source lists, by what asking it once came to.
+pub fn heard(
+    alloc: Global,
+    job: &Job,
+    rules: &Rules,
+    source: u32,
+    fetched: &Result<Reply, FetchFault>,
+) -> Result<Event, RefreshError>
+    ensures { IsHeard job.now rules.now source fetched.now (source_get job.now source) result }
+{
+    if url_of(job, source).is_none() {
+        return Err(RefreshError::NoSource);
+    }
+    match fetched {
+        Ok(reply) => found(alloc, job, rules, source, reply),
+        Err(fault) => Err(RefreshError::from(*fault)),
     }
 }
 
 /// How a source is asked, where the job has one of this number that is asked at all.
-fn get_of_source(alloc: Global, job: &Job, source: u32) -> Result<Option<Get>, AllocError>
-    ensures get { IfOk result (λ get. get ≡ source_get job.now source) }
-    ensures listed { IfOk result (λ get. IfSome get (λ _. source ≤ length job.now.http_urls)) }
+pub fn get_of_source(alloc: Global, job: &Job, source: u32) -> Result<Option<Get>, AllocError>
+    ensures { IfOk result (λ get. get ≡ source_get job.now source) }
 {
-    match source.checked_sub(1) {
-        Some(index) => get_at(alloc, job.http_urls.as_slice(), index as usize),
+    match url_of(job, source) {
+        Some(url) => Ok(Some(get_of_url(alloc, url.as_str())?)),
         None => Ok(None),
     }
 }
 
-fn get_at(alloc: Global, urls: &[Text], index: usize) -> Result<Option<Get>, AllocError>
-    ensures get { IfOk result (λ get. get ≡ option_map url_get (slice_get urls.now index)) }
-    ensures listed { IfOk result (λ get. IfSome get (λ _. index < length urls.now)) }
+/// The URL of a source, where the job has one of this number that is asked at all.
+fn url_of(job: &Job, source: u32) -> Option<&Text>
+    ensures url { option_map (λ url. url_get url.now) result ≡ source_get job.now source }
+    ensures listed { IfSome result (λ _. source ≤ length job.now.http_urls) }
 {
-    match urls.get(index) {
-        Some(url) => Ok(Some(get_of_url(alloc, url.as_str())?)),
-        None => Ok(None),
+    match source.checked_sub(1) {
+        Some(index) => job.http_urls.as_slice().get(index as usize),
+        None => None,
     }
 }

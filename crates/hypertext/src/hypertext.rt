@@ -2,13 +2,15 @@
 ghost use Rattle.std.specs.Prelude.{◌≡◌, ◌++◌, IfSome, OnOk, [], string_bytes};
 ghost use Rattle.std.specs.Fmt.{decimal};
 ghost use Rattle.hypertext.specs.Escaping.{escaped};
+ghost use Rattle.hypertext.specs.Segments.{segment};
 
 use crate::escaping::push_escaped;
+use crate::segments::push_segment;
 use std::alloc::{AllocError, Global};
 use std::marker::Model;
 
-/// A document in HTML. Contracts see its bytes. Markup is the caller's own; texts and numbers from outside are shown by `text` and
-/// `number`.
+/// A document in HTML. Contracts see its bytes. Markup is the caller's own; texts and numbers from outside are shown by `text`,
+/// `number` and `segment`.
 #[derive(Drop)]
 pub struct Hypertext {
     alloc: Global,
@@ -34,8 +36,8 @@ impl Hypertext {
         }
     }
 
-    /// Markup as it stands.
-    pub fn markup(&mut self, markup: &str) -> Result<(), AllocError>
+    /// Markup as it stands. It is of the program's own texts, so that nothing from outside can be.
+    pub fn markup(&mut self, markup: &'static str) -> Result<(), AllocError>
         ensures { OnOk result (self.new ≡ self.old ++ markup.now) }
     {
         self.bytes.extend_from_slice(markup.as_bytes())
@@ -53,7 +55,14 @@ impl Hypertext {
         ensures { OnOk result (self.new ≡ self.old ++ decimal number) }
     {
         let digits = format!(in self.alloc; "{number}")?;
-        self.markup(digits.as_str())
+        self.bytes.extend_from_slice(digits.as_bytes())
+    }
+
+    /// One segment of the path of a link, or the value of a member of its query, whatever the text has.
+    pub fn segment(&mut self, text: &str) -> Result<(), AllocError>
+        ensures { OnOk result (self.new ≡ self.old ++ segment text.now) }
+    {
+        push_segment(&mut self.bytes, text.as_bytes())
     }
 
     /// The document, if it is UTF-8, as it is where all that was put in was.

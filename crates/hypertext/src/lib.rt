@@ -4,6 +4,7 @@
 mod escaping;
 mod hypertext;
 mod laws;
+mod segments;
 
 pub use hypertext::Hypertext;
 pub use laws::texts_are_no_markup;

@@ -1,12 +1,19 @@
 //! What requests ask for.
-use fleet_events::Event;
+use fleet_events::{CollectorId, Event};
 use http::{Method, Uri};
-use sd_routes::{Acknowledgement, Ask, RequestError, Routes, event_of, misshapen_member, route};
+use reach_rules::CollectorName;
+use sd_routes::{
+    Acknowledgement, Ask, Change, RequestError, Routes, Wanted, WhichCollector, event_of,
+    misshapen_member, route,
+};
 use std::alloc::{AllocError, Global};
 use std::str;
 
 /// The epoch in which bodies are read. No float of 64 bits is this number.
 const EPOCH: u64 = 9_007_199_254_740_993;
+
+/// The number that stands for that of a collector which is named.
+const NAMED: CollectorId = 0;
 
 /// A request: its method, its target, and its body behind a blank or a line feed. Says what it asks for, with the event that the body spells, or
 /// how it is refused, and at which member the body is not of the documented shape.
@@ -63,7 +70,7 @@ fn refused(alloc: Global, error: RequestError) -> Result<String, AllocError> {
 /// What is asked for, with what the body spells for it.
 fn told(alloc: Global, ask: &Ask, body: &[u8]) -> Result<String, AllocError> {
     match event_of(alloc, ask, body, EPOCH) {
-        Ok(Some(event)) => with(alloc, ask, spelled_event(alloc, &event)?),
+        Ok(Some(wanted)) => with(alloc, ask, spelled_wanted(alloc, wanted)?),
         Ok(None) => spelled(alloc, ask),
         Err(RequestError::Shape) => with(alloc, ask, misshapen(alloc, ask, body)?),
         Err(error) => with(alloc, ask, refused(alloc, error)?),
@@ -74,6 +81,24 @@ fn misshapen(alloc: Global, ask: &Ask, body: &[u8]) -> Result<String, AllocError
     match misshapen_member(alloc, ask, body)? {
         Some(member) => format!(in alloc; "Shape at {}", member.as_str()),
         None => refused(alloc, RequestError::Shape),
+    }
+}
+
+fn spelled_wanted(alloc: Global, wanted: Wanted) -> Result<String, AllocError> {
+    match wanted {
+        Wanted::Event(event) => spelled_event(alloc, &event),
+        Wanted::OfNamed { name, change } => spelled_change(alloc, &name, change),
+    }
+}
+
+fn spelled_change(
+    alloc: Global,
+    name: &CollectorName,
+    change: Change,
+) -> Result<String, AllocError> {
+    match spelled_event(alloc, &change.event(NAMED)) {
+        Ok(event) => format!(in alloc; "of <{}> {event}", name.as_str()),
+        Err(error) => Err(error),
     }
 }
 
@@ -100,13 +125,16 @@ fn spelled(alloc: Global, ask: &Ask) -> Result<String, AllocError> {
             format!(in alloc; "targets of <{}> {at} <{}>", job.as_str(), name.as_str())
         }
         Ask::Uncovered(job) => format!(in alloc; "uncovered of <{}>", job.as_str()),
-        Ask::Acknowledged(told) => spelled_acknowledgement(alloc, told),
+        Ask::FindTargets(text) => format!(in alloc; "targets with <{}>", text.as_str()),
+        Ask::Acknowledged { told, counts } => spelled_acknowledgement(alloc, told, *counts),
         Ask::Certificate => String::from_str(alloc, "certificate"),
+        Ask::Collectors => String::from_str(alloc, "collectors"),
+        Ask::Collector(which) => of_collector(alloc, "collector", which),
         Ask::Join => String::from_str(alloc, "join"),
-        Ask::Leave(collector) => format!(in alloc; "leave {collector}"),
-        Ask::Drain(collector) => format!(in alloc; "drain {collector}"),
-        Ask::Release(collector) => format!(in alloc; "release {collector}"),
-        Ask::SetLimits(collector) => format!(in alloc; "limits of {collector}"),
+        Ask::Leave(which) => of_collector(alloc, "leave", which),
+        Ask::Drain(which) => of_collector(alloc, "drain", which),
+        Ask::Release(which) => of_collector(alloc, "release", which),
+        Ask::SetLimits(which) => of_collector(alloc, "limits of", which),
         Ask::Report => String::from_str(alloc, "report"),
         Ask::Healthy => String::from_str(alloc, "healthy"),
         Ask::Live => String::from_str(alloc, "live"),
@@ -117,8 +145,24 @@ fn spelled(alloc: Global, ask: &Ask) -> Result<String, AllocError> {
     }
 }
 
-fn spelled_acknowledgement(alloc: Global, told: &Acknowledgement) -> Result<String, AllocError> {
+fn of_collector(alloc: Global, what: &str, which: &WhichCollector) -> Result<String, AllocError> {
+    match which {
+        WhichCollector::Number(id) => format!(in alloc; "{what} {id}"),
+        WhichCollector::Name(name) => format!(in alloc; "{what} <{}>", name.as_str()),
+    }
+}
+
+fn spelled_acknowledgement(
+    alloc: Global,
+    told: &Acknowledgement,
+    counts: bool,
+) -> Result<String, AllocError> {
     let (collector, list, epoch) = (told.collector, told.list, told.epoch);
     let job = told.job.as_str();
-    format!(in alloc; "{collector} follows list {list} of <{job}> of epoch {epoch}")
+    let follows = if counts {
+        "follows"
+    } else {
+        "as shown follows"
+    };
+    format!(in alloc; "{collector} {follows} list {list} of <{job}> of epoch {epoch}")
 }

@@ -7,6 +7,7 @@
 
 mod answers;
 mod asks;
+mod fleet_pages;
 mod numbers;
 mod pages;
 mod readers;

@@ -28,7 +28,10 @@ pub(crate) fn targets(alloc: Global, text: &str) -> Result<String, AllocError> {
     }
 }
 
-fn numbered(alloc: Global, groups: &str) -> Result<Option<List<NumberedTarget>>, AllocError> {
+pub(crate) fn numbered(
+    alloc: Global,
+    groups: &str,
+) -> Result<Option<List<NumberedTarget>>, AllocError> {
     let line = format!(in alloc;
         "{{\"event\":\"discover\",\"job\":\"j\",\"source\":0,\"targets\":{groups}}}"
     )?;

@@ -1,5 +1,6 @@
 //! The readers by name.
 use crate::asks::request;
+use crate::fleet_pages::{collector, collectors, found};
 use crate::pages::{job, jobs, targets};
 use crate::responses::response;
 use crate::scrapes::{get, get_in_job, host, url};
@@ -21,6 +22,9 @@ pub(crate) fn said(alloc: Global, name: &str, bytes: &[u8]) -> Result<Option<Str
 fn said_of_text(alloc: Global, name: &str, text: &str) -> Result<Option<String>, AllocError> {
     let line = match name {
         "asked" => url(alloc, text),
+        "collector_page" => collector(alloc, text),
+        "collectors_page" => collectors(alloc, text),
+        "found_page" => found(alloc, text),
         "get" => get(alloc, text),
         "get_in" => get_in_job(alloc, text),
         "host" => host(alloc, text),

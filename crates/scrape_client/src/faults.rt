@@ -1,26 +1,27 @@
-//! Faults of the layers below, as those of a fetch: want of memory, or the device's.
-use http_get::FetchFault;
+//! Faults of the layers below, as causes.
+use http_get::Cause;
 use std::io;
 
-pub(crate) fn io_fault(error: &io::Error) -> FetchFault {
-    if error.kind() == io::ErrorKind::OutOfMemory {
-        FetchFault::Memory
-    } else {
-        FetchFault::Device
+pub(crate) fn io_cause(error: &io::Error) -> Cause {
+    match error.kind() {
+        io::ErrorKind::OutOfMemory => Cause::Memory,
+        io::ErrorKind::ConnectionRefused => Cause::Refused,
+        io::ErrorKind::TimedOut => Cause::TimedOut,
+        _ => Cause::Broken,
     }
 }
 
-pub(crate) fn hyper_fault(error: &hyper::Error) -> FetchFault {
+pub(crate) fn hyper_cause(error: &hyper::Error) -> Cause {
     if error.is_out_of_memory() {
-        FetchFault::Memory
+        Cause::Memory
     } else {
-        FetchFault::Device
+        Cause::Broken
     }
 }
 
-pub(crate) fn http_fault(error: &http::Error) -> FetchFault {
+pub(crate) fn http_cause(error: &http::Error) -> Cause {
     match error {
-        http::Error::OutOfMemory => FetchFault::Memory,
-        _ => FetchFault::Device,
+        http::Error::OutOfMemory => Cause::Memory,
+        _ => Cause::Broken,
     }
 }

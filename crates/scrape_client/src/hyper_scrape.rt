@@ -2,14 +2,13 @@
 ghost use Rattle.std.specs.Prelude.{◌≡◌, ◌≤◌, IfOk, length};
 ghost use Rattle.scrape_client.specs.declared.exchange.TheConstants.{LONGEST_BODY};
 
-use crate::exchange::fetch_from;
-use crate::faults::io_fault;
-use http_get::{FetchFault, Get, Reply, Scrape, address_of, failures_after};
+use crate::blocking::fetch_within;
+use http_get::{FetchFault, Get, Reply, Scrape, failures_after};
 use std::alloc::AllocGlobal;
-use std::net::{Net, SocketAddr};
+use std::net::Net;
 use std::random::RandomSource;
 use std::sync::Wait;
-use std::time::{Clock, Duration, Instant};
+use std::time::{Clock, Duration};
 
 /// A device over HTTP/1.1, with a new connection for each fetch. An address that is none, a connection or an exchange that fails
 /// or is not done in time, and a body that is encoded are `Device`. No redirect is followed.
@@ -43,7 +42,7 @@ impl<R: Wait + Clock + Net + RandomSource + AllocGlobal> Scrape for HyperScrape<
     ghost failed = { λ s. s.failures };
 
     fn fetch(&mut self, get: &Get) -> Result<Reply, FetchFault> {
-        let fetched = fetch_within(&self.rt, get, self.limit);
+        let fetched = fetch(&self.rt, get, self.limit);
         self.failures = failures_after(&fetched, self.failures);
         fetched
     }
@@ -53,17 +52,13 @@ impl<R: Wait + Clock + Net + RandomSource + AllocGlobal> Scrape for HyperScrape<
     }
 }
 
-fn fetch_within<R>(rt: &R, get: &Get, limit: Duration) -> Result<Reply, FetchFault>
+fn fetch<R>(rt: &R, get: &Get, limit: Duration) -> Result<Reply, FetchFault>
 where
     R: Wait + Clock + Net + RandomSource + AllocGlobal,
     ensures { IfOk result (λ reply. length reply.body ≤ LONGEST_BODY) }
 {
-    let Some(address) = address_of(get.address.as_str()) else {
-        return Err(FetchFault::Device);
-    };
-    let now = Instant::now(rt).map_err(|e| io_fault(&e))?;
-    let Some(deadline) = now.checked_add(limit) else {
-        return Err(FetchFault::Device);
-    };
-    fetch_from(rt, SocketAddr::V4(address), get, deadline)
+    match fetch_within(rt, get, limit) {
+        Ok(reply) => Ok(reply),
+        Err(cause) => Err(cause.fault()),
+    }
 }

@@ -1,10 +1,16 @@
-//! The device that fetches over HTTP: a new connection for each request, with a limit of time and of size.
+//! The devices that fetch over HTTP: a new connection for each request, with a limit of time and of size. One waits for each fetch, the
+//! other has several under way.
 #![tactic(auto)]
 
+mod beginning;
+mod blocking;
 mod exchange;
 mod faults;
+mod hyper_fetches;
 mod hyper_scrape;
+mod marked;
 mod while_memory;
 
 pub use exchange::LONGEST_BODY;
+pub use hyper_fetches::HyperFetches;
 pub use hyper_scrape::HyperScrape;

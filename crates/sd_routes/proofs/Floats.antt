@@ -14,7 +14,7 @@ use Rattle.label_sets.specs.Labels.{LabelList}
 use Rattle.sd_documents.specs.declared.config.Job.{Job}
 use Rattle.sd_routes.specs.Responses.{misshapen_data}
 use Rattle.sd_routes.specs.declared.list_head.ListHead.{ListHead}
-use Rattle.sd_routes.specs.Pages.{job_data, with_jobs, jobs_data, with_labels, group_data, share_data, with_shares, shares_data, uncovered_data}
+use Rattle.sd_routes.specs.Pages.{job_data, with_jobs, jobs_data, with_labels, labels_data, group_data, share_data, with_shares, shares_data, uncovered_data}
 use Rattle.sd_routes.specs.Acknowledging.{own_group}
 use Rattle.alloc_desk.specs.declared.view.NumberedTarget.{NumberedTarget}
 use Rattle.alloc_desk.specs.declared.view.Share.{Share}
@@ -23,7 +23,7 @@ or_parts : (a b : Bool) → (a || b) ≡ false → (a ≡ false) × (b ≡ false
 or_parts true b h = cc
 or_parts false b h = (refl, h)
 
-put_no_float : (k : List ℕ) (d : Data) (ms : Members) → has_float d ≡ false → members_have_float ms ≡ false → members_have_float (put k d ms) ≡ false
+pub put_no_float : (k : List ℕ) (d : Data) (ms : Members) → has_float d ≡ false → members_have_float ms ≡ false → members_have_float (put k d ms) ≡ false
 put_no_float k d no_members here rest = or_from _ _ here refl
 put_no_float k d (member l e ms) here rest =
     let parts = or_parts (has_float e) (members_have_float ms) rest in
@@ -46,11 +46,13 @@ with_labels_no_float : (ms : Members) (labels : LabelList) → members_have_floa
 with_labels_no_float ms [] h = h
 with_labels_no_float ms (label ∷ labels) h = with_labels_no_float (put label.0 (string label.1) ms) labels (put_no_float label.0 (string label.1) ms refl h)
 
+pub labels_data_no_float : (labels : LabelList) (number : ℕ) → has_float (labels_data labels number) ≡ false
+labels_data_no_float labels number =
+    put_no_float (codes "__meta_allocator_target") (string (decimal number)) (with_labels no_members labels) refl (with_labels_no_float no_members labels refl)
+
 group_no_float : (numbered : NumberedTarget) → has_float (group_data numbered) ≡ false
 group_no_float numbered =
-    or_from _ _
-    (put_no_float (codes "__meta_allocator_target") (string (decimal numbered.number)) (with_labels no_members numbered.target.labels) refl (with_labels_no_float no_members numbered.target.labels refl))
-    refl
+    or_from _ _ (labels_data_no_float numbered.target.labels numbered.number) refl
 
 pub groups_no_float : (targets : List NumberedTarget) → has_float (list_data group_data targets) ≡ false
 groups_no_float = no_float group_data group_no_float

@@ -5,3 +5,5 @@ pub mod Reaches
 pub mod Floats
 pub mod Acknowledged
 pub mod Escapes
+pub mod CollectorFloats
+pub mod FoundFloats

@@ -66,29 +66,32 @@ with_hqr = prepend (codes "healthy") (ends (Some 0)) ++ with_qr
 abbrev with_re : Rows
 with_re = prepend (codes "adyz") (ends (Some 16)) ++ prepend (codes "ports") (ends (Some 17))
 
-abbrev with_s : Rows
-with_s = prepend (codes "scrape_configs") (ends (Some 18)) ++ ends (Some 19)
+abbrev with_t : Rows
+with_t = prepend (codes "targets") (ends (Some 19)) ++ ends (Some 20)
 
-abbrev with_rs : Rows
-with_rs = prepend (codes "re") with_re ++ with_s
+abbrev with_st : Rows
+with_st = prepend (codes "scrape_configs") (ends (Some 18)) ++ with_t
 
-abbrev with_mrs : Rows
-with_mrs = prepend (codes "metrics") (ends (Some 15)) ++ with_rs
+abbrev with_rst : Rows
+with_rst = prepend (codes "re") with_re ++ with_st
 
-abbrev with_lmrs : Rows
-with_lmrs = prepend (codes "livez") (ends (Some 14)) ++ with_mrs
+abbrev with_mrst : Rows
+with_mrst = prepend (codes "metrics") (ends (Some 15)) ++ with_rst
 
-abbrev with_jlmrs : Rows
-with_jlmrs = prepend (codes "jobs") jobs ++ with_lmrs
+abbrev with_lmrst : Rows
+with_lmrst = prepend (codes "livez") (ends (Some 14)) ++ with_mrst
 
-abbrev with_cjlmrs : Rows
-with_cjlmrs = prepend (codes "c") with_c ++ with_jlmrs
+abbrev with_jlmrst : Rows
+with_jlmrst = prepend (codes "jobs") jobs ++ with_lmrst
 
-abbrev with_acjlmrs : Rows
-with_acjlmrs = prepend (codes "acknowledged") (ends (Some 4)) ++ with_cjlmrs
+abbrev with_cjlmrst : Rows
+with_cjlmrst = prepend (codes "c") with_c ++ with_jlmrst
+
+abbrev with_acjlmrst : Rows
+with_acjlmrst = prepend (codes "acknowledged") (ends (Some 4)) ++ with_cjlmrst
 
 abbrev tree : Rows
-tree = prepend (codes "/") (prepend (codes "-/") with_hqr ++ with_acjlmrs)
+tree = prepend (codes "/") (prepend (codes "-/") with_hqr ++ with_acjlmrst)
 
 agrees-word : (w : List ℕ) (k : ℕ) → all_bytes w ≡ true → Agrees (prepend w (ends (Some k)))
 agrees-word w k h = agrees-text w (ends (Some k)) h (agrees-end k)
@@ -141,35 +144,38 @@ agrees-with_re =
     agrees-or 97 (codes "dyz") (ends (Some 16)) (prepend (codes "ports") (ends (Some 17))) (omega arith) refl
     (agrees-word (codes "adyz") 16 refl) (agrees-word (codes "ports") 17 refl)
 
-agrees-with_s : Agrees with_s
-agrees-with_s =
-    agrees-or 115 (codes "crape_configs") (ends (Some 18)) (ends (Some 19)) (omega arith) refl
-    (agrees-word (codes "scrape_configs") 18 refl) (agrees-end 19)
+agrees-with_t : Agrees with_t
+agrees-with_t =
+    agrees-or 116 (codes "argets") (ends (Some 19)) (ends (Some 20)) (omega arith) refl
+    (agrees-word (codes "targets") 19 refl) (agrees-end 20)
 
-agrees-with_rs : Agrees with_rs
-agrees-with_rs =
-    agrees-or 114 (codes "e") with_re with_s (omega arith) refl
-    (agrees-text (codes "re") with_re refl agrees-with_re) agrees-with_s
+agrees-with_st : Agrees with_st
+agrees-with_st = agrees-or 115 (codes "crape_configs") (ends (Some 18)) with_t (omega arith) refl (agrees-word (codes "scrape_configs") 18 refl) agrees-with_t
 
-agrees-with_mrs : Agrees with_mrs
-agrees-with_mrs = agrees-or 109 (codes "etrics") (ends (Some 15)) with_rs (omega arith) refl (agrees-word (codes "metrics") 15 refl) agrees-with_rs
+agrees-with_rst : Agrees with_rst
+agrees-with_rst =
+    agrees-or 114 (codes "e") with_re with_st (omega arith) refl
+    (agrees-text (codes "re") with_re refl agrees-with_re) agrees-with_st
 
-agrees-with_lmrs : Agrees with_lmrs
-agrees-with_lmrs = agrees-or 108 (codes "ivez") (ends (Some 14)) with_mrs (omega arith) refl (agrees-word (codes "livez") 14 refl) agrees-with_mrs
+agrees-with_mrst : Agrees with_mrst
+agrees-with_mrst = agrees-or 109 (codes "etrics") (ends (Some 15)) with_rst (omega arith) refl (agrees-word (codes "metrics") 15 refl) agrees-with_rst
 
-agrees-with_jlmrs : Agrees with_jlmrs
-agrees-with_jlmrs = agrees-or 106 (codes "obs") jobs with_lmrs (omega arith) refl (agrees-text (codes "jobs") jobs refl agrees-jobs) agrees-with_lmrs
+agrees-with_lmrst : Agrees with_lmrst
+agrees-with_lmrst = agrees-or 108 (codes "ivez") (ends (Some 14)) with_mrst (omega arith) refl (agrees-word (codes "livez") 14 refl) agrees-with_mrst
 
-agrees-with_cjlmrs : Agrees with_cjlmrs
-agrees-with_cjlmrs = agrees-or 99 [] with_c with_jlmrs (omega arith) refl (agrees-text (codes "c") with_c refl agrees-with_c) agrees-with_jlmrs
+agrees-with_jlmrst : Agrees with_jlmrst
+agrees-with_jlmrst = agrees-or 106 (codes "obs") jobs with_lmrst (omega arith) refl (agrees-text (codes "jobs") jobs refl agrees-jobs) agrees-with_lmrst
 
-agrees-with_acjlmrs : Agrees with_acjlmrs
-agrees-with_acjlmrs = agrees-or 97 (codes "cknowledged") (ends (Some 4)) with_cjlmrs (omega arith) refl (agrees-word (codes "acknowledged") 4 refl) agrees-with_cjlmrs
+agrees-with_cjlmrst : Agrees with_cjlmrst
+agrees-with_cjlmrst = agrees-or 99 [] with_c with_jlmrst (omega arith) refl (agrees-text (codes "c") with_c refl agrees-with_c) agrees-with_jlmrst
+
+agrees-with_acjlmrst : Agrees with_acjlmrst
+agrees-with_acjlmrst = agrees-or 97 (codes "cknowledged") (ends (Some 4)) with_cjlmrst (omega arith) refl (agrees-word (codes "acknowledged") 4 refl) agrees-with_cjlmrst
 
 agrees-tree : Agrees tree
 agrees-tree =
-    agrees-text (codes "/") (prepend (codes "-/") with_hqr ++ with_acjlmrs) refl
-    (agrees-or 45 (codes "/") with_hqr with_acjlmrs (omega arith) refl (agrees-text (codes "-/") with_hqr refl agrees-with_hqr) agrees-with_acjlmrs)
+    agrees-text (codes "/") (prepend (codes "-/") with_hqr ++ with_acjlmrst) refl
+    (agrees-or 45 (codes "/") with_hqr with_acjlmrst (omega arith) refl (agrees-text (codes "-/") with_hqr refl agrees-with_hqr) agrees-with_acjlmrst)
 
 -- ---- the routes themselves
 

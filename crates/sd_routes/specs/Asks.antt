@@ -1,44 +1,56 @@
 -- What a method and a target ask for.
-use Rattle.std.specs.Prelude.{ℕ, List, codes, bytes_eq, Bool, true, false, Option, Some, None, Result, Ok, Err, if◌then◌else◌}
+use Rattle.std.specs.Prelude.{ℕ, ◌&&◌, List, [], ◌∷◌, codes, Bool, true, false, Option, Some, None, Result, Ok, Err, if◌then◌else◌}
+use Rattle.std.specs.Char.{is_ascii_digit}
+use Rattle.std.specs.List.{list_all}
 use Rattle.reach_rules.specs.Name.{is_collector_name}
 use Rattle.sd_routes.specs.Decimals.{decimal_in}
+use Rattle.sd_routes.specs.Methods.{purpose_of}
 use Rattle.sd_routes.specs.Queries.{flag_of, number_of, value_of}
 use Rattle.sd_routes.specs.Segments.{second_segment, text_in}
-use Rattle.sd_routes.specs.Table.{place_of, method_of}
+use Rattle.sd_routes.specs.Table.{place_of}
 use Rattle.sd_routes.specs.declared.decimal.TheConstants.{MOST_OF_32_BITS, MOST_OF_64_BITS}
 use Rattle.sd_routes.specs.declared.acknowledgement.Acknowledgement.{Acknowledgement}
 use Rattle.sd_routes.specs.declared.ask.Ask.{Ask}
-use Rattle.sd_routes.specs.declared.ask.Ask.TheVariants.{Status, ScrapeConfigs, Jobs, JobTargets, CollectorTargets, Uncovered, Acknowledged, Certificate, Join, Leave, Drain, Release, SetLimits, Report, Healthy, Live, Ready, Metrics, Reload, Quit}
+use Rattle.sd_routes.specs.declared.ask.Ask.TheVariants.{Status, ScrapeConfigs, Jobs, JobTargets, CollectorTargets, Uncovered, FindTargets, Acknowledged, Certificate, Collectors, Collector, Join, Leave, Drain, Release, SetLimits, Report, Healthy, Live, Ready, Metrics, Reload, Quit}
 use Rattle.sd_routes.specs.declared.place.Place.{Place}
 use Rattle.sd_routes.specs.declared.place.Place.TheVariants as place
+use Rattle.sd_routes.specs.declared.purpose.Purpose.{Purpose}
+use Rattle.sd_routes.specs.declared.purpose.Purpose.TheVariants.{Show, Change}
 use Rattle.sd_routes.specs.declared.request_error.RequestError.{RequestError}
 use Rattle.sd_routes.specs.declared.request_error.RequestError.TheVariants.{NoRoute, Method, Shape, BadName}
+use Rattle.sd_routes.specs.declared.which_collector.WhichCollector.{WhichCollector}
+use Rattle.sd_routes.specs.declared.which_collector.WhichCollector.TheVariants.{Number, Name}
+
+-- What is shown is given and noted; where only the head is asked for, nothing is (RFC 9110, section 9.2.1: HEAD is safe).
+abbrev pub is_show : Purpose → Bool
+is_show Show = true
+is_show _ = false
 
 -- the name that a text is
 abbrev pub name_said : List ℕ → Result (List ℕ) RequestError
 name_said text = if is_collector_name text then Ok text else Err BadName
 
 -- one collector's targets, which it takes, or which are only shown
-abbrev pub held_by : List ℕ → Result Bool RequestError → Result (List ℕ) RequestError → Result Ask RequestError
-held_by job (Err e) name = Err e
-held_by job (Ok takes) (Err e) = Err e
-held_by job (Ok takes) (Ok name) = Ok (CollectorTargets job name takes)
+abbrev pub held_by : Purpose → List ℕ → Result Bool RequestError → Result (List ℕ) RequestError → Result Ask RequestError
+held_by purpose job (Err e) name = Err e
+held_by purpose job (Ok takes) (Err e) = Err e
+held_by purpose job (Ok takes) (Ok name) = Ok (CollectorTargets job name (is_show purpose && takes))
 
--- it takes them unless `take=false` says otherwise
-abbrev pub held_asked : List ℕ → List ℕ → Option (List ℕ) → Result Ask RequestError
-held_asked job name query = held_by job (flag_of (codes "take") true query) (name_said name)
+-- it takes them unless `take=false` says otherwise, or only the head is asked for
+abbrev pub held_asked : Purpose → List ℕ → List ℕ → Option (List ℕ) → Result Ask RequestError
+held_asked purpose job name query = held_by purpose job (flag_of (codes "take") true query) (name_said name)
 
 -- the targets of a job, or of one collector where the query names it
-abbrev pub targets_of : List ℕ → Option (List ℕ) → Option (List ℕ) → Result Ask RequestError
-targets_of job None query = Ok (JobTargets job)
-targets_of job (Some name) query = held_asked job name query
+abbrev pub targets_of : Purpose → List ℕ → Option (List ℕ) → Option (List ℕ) → Result Ask RequestError
+targets_of purpose job None query = Ok (JobTargets job)
+targets_of purpose job (Some name) query = held_asked purpose job name query
 
-abbrev pub targets_by : Option (List ℕ) → Option (List ℕ) → Result Ask RequestError
-targets_by None query = Err Shape
-targets_by (Some job) query = targets_of job (value_of (codes "collector_id") query) query
+abbrev pub targets_by : Purpose → Option (List ℕ) → Option (List ℕ) → Result Ask RequestError
+targets_by purpose None query = Err Shape
+targets_by purpose (Some job) query = targets_of purpose job (value_of (codes "collector_id") query) query
 
-abbrev pub job_targets_asked : List ℕ → Option (List ℕ) → Result Ask RequestError
-job_targets_asked path query = targets_by (text_in (second_segment path)) query
+abbrev pub job_targets_asked : Purpose → List ℕ → Option (List ℕ) → Result Ask RequestError
+job_targets_asked purpose path query = targets_by purpose (text_in (second_segment path)) query
 
 -- the scrape configs, with the rules of relabelling as they were read where `rules=true` says so
 abbrev pub configs_by : Result Bool RequestError → Result Ask RequestError
@@ -56,58 +68,102 @@ uncovered_of (Some job) = Ok (Uncovered job)
 abbrev pub uncovered_asked : List ℕ → Result Ask RequestError
 uncovered_asked path = uncovered_of (text_in (second_segment path))
 
--- that a collector follows a list
-abbrev pub followed : Option ℕ → Option ℕ → Option ℕ → Option (List ℕ) → Result Ask RequestError
-followed None list epoch job = Err Shape
-followed (Some collector) None epoch job = Err Shape
-followed (Some collector) (Some list) None job = Err Shape
-followed (Some collector) (Some list) (Some epoch) None = Err Shape
-followed (Some collector) (Some list) (Some epoch) (Some job) = Ok (Acknowledged (record { collector = collector; job = job; list = list; epoch = epoch }))
+-- the targets that have a text, which is not empty
+abbrev pub found_by : Option (List ℕ) → Result Ask RequestError
+found_by None = Err Shape
+found_by (Some []) = Err Shape
+found_by (Some (b ∷ text)) = Ok (FindTargets (b ∷ text))
+
+abbrev pub targets_asked : Option (List ℕ) → Result Ask RequestError
+targets_asked query = found_by (value_of (codes "search") query)
+
+-- that a collector follows a list, which is noted unless only the head is asked for
+abbrev pub followed : Purpose → Option ℕ → Option ℕ → Option ℕ → Option (List ℕ) → Result Ask RequestError
+followed purpose None list epoch job = Err Shape
+followed purpose (Some collector) None epoch job = Err Shape
+followed purpose (Some collector) (Some list) None job = Err Shape
+followed purpose (Some collector) (Some list) (Some epoch) None = Err Shape
+followed purpose (Some collector) (Some list) (Some epoch) (Some job) =
+    Ok (Acknowledged (record { collector = collector; job = job; list = list; epoch = epoch }) (is_show purpose))
 
 -- which list, the query says
-abbrev pub acknowledged_asked : Option (List ℕ) → Result Ask RequestError
-acknowledged_asked query =
-    followed (number_of MOST_OF_32_BITS (codes "collector") query) (number_of MOST_OF_32_BITS (codes "list") query)
+abbrev pub acknowledged_asked : Purpose → Option (List ℕ) → Result Ask RequestError
+acknowledged_asked purpose query =
+    followed purpose (number_of MOST_OF_32_BITS (codes "collector") query) (number_of MOST_OF_32_BITS (codes "list") query)
     (number_of MOST_OF_64_BITS (codes "epoch") query) (value_of (codes "job") query)
 
--- the collector's number in a path
-abbrev pub id_or_shape : Option ℕ → Result ℕ RequestError
-id_or_shape None = Err Shape
-id_or_shape (Some id) = Ok id
+-- ---- collectors
 
-abbrev pub id_in : List ℕ → Result ℕ RequestError
-id_in path = id_or_shape (decimal_in MOST_OF_32_BITS (second_segment path))
+abbrev pub numbered : Option ℕ → Result WhichCollector RequestError
+numbered None = Err Shape
+numbered (Some id) = Ok (Number id)
 
-abbrev pub asked_of : (ℕ → Ask) → Result ℕ RequestError → Result Ask RequestError
-asked_of ask (Ok id) = Ok (ask id)
+abbrev pub of_name : Result (List ℕ) RequestError → Result WhichCollector RequestError
+of_name (Err e) = Err e
+of_name (Ok name) = Ok (Name name)
+
+abbrev pub named : Option (List ℕ) → Result WhichCollector RequestError
+named None = Err Shape
+named (Some text) = of_name (name_said text)
+
+-- Digits alone are a collector's number, and all else is a name, which is escaped as a form's value is.
+abbrev pub which_of : List ℕ → Result WhichCollector RequestError
+which_of segment = if list_all is_ascii_digit segment then numbered (decimal_in MOST_OF_32_BITS segment) else named (text_in segment)
+
+-- the collector that a path means
+abbrev pub which_in : List ℕ → Result WhichCollector RequestError
+which_in path = which_of (second_segment path)
+
+abbrev pub asked_of : (WhichCollector → Ask) → Result WhichCollector RequestError → Result Ask RequestError
+asked_of ask (Ok collector) = Ok (ask collector)
 asked_of ask (Err e) = Err e
 
+-- the live collectors, or that one joins
+abbrev pub collectors_asked : Purpose → Ask
+collectors_asked Change = Join
+collectors_asked _ = Collectors
+
+-- one of them, or that it leaves
+abbrev pub collector_ask : Purpose → WhichCollector → Ask
+collector_ask Change collector = Leave collector
+collector_ask _ collector = Collector collector
+
+abbrev pub collector_asked : Purpose → List ℕ → Result Ask RequestError
+collector_asked purpose path = asked_of (collector_ask purpose) (which_in path)
+
+-- ---- all of them
+
 -- 400 by path or query
-abbrev pub asked_at : Place → List ℕ → Option (List ℕ) → Result Ask RequestError
-asked_at place.Status path query = Ok Status
-asked_at place.ScrapeConfigs path query = scrape_configs_asked query
-asked_at place.Jobs path query = Ok Jobs
-asked_at place.JobTargets path query = job_targets_asked path query
-asked_at place.Uncovered path query = uncovered_asked path
-asked_at place.Acknowledged path query = acknowledged_asked query
-asked_at place.Certificate path query = Ok Certificate
-asked_at place.Collectors path query = Ok Join
-asked_at place.Collector path query = asked_of Leave (id_in path)
-asked_at place.Drain path query = asked_of Drain (id_in path)
-asked_at place.Release path query = asked_of Release (id_in path)
-asked_at place.Limits path query = asked_of SetLimits (id_in path)
-asked_at place.Reports path query = Ok Report
-asked_at place.Healthy path query = Ok Healthy
-asked_at place.Live path query = Ok Live
-asked_at place.Ready path query = Ok Ready
-asked_at place.Metrics path query = Ok Metrics
-asked_at place.Reload path query = Ok Reload
-asked_at place.Quit path query = Ok Quit
+abbrev pub asked_at : Place → Purpose → List ℕ → Option (List ℕ) → Result Ask RequestError
+asked_at place.Status purpose path query = Ok Status
+asked_at place.ScrapeConfigs purpose path query = scrape_configs_asked query
+asked_at place.Jobs purpose path query = Ok Jobs
+asked_at place.JobTargets purpose path query = job_targets_asked purpose path query
+asked_at place.Uncovered purpose path query = uncovered_asked path
+asked_at place.Targets purpose path query = targets_asked query
+asked_at place.Acknowledged purpose path query = acknowledged_asked purpose query
+asked_at place.Certificate purpose path query = Ok Certificate
+asked_at place.Collectors purpose path query = Ok (collectors_asked purpose)
+asked_at place.Collector purpose path query = collector_asked purpose path
+asked_at place.Drain purpose path query = asked_of Drain (which_in path)
+asked_at place.Release purpose path query = asked_of Release (which_in path)
+asked_at place.Limits purpose path query = asked_of SetLimits (which_in path)
+asked_at place.Reports purpose path query = Ok Report
+asked_at place.Healthy purpose path query = Ok Healthy
+asked_at place.Live purpose path query = Ok Live
+asked_at place.Ready purpose path query = Ok Ready
+asked_at place.Metrics purpose path query = Ok Metrics
+asked_at place.Reload purpose path query = Ok Reload
+asked_at place.Quit purpose path query = Ok Quit
+
+abbrev pub asked_for : Place → Option Purpose → List ℕ → Option (List ℕ) → Result Ask RequestError
+asked_for place None path query = Err (Method place)
+asked_for place (Some purpose) path query = asked_at place purpose path query
 
 -- 404 by path, and then 405
 abbrev pub asked_by : Option Place → List ℕ → List ℕ → Option (List ℕ) → Result Ask RequestError
 asked_by None method path query = Err NoRoute
-asked_by (Some place) method path query = if bytes_eq method (method_of place) then asked_at place path query else Err (Method place)
+asked_by (Some place) method path query = asked_for place (purpose_of place method) path query
 
 abbrev pub asked : List ℕ → List ℕ → Option (List ℕ) → Result Ask RequestError
 asked method path query = asked_by (place_of path) method path query

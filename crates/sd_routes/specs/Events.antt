@@ -6,17 +6,22 @@ use Rattle.json_values.specs.Spelling.{member_in}
 use Rattle.json_values.specs.Texts.{json_of}
 use Rattle.fleet_events.specs.Reading.{report_in}
 use Rattle.fleet_events.specs.declared.event.Event.{Event}
-use Rattle.fleet_events.specs.declared.event.Event.TheVariants.{Join, Leave, Drain, SetLimits, Release}
+use Rattle.fleet_events.specs.declared.event.Event.TheVariants.{Join}
 use Rattle.reach_rules.specs.OwnLimits.{LimitList, limits_in}
 use Rattle.reach_rules.specs.Spelling.{rules_spelled}
 use Rattle.reach_rules.specs.declared.reach.TheConstants.{MOST_RULES}
 use Rattle.reach_rules.specs.declared.rule.ReachRule.{ReachRule}
 use Rattle.sd_routes.specs.Asks.{name_said}
+use Rattle.sd_routes.specs.Changes.{wanted_of}
 use Rattle.sd_routes.specs.JoinMembers.{is_join_object}
 use Rattle.sd_routes.specs.declared.ask.Ask.{Ask}
 use Rattle.sd_routes.specs.declared.ask.Ask.TheVariants as ask
+use Rattle.sd_routes.specs.declared.change.Change.TheVariants.{Leave, Drain, Release, SetLimits}
+use Rattle.sd_routes.specs.declared.change.Wanted.{Wanted}
+use Rattle.sd_routes.specs.declared.change.Wanted.TheVariants.{Event as AnEvent}
 use Rattle.sd_routes.specs.declared.request_error.RequestError.{RequestError}
 use Rattle.sd_routes.specs.declared.request_error.RequestError.TheVariants.{Shape, TooManyRules, OtherEpoch}
+use Rattle.sd_routes.specs.declared.which_collector.WhichCollector.{WhichCollector}
 
 -- what is there, or else Shape
 abbrev pub or_shape : {T : Type 0} → Option T → Result T RequestError
@@ -66,12 +71,12 @@ join_said d =
 
 -- ---- limits and reports
 
-abbrev pub limits_set : ℕ → Result LimitList RequestError → Result Event RequestError
+abbrev pub limits_set : WhichCollector → Result LimitList RequestError → Result (Option Wanted) RequestError
 limits_set collector (Err e) = Err e
-limits_set collector (Ok limits) = Ok (SetLimits collector limits)
+limits_set collector (Ok limits) = Ok (Some (wanted_of collector (SetLimits limits)))
 
 -- the limits that the collector has of its own from now on
-abbrev pub set_limits_said : ℕ → Data → Result Event RequestError
+abbrev pub set_limits_said : WhichCollector → Data → Result (Option Wanted) RequestError
 set_limits_said collector d = limits_set collector (or_shape (member_in limits_in (codes "limits") d))
 
 -- whether an epoch that is named is this one; nothing where what is named is no whole number of at most 64 bits. None needs to be named
@@ -94,25 +99,29 @@ report_said epoch d = reported (report_in d) (is_epoch epoch (get (codes "epoch"
 
 abbrev pub event_in : Ask → ℕ → Data → Result Event RequestError
 event_in ask.Join epoch d = join_said d
-event_in (ask.SetLimits collector) epoch d = set_limits_said collector d
 event_in ask.Report epoch d = report_said epoch d
 event_in _ epoch d = Err Shape
 
-abbrev pub an_event : Result Event RequestError → Result (Option Event) RequestError
+abbrev pub an_event : Result Event RequestError → Result (Option Wanted) RequestError
 an_event (Err e) = Err e
-an_event (Ok event) = Ok (Some event)
+an_event (Ok event) = Ok (Some (AnEvent event))
 
 -- the event of a body that is JSON
-abbrev pub posted : Ask → ℕ → Option Data → Result (Option Event) RequestError
+abbrev pub posted : Ask → ℕ → Option Data → Result (Option Wanted) RequestError
 posted asked epoch None = Err Shape
 posted asked epoch (Some d) = an_event (event_in asked epoch d)
 
--- the event that a request asks for in this epoch, if it asks for one
-abbrev pub event_said : Ask → ℕ → List ℕ → Result (Option Event) RequestError
-event_said (ask.Leave collector) epoch body = Ok (Some (Leave collector))
-event_said (ask.Drain collector) epoch body = Ok (Some (Drain collector))
-event_said (ask.Release collector) epoch body = Ok (Some (Release collector None))
+-- the limits of a body that is JSON
+abbrev pub limits_put : WhichCollector → Option Data → Result (Option Wanted) RequestError
+limits_put collector None = Err Shape
+limits_put collector (Some d) = set_limits_said collector d
+
+-- what a request asks for in this epoch, if it asks for an event
+abbrev pub event_said : Ask → ℕ → List ℕ → Result (Option Wanted) RequestError
+event_said (ask.Leave collector) epoch body = Ok (Some (wanted_of collector Leave))
+event_said (ask.Drain collector) epoch body = Ok (Some (wanted_of collector Drain))
+event_said (ask.Release collector) epoch body = Ok (Some (wanted_of collector Release))
 event_said ask.Join epoch body = posted ask.Join epoch (json_of body)
-event_said (ask.SetLimits collector) epoch body = posted (ask.SetLimits collector) epoch (json_of body)
+event_said (ask.SetLimits collector) epoch body = limits_put collector (json_of body)
 event_said ask.Report epoch body = posted ask.Report epoch (json_of body)
 event_said _ epoch body = Ok None

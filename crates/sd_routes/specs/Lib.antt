@@ -1,5 +1,6 @@
 pub mod Table
 pub mod Rows
+pub mod Methods
 pub mod Segments
 pub mod Decimals
 pub mod Queries
@@ -7,9 +8,12 @@ pub mod Errors
 pub mod Gives
 pub mod Asks
 pub mod JoinMembers
+pub mod Changes
 pub mod Events
 pub mod Responses
 pub mod Links
 pub mod Notices
 pub mod Pages
+pub mod CollectorPages
+pub mod FoundPages
 pub mod Acknowledging

@@ -16,7 +16,7 @@ use Rattle.fleet_events.specs.declared.refusal.Refusal.{Refusal}
 use Rattle.fleet_events.specs.declared.refusal.Refusal.TheVariants.{UnknownJob, UnknownCollector}
 use Rattle.sd_routes.specs.Errors.{status_of, name_of}
 use Rattle.sd_routes.specs.Notices.{status_noticed, text_noticed}
-use Rattle.sd_routes.specs.Table.{method_of}
+use Rattle.sd_routes.specs.Methods.{allowed_at}
 use Rattle.sd_routes.specs.declared.list_head.ListHead.{ListHead}
 use Rattle.sd_routes.specs.declared.request_error.RequestError.{RequestError}
 use Rattle.sd_routes.specs.declared.request_error.RequestError.TheVariants.{Method, Token}
@@ -76,9 +76,9 @@ with_times head fields = with_number (codes "x-scrape-round-length") head.length
 abbrev pub list_headers : ListHead → Entries FieldValue
 list_headers head = with_times head (with_collector head (with_left_out head.left_out (with_allocation head json_headers)))
 
--- where the path has another method, that method (RFC 9110, section 15.5.6); where a token is needed, how one is shown (section 11.6.1)
+-- where the path has other methods, these (RFC 9110, section 15.5.6); where a token is needed, how one is shown (section 11.6.1)
 abbrev pub refused_headers : RequestError → Entries FieldValue
-refused_headers (Method place) = (codes "content-type", plain_value (codes "application/json") ∷ []) ∷ with_no_other ((codes "allow", plain_value (method_of place) ∷ []) ∷ [])
+refused_headers (Method place) = (codes "content-type", plain_value (codes "application/json") ∷ []) ∷ with_no_other ((codes "allow", plain_value (allowed_at place) ∷ []) ∷ [])
 refused_headers Token = (codes "content-type", plain_value (codes "application/json") ∷ []) ∷ with_no_other ((codes "www-authenticate", plain_value (codes "Bearer") ∷ []) ∷ [])
 refused_headers _ = json_headers
 

@@ -6,7 +6,7 @@ use Rattle.matchit.specs.Route.{parse_route, Scan}
 use Rattle.matchit.specs.Router.{RouteOf, route_from}
 use Rattle.matchit.specs.declared.error.InsertError.{InsertError}
 use Rattle.sd_routes.specs.declared.place.Place.{Place}
-use Rattle.sd_routes.specs.declared.place.Place.TheVariants.{Status, ScrapeConfigs, Jobs, JobTargets, Uncovered, Acknowledged, Certificate, Collectors, Collector, Drain, Release, Limits, Reports, Healthy, Live, Ready, Metrics, Reload, Quit}
+use Rattle.sd_routes.specs.declared.place.Place.TheVariants.{Status, ScrapeConfigs, Jobs, JobTargets, Uncovered, Targets, Acknowledged, Certificate, Collectors, Collector, Drain, Release, Limits, Reports, Healthy, Live, Ready, Metrics, Reload, Quit}
 
 abbrev pub added : Result Scan InsertError → Place → RowsOf (RouteOf Place) → RowsOf (RouteOf Place)
 added (Ok scan) place rows = placed ((route_from scan place).pattern, route_from scan place) rows
@@ -26,11 +26,12 @@ desk_rows =
     (with_route (codes "/collectors") Collectors
     (with_route (codes "/certificate") Certificate
     (with_route (codes "/acknowledged") Acknowledged
+    (with_route (codes "/targets") Targets
     (with_route (codes "/jobs/{job}/uncovered") Uncovered
     (with_route (codes "/jobs/{job}/targets") JobTargets
     (with_route (codes "/jobs") Jobs
     (with_route (codes "/scrape_configs") ScrapeConfigs
-    (with_route (codes "/") Status []))))))))))))
+    (with_route (codes "/") Status [])))))))))))))
 
 unfoldable pub route_rows : RowsOf (RouteOf Place)
 route_rows =

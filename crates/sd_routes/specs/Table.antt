@@ -1,7 +1,7 @@
--- The table of paths: which place each names, and the method of the place.
+-- The table of paths: which place each names.
 use Rattle.std.specs.Prelude.{ℕ, ◌==◌, ◌&&◌, ◌++◌, List, [], ◌∷◌, Bool, true, false, not, codes, Option, Some, None, if◌then◌else◌}
 use Rattle.sd_routes.specs.declared.place.Place.{Place}
-use Rattle.sd_routes.specs.declared.place.Place.TheVariants.{Status, ScrapeConfigs, Jobs, JobTargets, Uncovered, Acknowledged, Certificate, Collectors, Collector, Drain, Release, Limits, Reports, Healthy, Live, Ready, Metrics, Reload, Quit}
+use Rattle.sd_routes.specs.declared.place.Place.TheVariants.{Status, ScrapeConfigs, Jobs, JobTargets, Uncovered, Targets, Acknowledged, Certificate, Collectors, Collector, Drain, Release, Limits, Reports, Healthy, Live, Ready, Metrics, Reload, Quit}
 
 -- in a route, what stands for one segment of a path. It is no byte
 abbrev pub segment : ℕ
@@ -32,29 +32,9 @@ table =
     ∷ (codes "/readyz", Ready)
     ∷ (codes "/reports", Reports)
     ∷ (codes "/scrape_configs", ScrapeConfigs)
+    ∷ (codes "/targets", Targets)
     ∷ (codes "/", Status)
     ∷ []
-
-abbrev pub method_of : Place → List ℕ
-method_of Status = codes "GET"
-method_of ScrapeConfigs = codes "GET"
-method_of Jobs = codes "GET"
-method_of JobTargets = codes "GET"
-method_of Uncovered = codes "GET"
-method_of Acknowledged = codes "GET"
-method_of Certificate = codes "GET"
-method_of Collectors = codes "POST"
-method_of Collector = codes "DELETE"
-method_of Drain = codes "POST"
-method_of Release = codes "POST"
-method_of Limits = codes "PUT"
-method_of Reports = codes "POST"
-method_of Healthy = codes "GET"
-method_of Live = codes "GET"
-method_of Ready = codes "GET"
-method_of Metrics = codes "GET"
-method_of Reload = codes "POST"
-method_of Quit = codes "POST"
 
 -- what follows the segment in front, from the next slash on
 abbrev pub past_segment : List ℕ → List ℕ

@@ -1,6 +1,6 @@
 //! What a request asks for.
 use crate::acknowledgement::Acknowledgement;
-use fleet_events::CollectorId;
+use crate::which_collector::WhichCollector;
 use lists::Text;
 use reach_rules::CollectorName;
 
@@ -25,18 +25,27 @@ pub enum Ask {
     },
     /// The live targets of a job that nobody holds.
     Uncovered(Text),
-    /// A collector tells that it follows a list.
-    Acknowledged(Acknowledgement),
+    /// The live targets that have a text in their address or in the value of a label.
+    FindTargets(Text),
+    /// A collector tells that it follows a list, or somebody only looks what that would be told.
+    Acknowledged {
+        told: Acknowledgement,
+        counts: bool,
+    },
     /// The certificate of the last published allocation.
     Certificate,
+    /// The live collectors.
+    Collectors,
+    /// One live collector.
+    Collector(WhichCollector),
     /// A collector joins; the body says which.
     Join,
-    Leave(CollectorId),
-    Drain(CollectorId),
+    Leave(WhichCollector),
+    Drain(WhichCollector),
     /// The lists that a collector was served count as let go.
-    Release(CollectorId),
+    Release(WhichCollector),
     /// A collector's own limits are replaced; the body has them.
-    SetLimits(CollectorId),
+    SetLimits(WhichCollector),
     /// A scrape is reported; the body has it.
     Report,
     /// Whether the service answers.

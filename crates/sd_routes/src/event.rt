@@ -1,46 +1,75 @@
 //! The event that a request's body spells.
-ghost use Rattle.std.specs.Prelude.{◌≡◌, codes, option_map};
+ghost use Rattle.std.specs.Prelude.{◌≡◌, codes, option_map, Ok, Some};
 ghost use Rattle.serde_json.specs.Find.{get};
 ghost use Rattle.serde_json.specs.View.{view};
 ghost use Rattle.json_values.specs.Spelling.{member_in};
 ghost use Rattle.sd_routes.specs.Events.{event_said, event_in, join_said, set_limits_said, report_said, is_epoch, few_said, rules_in, limits_or_none_said, limits_said};
+ghost use Rattle.sd_routes.specs.Changes.{wanted_of};
 ghost use Rattle.sd_routes.specs.Gives.{Gives};
 
 use crate::ask::Ask;
+use crate::change::{Change, Wanted};
 use crate::join_members::is_join_object;
 use crate::request_error::RequestError;
 use crate::routing::collector_name;
-use fleet_events::{CollectorId, Event, read_report};
+use crate::which_collector::WhichCollector;
+use fleet_events::{Event, read_report};
 use json_values::parse;
+use lists::Plain;
 use reach_rules::{OwnLimits, Reach, ReachError};
 use serde_json::Value;
 use std::alloc::Global;
 
 /// The event that a request asks for, if it asks for one: of a Join, of other limits and of a report, what the body spells; of a Leave, of a
-/// Drain and of a Release the body is not looked at. A report that names an epoch is one of that epoch. Where several refusals hold, the first of
-/// `Shape`, `BadName`, `TooManyRules` and `OtherEpoch` is given.
+/// Drain and of a Release the body is not looked at. What is to happen to a collector that is named is given with its name. A report that names an
+/// epoch is one of that epoch. Where several refusals hold, the first of `Shape`, `BadName`, `TooManyRules` and `OtherEpoch` is given.
 pub fn event_of(
     alloc: Global,
     ask: &Ask,
     body: &[u8],
     epoch: u64,
-) -> Result<Option<Event>, RequestError>
+) -> Result<Option<Wanted>, RequestError>
     ensures { Gives result (event_said ask.now epoch body.now) }
 {
     match ask {
-        Ask::Leave(collector) => Ok(Some(Event::Leave(*collector))),
-        Ask::Drain(collector) => Ok(Some(Event::Drain(*collector))),
-        Ask::Release(collector) => {
-            let collector = *collector;
-            let job = None;
-            Ok(Some(Event::Release { collector, job }))
-        }
-        Ask::Join | Ask::SetLimits(_) | Ask::Report => match parse(alloc, body)? {
-            Some(value) => Ok(Some(event_in(alloc, ask, &value, epoch)?)),
+        Ask::Leave(collector) => of_collector(collector, Change::Leave),
+        Ask::Drain(collector) => of_collector(collector, Change::Drain),
+        Ask::Release(collector) => of_collector(collector, Change::Release),
+        Ask::SetLimits(collector) => match parse(alloc, body)? {
+            Some(value) => set_limits(alloc, collector, &value),
+            None => Err(RequestError::Shape),
+        },
+        Ask::Join | Ask::Report => match parse(alloc, body)? {
+            Some(value) => Ok(Some(Wanted::Event(event_in(alloc, ask, &value, epoch)?))),
             None => Err(RequestError::Shape),
         },
         _ => Ok(None),
     }
+}
+
+/// What is to happen to a collector.
+fn of_collector(collector: &WhichCollector, change: Change) -> Result<Option<Wanted>, RequestError>
+    ensures { Gives result (Ok (Some (wanted_of collector.now change))) }
+{
+    match collector {
+        WhichCollector::Number(id) => Ok(Some(Wanted::Event(change.event(*id)))),
+        WhichCollector::Name(name) => {
+            let name = name.copy()?;
+            Ok(Some(Wanted::OfNamed { name, change }))
+        }
+    }
+}
+
+fn set_limits(
+    alloc: Global,
+    collector: &WhichCollector,
+    value: &Value,
+) -> Result<Option<Wanted>, RequestError>
+    ensures { Gives result (set_limits_said collector.now (view value.now)) }
+{
+    let limits = value.get("limits").ok_or(RequestError::Shape)?;
+    let limits = read_limits(alloc, limits)?;
+    of_collector(collector, Change::SetLimits(limits))
 }
 
 fn event_in(alloc: Global, ask: &Ask, value: &Value, epoch: u64) -> Result<Event, RequestError>
@@ -48,7 +77,6 @@ fn event_in(alloc: Global, ask: &Ask, value: &Value, epoch: u64) -> Result<Event
 {
     match ask {
         Ask::Join => read_join(alloc, value),
-        Ask::SetLimits(collector) => read_set_limits(alloc, *collector, value),
         Ask::Report => read_reported(alloc, value, epoch),
         _ => Err(RequestError::Shape),
     }
@@ -108,18 +136,6 @@ fn read_limits(alloc: Global, value: &Value) -> Result<OwnLimits, RequestError>
         Err(ReachError::Memory) => Err(RequestError::Memory),
         Err(_) => Err(RequestError::Shape),
     }
-}
-
-fn read_set_limits(
-    alloc: Global,
-    collector: CollectorId,
-    value: &Value,
-) -> Result<Event, RequestError>
-    ensures { Gives result (set_limits_said collector (view value.now)) }
-{
-    let limits = value.get("limits").ok_or(RequestError::Shape)?;
-    let limits = read_limits(alloc, limits)?;
-    Ok(Event::SetLimits { collector, limits })
 }
 
 fn read_reported(alloc: Global, value: &Value, epoch: u64) -> Result<Event, RequestError>

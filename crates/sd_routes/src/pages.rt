@@ -135,7 +135,7 @@ fn group_value(alloc: Global, numbered: &NumberedTarget) -> Result<Value, AllocE
     json!(in alloc; {"labels": labels, "targets": [address]})
 }
 
-fn labels_value(
+pub(crate) fn labels_value(
     alloc: Global,
     labels: &[(LabelName, Text)],
     number: u32,

@@ -11,7 +11,7 @@ use std::alloc::AllocError;
 pub enum RequestError {
     /// No place has the path.
     NoRoute,
-    /// The place of the path has another method.
+    /// The place of the path has not the method.
     Method(Place),
     /// The host that is asked is none of the service's names.
     Host,

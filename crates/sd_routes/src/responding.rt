@@ -211,7 +211,7 @@ fn refused_head(alloc: Global, error: RequestError) -> Result<Parts, AllocError>
     let mut head = json_head(alloc, error.status())?;
     match error {
         RequestError::Method(place) => {
-            let allowed = HeaderValue::from_static(place.method());
+            let allowed = HeaderValue::from_static(place.allowed());
             if head.headers.insert(ALLOW, allowed).is_err() {
                 return Err(AllocError);
             }

@@ -70,6 +70,7 @@ fn desk_router(alloc: Global) -> Result<Router<Place>, InsertError>
     router.insert("/jobs", Place::Jobs)?;
     router.insert("/jobs/{job}/targets", Place::JobTargets)?;
     router.insert("/jobs/{job}/uncovered", Place::Uncovered)?;
+    router.insert("/targets", Place::Targets)?;
     router.insert("/acknowledged", Place::Acknowledged)?;
     router.insert("/certificate", Place::Certificate)?;
     router.insert("/collectors", Place::Collectors)?;

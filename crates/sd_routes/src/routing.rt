@@ -1,25 +1,29 @@
 //! What a method and a target ask for.
 ghost use Rattle.http_uri.specs.Uri.{uri_path, uri_query};
-ghost use Rattle.std.specs.Prelude.{option_copied};
-ghost use Rattle.sd_routes.specs.Asks.{acknowledged_asked, asked, asked_at, scrape_configs_asked, job_targets_asked, held_asked, uncovered_asked, id_in, name_said};
+ghost use Rattle.std.specs.Prelude.{◌≡◌, option_copied};
+ghost use Rattle.std.specs.Char.{is_ascii_digit};
+ghost use Rattle.std.specs.List.{list_all};
+ghost use Rattle.sd_routes.specs.Asks.{acknowledged_asked, asked, asked_at, collector_asked, collectors_asked, scrape_configs_asked, job_targets_asked, held_asked, is_show, targets_asked, uncovered_asked, which_in, name_said};
 ghost use Rattle.sd_routes.specs.Gives.{Gives};
 
 use crate::acknowledgement::Acknowledgement;
 use crate::ask::Ask;
 use crate::decimal::{MOST_OF_32_BITS, MOST_OF_64_BITS, decimal_of_32_bits};
 use crate::place::Place;
+use crate::purpose::Purpose;
 use crate::query::{flag_of, number_of, value_of};
 use crate::request_error::RequestError;
 use crate::routes::Routes;
 use crate::segment::{decoded, second_segment};
-use fleet_events::CollectorId;
+use crate::which_collector::WhichCollector;
 use http::{Method, Uri};
 use lists::Text;
 use reach_rules::{CollectorName, NameError};
 use std::alloc::Global;
 
-/// What a request asks for. Where several refusals hold, the first of these is given: no such path, another method, a segment of
-/// another shape or a flag of the query that is none, a collector's name that is none.
+/// What a request asks for. HEAD asks for what GET does, but nothing is taken or noted (RFC 9110, section 9.2.1). Where several refusals hold, the
+/// first of these is given: no such path, another method, a segment of another shape or a flag of the query that is none, a collector's name
+/// that is none.
 pub fn route(
     routes: &Routes,
     alloc: Global,
@@ -30,28 +34,35 @@ pub fn route(
 {
     let path = target.path();
     let place = routes.place(path).ok_or(RequestError::NoRoute)?;
-    if method.as_str() != place.method() {
-        return Err(RequestError::Method(place));
+    match place.purpose(method.as_str()) {
+        Some(purpose) => ask_at(alloc, place, purpose, path, target.query()),
+        None => Err(RequestError::Method(place)),
     }
-    ask_at(alloc, place, path, target.query())
 }
 
-fn ask_at(alloc: Global, place: Place, path: &str, query: Option<&str>) -> Result<Ask, RequestError>
-    ensures { Gives result (asked_at place path.now (option_copied query.entry)) }
+fn ask_at(
+    alloc: Global,
+    place: Place,
+    purpose: Purpose,
+    path: &str,
+    query: Option<&str>,
+) -> Result<Ask, RequestError>
+    ensures { Gives result (asked_at place purpose path.now (option_copied query.entry)) }
 {
     match place {
         Place::Status => Ok(Ask::Status),
         Place::ScrapeConfigs => scrape_configs(alloc, query),
         Place::Jobs => Ok(Ask::Jobs),
-        Place::JobTargets => job_targets(alloc, path, query),
+        Place::JobTargets => job_targets(alloc, purpose, path, query),
         Place::Uncovered => uncovered(alloc, path),
-        Place::Acknowledged => acknowledged(alloc, query),
+        Place::Targets => targets(alloc, query),
+        Place::Acknowledged => acknowledged(alloc, purpose, query),
         Place::Certificate => Ok(Ask::Certificate),
-        Place::Collectors => Ok(Ask::Join),
-        Place::Collector => Ok(Ask::Leave(collector_id(path)?)),
-        Place::Drain => Ok(Ask::Drain(collector_id(path)?)),
-        Place::Release => Ok(Ask::Release(collector_id(path)?)),
-        Place::Limits => Ok(Ask::SetLimits(collector_id(path)?)),
+        Place::Collectors => Ok(collectors(purpose)),
+        Place::Collector => collector(alloc, purpose, path),
+        Place::Drain => Ok(Ask::Drain(which_collector(alloc, path)?)),
+        Place::Release => Ok(Ask::Release(which_collector(alloc, path)?)),
+        Place::Limits => Ok(Ask::SetLimits(which_collector(alloc, path)?)),
         Place::Reports => Ok(Ask::Report),
         Place::Healthy => Ok(Ask::Healthy),
         Place::Live => Ok(Ask::Live),
@@ -62,6 +73,35 @@ fn ask_at(alloc: Global, place: Place, path: &str, query: Option<&str>) -> Resul
     }
 }
 
+/// Whether what is asked for is to be shown and not looked at alone.
+fn is_show(purpose: Purpose) -> bool
+    ensures { result ≡ is_show purpose }
+{
+    match purpose {
+        Purpose::Show => true,
+        Purpose::ShowHead | Purpose::Change => false,
+    }
+}
+
+fn collectors(purpose: Purpose) -> Ask
+    ensures { result ≡ collectors_asked purpose }
+{
+    match purpose {
+        Purpose::Change => Ask::Join,
+        Purpose::Show | Purpose::ShowHead => Ask::Collectors,
+    }
+}
+
+fn collector(alloc: Global, purpose: Purpose, path: &str) -> Result<Ask, RequestError>
+    ensures { Gives result (collector_asked purpose path.now) }
+{
+    let collector = which_collector(alloc, path)?;
+    match purpose {
+        Purpose::Change => Ok(Ask::Leave(collector)),
+        Purpose::Show | Purpose::ShowHead => Ok(Ask::Collector(collector)),
+    }
+}
+
 fn scrape_configs(alloc: Global, query: Option<&str>) -> Result<Ask, RequestError>
     ensures { Gives result (scrape_configs_asked (option_copied query.entry)) }
 {
@@ -69,13 +109,18 @@ fn scrape_configs(alloc: Global, query: Option<&str>) -> Result<Ask, RequestErro
     Ok(Ask::ScrapeConfigs { rules })
 }
 
-fn job_targets(alloc: Global, path: &str, query: Option<&str>) -> Result<Ask, RequestError>
-    ensures { Gives result (job_targets_asked path.now (option_copied query.entry)) }
+fn job_targets(
+    alloc: Global,
+    purpose: Purpose,
+    path: &str,
+    query: Option<&str>,
+) -> Result<Ask, RequestError>
+    ensures { Gives result (job_targets_asked purpose path.now (option_copied query.entry)) }
 {
     let job = decoded(alloc, second_segment(path))?.ok_or(RequestError::Shape)?;
     match value_of(alloc, query, "collector_id")? {
         None => Ok(Ask::JobTargets(job)),
-        Some(name) => held(alloc, job, &name, query),
+        Some(name) => held(alloc, purpose, job, &name, query),
     }
 }
 
@@ -86,8 +131,18 @@ fn uncovered(alloc: Global, path: &str) -> Result<Ask, RequestError>
     Ok(Ask::Uncovered(job))
 }
 
-fn acknowledged(alloc: Global, query: Option<&str>) -> Result<Ask, RequestError>
-    ensures { Gives result (acknowledged_asked (option_copied query.entry)) }
+fn targets(alloc: Global, query: Option<&str>) -> Result<Ask, RequestError>
+    ensures { Gives result (targets_asked (option_copied query.entry)) }
+{
+    let text = value_of(alloc, query, "search")?.ok_or(RequestError::Shape)?;
+    if text.as_str().is_empty() {
+        return Err(RequestError::Shape);
+    }
+    Ok(Ask::FindTargets(text))
+}
+
+fn acknowledged(alloc: Global, purpose: Purpose, query: Option<&str>) -> Result<Ask, RequestError>
+    ensures { Gives result (acknowledged_asked purpose (option_copied query.entry)) }
 {
     let collector = number_of(alloc, query, "collector", MOST_OF_32_BITS)?;
     let collector = collector.ok_or(RequestError::Shape)?;
@@ -96,19 +151,28 @@ fn acknowledged(alloc: Global, query: Option<&str>) -> Result<Ask, RequestError>
     let epoch = number_of(alloc, query, "epoch", MOST_OF_64_BITS)?;
     let epoch = epoch.ok_or(RequestError::Shape)?;
     let job = value_of(alloc, query, "job")?.ok_or(RequestError::Shape)?;
-    Ok(Ask::Acknowledged(Acknowledgement {
+    let told = Acknowledgement {
         collector: collector as u32,
         job,
         list: list as u32,
         epoch,
-    }))
+    };
+    let counts = is_show(purpose);
+    Ok(Ask::Acknowledged { told, counts })
 }
 
-fn held(alloc: Global, job: Text, name: &Text, query: Option<&str>) -> Result<Ask, RequestError>
-    ensures { Gives result (held_asked job name.now (option_copied query.entry)) }
+fn held(
+    alloc: Global,
+    purpose: Purpose,
+    job: Text,
+    name: &Text,
+    query: Option<&str>,
+) -> Result<Ask, RequestError>
+    ensures { Gives result (held_asked purpose job name.now (option_copied query.entry)) }
 {
     let takes = flag_of(alloc, query, "take", true)?;
     let name = collector_name(alloc, name.as_str())?;
+    let takes = is_show(purpose) && takes;
     Ok(Ask::CollectorTargets { job, name, takes })
 }
 
@@ -122,9 +186,22 @@ pub(crate) fn collector_name(alloc: Global, text: &str) -> Result<CollectorName,
     }
 }
 
-fn collector_id(path: &str) -> Result<CollectorId, RequestError>
-    ensures { Gives result (id_in path.now) }
+/// The collector that a path means.
+fn which_collector(alloc: Global, path: &str) -> Result<WhichCollector, RequestError>
+    ensures { Gives result (which_in path.now) }
 {
-    let digits = second_segment(path).as_bytes();
-    decimal_of_32_bits(digits).ok_or(RequestError::Shape)
+    let segment = second_segment(path);
+    if has_only_digits(segment) {
+        let id = decimal_of_32_bits(segment.as_bytes()).ok_or(RequestError::Shape)?;
+        return Ok(WhichCollector::Number(id));
+    }
+    let text = decoded(alloc, segment)?.ok_or(RequestError::Shape)?;
+    let name = collector_name(alloc, text.as_str())?;
+    Ok(WhichCollector::Name(name))
+}
+
+fn has_only_digits(segment: &str) -> bool
+    ensures { result ≡ list_all is_ascii_digit segment.now }
+{
+    segment.as_bytes().iter().all(|byte| byte.is_ascii_digit())
 }

@@ -1,6 +1,6 @@
 -- What a request is told.
-use Rattle.std.specs.Prelude.{◌≡◌, ◌⊎◌, ℕ, List, [], Option, Some, None, Result, Ok, Err, IsSome, codes, length, if◌then◌else◌}
-use Rattle.fleet.specs.Fleet.{id_named}
+use Rattle.std.specs.Prelude.{◌≡◌, ◌⊎◌, ◌≤◌, ℕ, List, [], Option, Some, None, Result, Ok, Err, IsSome, codes, length, if◌then◌else◌}
+use Rattle.fleet.specs.Fleet.{id_named, is_joined}
 use Rattle.fleet_events.specs.declared.event.Event.{Event}
 use Rattle.fleet_events.specs.declared.event.Event.TheVariants.{Take, Serve}
 use Rattle.fleet_events.specs.declared.answer.Answer.{Answer}
@@ -14,8 +14,20 @@ use Rattle.alloc_desk.specs.Reached.{Reached, IsReceipt, IsFull}
 use Rattle.alloc_desk.specs.declared.receipt.Receipt.{Receipt}
 use Rattle.alloc_desk.specs.declared.view.NumberedTarget.{NumberedTarget}
 use Rattle.serde_json.specs.Written.{compact_text}
+use Rattle.json_values.specs.Spelling.{list_data}
+use Rattle.sd_routes.specs.Changes.{change_event}
+use Rattle.sd_routes.specs.CollectorPages.{collector_data}
 use Rattle.sd_routes.specs.Events.{event_said}
+use Rattle.sd_routes.specs.FoundPages.{found_data}
 use Rattle.sd_routes.specs.Pages.{uncovered_data}
+use Rattle.sd_routes.specs.declared.change.Change.{Change}
+use Rattle.sd_routes.specs.declared.change.Change.TheVariants.{Release}
+use Rattle.sd_routes.specs.declared.change.Wanted.{Wanted}
+use Rattle.sd_routes.specs.declared.change.Wanted.TheVariants.{Event as AnEvent, OfNamed}
+use Rattle.sd_routes.specs.declared.collector_row.CollectorRow.{CollectorRow}
+use Rattle.sd_routes.specs.declared.found_targets.FoundTarget.{FoundTarget}
+use Rattle.sd_routes.specs.declared.which_collector.WhichCollector.{WhichCollector}
+use Rattle.sd_routes.specs.declared.which_collector.WhichCollector.TheVariants.{Number, Name}
 use Rattle.sd_routes.specs.declared.ask.Ask.{Ask}
 use Rattle.sd_routes.specs.declared.ask.Ask.TheVariants as ask
 use Rattle.sd_routes.specs.declared.list_head.ListHead.{ListHead}
@@ -28,6 +40,7 @@ use Rattle.service_state.specs.Jobs.{place_of}
 use Rattle.sd_server.specs.Keeping.{FindsKept}
 use Rattle.sd_server.specs.Looks.{HeadIs, IsLook}
 use Rattle.sd_server.specs.declared.look.Look.{Look}
+use Rattle.sd_server.specs.declared.found.TheConstants.{MOST_FOUND}
 use Rattle.sd_server.specs.Texts.{certificate_text, job_text, list_text}
 use Rattle.service_state.specs.declared.config_pages.ConfigPages.{ConfigPages}
 
@@ -56,6 +69,17 @@ abbrev pub SaysEvent : State → Event → Said → Type 0
 SaysEvent opening event (Answered answer) = (receipt : Receipt) × IsEntered opening event receipt × (answer ≡ receipt.answer)
 SaysEvent opening event (Refused error) = SaysNot opening error
 SaysEvent opening event _ = ⊥
+
+-- of a collector that left, the lists can be let go, where its number is known
+abbrev pub SaysOfLeft : State → Change → Said → Type 0
+SaysOfLeft opening Release said = (said ≡ Answered (Not UnknownCollector)) ⊎ ((id : ℕ) × SaysEvent opening (change_event Release id) said)
+SaysOfLeft opening _ said = said ≡ Answered (Not UnknownCollector)
+
+-- what happens to the collector of a name is an event of the live one that has it
+unfoldable pub SaysChange : State → List ℕ → Change → Said → Type 0
+SaysChange opening name change said =
+    (OfSome opening (λ h. id_named h.state.fleet.collectors name ≡ None) × SaysOfLeft opening change said)
+    ⊎ ((id : ℕ) × OfSome opening (λ h. id_named h.state.fleet.collectors name ≡ Some id) × SaysEvent opening (change_event change id) said)
 
 -- the answer to an event of a collector has these targets, and the head of a list tells the rest of it
 abbrev pub IsTold : ℕ → Answer → ListHead → List ℕ → Type 0
@@ -198,6 +222,45 @@ abbrev pub SaysUncovered : Option ℕ → Said → Type 0
 SaysUncovered None said = said ≡ Answered (Not UnknownJob)
 SaysUncovered (Some place) said = SaysUncoveredText said
 
+-- ---- collectors, and targets that are searched for
+
+-- the page of some collectors
+abbrev pub IsCollectorsText : List ℕ → Type 0
+IsCollectorsText text = (rows : List CollectorRow) × (text ≡ compact_text (list_data collector_data rows))
+
+abbrev pub SaysCollectors : Said → Type 0
+SaysCollectors (Page page) = IsCollectorsText page
+SaysCollectors (Refused error) = error ≡ Memory
+SaysCollectors _ = ⊥
+
+-- the number of the live collector that is meant, if there is one
+abbrev pub id_meant : State → WhichCollector → Option ℕ
+id_meant m (Number id) = if is_joined m.fleet id then Some id else None
+id_meant m (Name name) = id_named m.fleet.collectors name
+
+-- the page of the collector that is meant
+abbrev pub IsCollectorText : State → WhichCollector → List ℕ → Type 0
+IsCollectorText opening which text =
+    (row : CollectorRow) × OfSome opening (λ h. id_meant h.state which ≡ Some row.id) × (text ≡ compact_text (collector_data row))
+
+abbrev pub SaysCollectorPage : State → WhichCollector → Said → Type 0
+SaysCollectorPage opening which (Page page) = IsCollectorText opening which page
+SaysCollectorPage opening which (Answered answer) = answer ≡ Not UnknownCollector
+SaysCollectorPage opening which (Refused error) = error ≡ Memory
+SaysCollectorPage opening which _ = ⊥
+
+-- the page of at most 100 targets
+abbrev pub IsFoundText : List ℕ → Type 0
+IsFoundText text =
+    (all : ℕ) × ((found : List FoundTarget) × (length found ≤ MOST_FOUND) × (text ≡ compact_text (found_data all found)))
+
+abbrev pub SaysFound : Said → Type 0
+SaysFound (Page page) = IsFoundText page
+SaysFound (Refused error) = error ≡ Memory
+SaysFound _ = ⊥
+
+-- ---- all of them
+
 -- what is told without an event of the body's
 abbrev pub SaysPage : State → ConfigPages → Ask → Said → Type 0
 SaysPage opening pages (ask.ScrapeConfigs rules) said = SaysCopy (if rules then pages.as_read else pages.scrape_configs) said
@@ -213,7 +276,10 @@ SaysPage opening pages ask.Status said = SaysDocument said
 SaysPage opening pages (ask.Uncovered job) said = SaysUncovered (place_of job pages.names) said
 SaysPage opening pages (ask.JobTargets job) said = SaysJob opening job (place_of job pages.names) said
 SaysPage opening pages (ask.CollectorTargets job name takes) said = SaysCollector opening pages.acknowledge job name (place_of job pages.names) said
-SaysPage opening pages (ask.Acknowledged told) said = SaysAcknowledged pages.acknowledge said
+SaysPage opening pages ask.Collectors said = SaysCollectors said
+SaysPage opening pages (ask.Collector which) said = SaysCollectorPage opening which said
+SaysPage opening pages (ask.FindTargets text) said = SaysFound said
+SaysPage opening pages (ask.Acknowledged told counts) said = SaysAcknowledged pages.acknowledge said
 SaysPage opening pages _ said = Unit {0}
 
 -- what is asked waits for nothing
@@ -231,8 +297,9 @@ IsMisshapen _ = ⊥
 abbrev pub SaysRefused : RequestError → Said → Type 0
 SaysRefused error said = (said ≡ Refused error) ⊎ ((error ≡ Shape) × IsMisshapen said)
 
-abbrev pub SaysBy : State → ConfigPages → Ask → Result (Option Event) RequestError → Said → Type 0
-SaysBy opening pages asked (Ok (Some event)) said = SaysEvent opening event said
+abbrev pub SaysBy : State → ConfigPages → Ask → Result (Option Wanted) RequestError → Said → Type 0
+SaysBy opening pages asked (Ok (Some (AnEvent event))) said = SaysEvent opening event said
+SaysBy opening pages asked (Ok (Some (OfNamed name change))) said = SaysChange opening name change said
 SaysBy opening pages asked (Ok None) said = SaysPage opening pages asked said
 SaysBy opening pages asked (Err error) said = SaysRefused error said
 

@@ -99,14 +99,16 @@ impl<R: Wait + Clock + Copy, L: Ledger, B: Ledger, N: DeskName> Handler<R, L, B,
         self.once_kept(kept.entries, said)
     }
 
-    /// A collector tells that it follows a list: it scrapes that it does, and is given no figures.
-    pub(crate) fn acknowledged(&self, told: &Acknowledgement) -> Said
+    /// A collector tells that it follows a list: it scrapes that it does, and is given no figures. It is noted where that is to count.
+    pub(crate) fn acknowledged(&self, told: &Acknowledgement, counts: bool) -> Said
         ensures { SaysAcknowledged (arc_value self.now.pages).acknowledge result }
     {
         if self.pages.acknowledge.is_none() {
             return Said::Refused(RequestError::NoRoute);
         }
-        self.note_followed(told);
+        if counts {
+            self.note_followed(told);
+        }
         Said::Metrics(Text::from_string(String::new(self.alloc)))
     }
 

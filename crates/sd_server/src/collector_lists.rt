@@ -63,7 +63,8 @@ impl<R: Wait + Clock + Copy, L: Ledger, B: Ledger, N: DeskName> Handler<R, L, B,
         }
     }
 
-    fn named(&self, name: &str) -> Option<CollectorId>
+    /// The number of the live collector of a name.
+    pub(crate) fn named(&self, name: &str) -> Option<CollectorId>
         ensures { OfSome N.opening (λ h. result ≡ id_named h.state.fleet.collectors name.now) }
     {
         let mut pass = self.pass.lock(&self.rt);

@@ -2,10 +2,14 @@
 ghost use Rattle.std.specs.Prelude.{◌≡◌, Some, IfOk, IfErr};
 ghost use Rattle.std.specs.Arc.{arc_value};
 ghost use Rattle.alloc_desk.specs.Views.{shares_of};
+ghost use Rattle.fleet_events.specs.declared.answer.Answer.TheVariants.{Not};
+ghost use Rattle.fleet_events.specs.declared.refusal.Refusal.TheVariants.{UnknownCollector};
+ghost use Rattle.sd_routes.specs.declared.change.Change.TheVariants.{Release};
+ghost use Rattle.sd_routes.specs.declared.responding.Said.TheVariants.{Answer as Answered};
 ghost use Rattle.service_state.specs.Jobs.{place_of};
 ghost use Rattle.sd_server.specs.Texts.{certificate_text, job_text};
 ghost use Rattle.sd_server.specs.Entries.{Leads, OnceKept};
-ghost use Rattle.sd_server.specs.Says.{IsAtOnce, IsEntered, IsUncoveredText, OfSome, Says, SaysCopy, SaysDocument, SaysEvent, SaysIn, SaysJob, SaysLive, SaysMetrics, SaysNot, SaysPage, SaysQuit, SaysReady, SaysRefused, SaysReload, SaysText, SaysUncovered};
+ghost use Rattle.sd_server.specs.Says.{IsAtOnce, IsEntered, IsUncoveredText, OfSome, Says, SaysCopy, SaysDocument, SaysEvent, SaysChange, SaysIn, SaysJob, SaysLive, SaysMetrics, SaysNot, SaysOfLeft, SaysPage, SaysQuit, SaysReady, SaysRefused, SaysReload, SaysText, SaysUncovered};
 
 use crate::certificate_page::certificate_page;
 use crate::counter::Counter;
@@ -19,18 +23,21 @@ use event_loops::Gate;
 use fleet_events::CollectorId;
 use lists::{List, Plain, Text};
 use price_certificate::{Instance, Plan};
+use reach_rules::CollectorName;
 use sd_routes::{
-    Ask, Notice, RequestError, Said, event_of, job_page, misshapen_member, uncovered_page,
+    Ask, Change, Notice, RequestError, Said, Wanted, event_of, job_page, misshapen_member,
+    uncovered_page,
 };
+use service_pages::{Shown, status_page};
 use service_state::{
-    Asked, ChangeNote, ConfigPages, EventKind, Figures, Kept, LONGEST_WAIT_MILLIS, Route,
-    ServiceState, figures_of, metrics_page, status_page,
+    Asked, ChangeNote, ConfigPages, EventKind, Figures, Kept, LONGEST_WAIT_MILLIS, Notes, Route,
+    ServiceState, figures_of, metrics_page,
 };
 use std::alloc::{AllocError, Global};
 use std::net::SocketAddr;
 use std::sync::ledger::Ledger;
 use std::sync::{Arc, Mutex, Wait};
-use std::time::{Clock, Duration};
+use std::time::{Clock, Duration, Instant};
 use tokio::sync::oneshot::Receiver;
 use tokio::time::{Handle, Timeout};
 
@@ -109,13 +116,19 @@ impl<R: Wait + Clock + Copy, L: Ledger, B: Ledger, N: DeskName> Handler<R, L, B,
         }
     }
 
-    /// What counts a request of a route, once it is told something.
-    pub(crate) fn counter(&self, route: Route) -> Option<Counter<R>> {
+    /// When it is, where a clock tells.
+    pub(crate) fn now(&self) -> Option<Instant> {
+        Instant::now(&self.rt).ok()
+    }
+
+    /// What counts a request of a route that began then, once it is told something.
+    pub(crate) fn counter(&self, route: Route, begun: Option<Instant>) -> Option<Counter<R>> {
         let state = Arc::try_clone(&self.state).ok()?;
         Some(Counter {
             rt: self.rt,
             state,
             route,
+            begun,
         })
     }
 
@@ -131,7 +144,8 @@ impl<R: Wait + Clock + Copy, L: Ledger, B: Ledger, N: DeskName> Handler<R, L, B,
         ensures { Leads (SaysIn N.opening (arc_value self.now.pages) ask.now self.now.epoch body.now) result }
     {
         match event_of(self.alloc, ask, body, self.epoch) {
-            Ok(Some(event)) => self.entered(event),
+            Ok(Some(Wanted::Event(event))) => self.entered(event),
+            Ok(Some(Wanted::OfNamed { name, change })) => self.changed(&name, change),
             Ok(None) => self.shown(ask),
             Err(error) => Entry::Now(self.refused(ask, body, error)),
         }
@@ -148,6 +162,43 @@ impl<R: Wait + Clock + Copy, L: Ledger, B: Ledger, N: DeskName> Handler<R, L, B,
             },
             _ => Said::Refused(error),
         }
+    }
+
+    /// It happens to the collector that has the name. Its number is never another's, so where it leaves before, it happens to none.
+    #[tactic(auto, unfolding(crate::specs::Says::SaysChange))]
+    fn changed(&self, name: &CollectorName, change: Change) -> Entry
+        ensures { Leads (SaysChange N.opening name.now change) result }
+    {
+        match self.named(name.as_str()) {
+            Some(id) => self.entered(change.event(id)),
+            None => self.changed_of_left(name.as_str(), change),
+        }
+    }
+
+    /// Of a collector that left, the lists can be let go.
+    fn changed_of_left(&self, name: &str, change: Change) -> Entry
+        ensures { Leads (SaysOfLeft N.opening change) result }
+    {
+        match change {
+            Change::Release => self.released_of_left(name),
+            Change::Leave | Change::Drain | Change::SetLimits(_) => unknown_collector(),
+        }
+    }
+
+    fn released_of_left(&self, name: &str) -> Entry
+        ensures { Leads (SaysOfLeft N.opening Release) result }
+    {
+        match self.left_number(name) {
+            Some(id) => self.entered(Change::Release.event(id)),
+            None => unknown_collector(),
+        }
+    }
+
+    /// The last number of a collector that had the name, where that is known.
+    fn left_number(&self, name: &str) -> Option<CollectorId> {
+        let names = self.state.names(&self.rt, self.alloc).ok()?;
+        let known = names.iter().find(|known| known.0.as_str() == name)?;
+        Some(known.1)
     }
 
     fn entered(&self, event: Event) -> Entry
@@ -226,8 +277,11 @@ impl<R: Wait + Clock + Copy, L: Ledger, B: Ledger, N: DeskName> Handler<R, L, B,
             Ask::Quit => self.quit(),
             Ask::Status => self.status(),
             Ask::Uncovered(job) => self.uncovered(job.as_str()),
+            Ask::FindTargets(text) => self.found(text.as_str()),
             Ask::JobTargets(job) => self.job(job.as_str()),
-            Ask::Acknowledged(told) => self.acknowledged(told),
+            Ask::Acknowledged { told, counts } => self.acknowledged(told, *counts),
+            Ask::Collectors => self.collectors(),
+            Ask::Collector(which) => self.one_collector(which),
             Ask::Reload
             | Ask::CollectorTargets { .. }
             | Ask::Join
@@ -291,9 +345,7 @@ impl<R: Wait + Clock + Copy, L: Ledger, B: Ledger, N: DeskName> Handler<R, L, B,
     }
 
     fn metrics_text(&self) -> Result<Text, AllocError> {
-        if let Some(gate) = &self.gate {
-            self.state.set_connections(gate.taken(), gate.most());
-        }
+        self.count_connections();
         let figures = self.figures()?;
         let notes = self.state.notes(&self.rt, self.alloc)?;
         metrics_page(self.alloc, &figures, &notes, &self.state)
@@ -309,9 +361,30 @@ impl<R: Wait + Clock + Copy, L: Ledger, B: Ledger, N: DeskName> Handler<R, L, B,
     }
 
     fn status_text(&self) -> Result<Text, AllocError> {
+        self.count_connections();
         let figures = self.figures()?;
         let notes = self.state.notes(&self.rt, self.alloc)?;
-        status_page(self.alloc, &figures, &notes, &self.state)
+        self.status_page_of(&figures, &notes)
+    }
+
+    fn status_page_of(&self, figures: &Figures, notes: &Notes) -> Result<Text, AllocError> {
+        let standing = self.state.standing(&self.rt, self.kept.is_some());
+        let shown = Shown {
+            figures,
+            sources: notes.sources.as_slice(),
+            allocations: notes.allocations.as_slice(),
+            loads: notes.loads.as_slice(),
+            asked: notes.asked.as_slice(),
+            standing: &standing,
+        };
+        status_page(self.alloc, &shown)
+    }
+
+    /// Notes how many connections there are.
+    fn count_connections(&self) {
+        if let Some(gate) = &self.gate {
+            self.state.set_connections(gate.taken(), gate.most());
+        }
     }
 
     fn figures(&self) -> Result<Figures, AllocError> {
@@ -476,6 +549,12 @@ impl<R: Wait + Clock + Copy, L: Ledger, B: Ledger, N: DeskName> Handler<R, L, B,
             Err(EnterError::Memory) => Err(RequestError::Memory),
         }
     }
+}
+
+fn unknown_collector() -> Entry
+    ensures { Leads (λ said. said ≡ Answered (Not UnknownCollector)) result }
+{
+    Entry::Now(Said::Answer(Answer::Not(Refusal::UnknownCollector)))
 }
 
 fn copied(text: &Text) -> Said

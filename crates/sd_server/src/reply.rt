@@ -87,7 +87,7 @@ impl<R: Wait + Clock + Copy, L: Ledger, B: Ledger, N: DeskName, I: Drop> Reply<R
         ensures says { (said : Said) → MaySay result.stage said → SaysRead N.opening (arc_value handler.pages) ask said }
     {
         let alloc = handler.alloc;
-        let counter = handler.counter(Route::of(Some(&ask)));
+        let counter = handler.counter(Route::of(Some(&ask)), handler.now());
         let body = Limited::new(body, LONGEST_BODY as usize).collect(alloc);
         Reply {
             alloc,

@@ -118,10 +118,11 @@ impl<R: Wait + Clock + Copy + Drop, L: Ledger, B: Ledger, N: DeskName, I: Drop> 
         (asked (request.head_of req).method (uri_path (request.head_of req).uri) (uri_query (request.head_of req).uri))) future };
 
     fn call(&self, req: Request<Incoming<I>>) -> Reply<R, L, B, N, I> {
+        let begun = self.handler.now();
         let (head, body) = req.into_parts();
         match self.begin(&head) {
             Begun::Told(entry, route) => {
-                let counter = self.handler.counter(route);
+                let counter = self.handler.counter(route, begun);
                 let fields = &head.headers;
                 let alloc = self.handler.alloc;
                 Reply::of(alloc, counter, entry, has_body(fields), wants_yaml(fields))

@@ -7,7 +7,7 @@ use crate::listening::{listen_address, listener_at};
 use crate::not_followed::{told_valid, warn_of};
 use crate::running::serve_journal;
 use crate::standard_streams::hold_streams;
-use command_words::ServeOptions;
+use command_words::{ServeOptions, VERSION};
 use journal_files::{Fault, is_same_file};
 use log::error;
 use log_queue::LogQueue;
@@ -138,7 +138,7 @@ fn service_of(
 ) -> Result<Service, Fault> {
     let lost_lines = Arc::try_clone(lost_lines)?;
     match service_in(alloc, path, document) {
-        Ok(service) => Ok(service.with_log(lost_lines)),
+        Ok(service) => Ok(service.with_log(lost_lines).with_version(VERSION)),
         Err(fault) => Err(fault),
     }
 }

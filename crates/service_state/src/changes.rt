@@ -1,5 +1,5 @@
 //! What was asked of the fleet over HTTP, until it is logged.
-use crate::counts::{EventKind, is_done};
+use crate::kinds::{EventKind, is_done};
 use lists::Text;
 use std::alloc::Global;
 use std::mem;

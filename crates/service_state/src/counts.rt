@@ -1,292 +1,152 @@
-//! What a service counts: requests by route and status, events by kind and answer.
-use fleet_events::{Answer, Event, Refusal};
-use sd_routes::Ask;
+//! What a service counts: requests by route and status, and how long they took, events by kind and answer.
+use crate::kinds::{DONE_COUNT, DoneKind, EventKind, KIND_COUNT, REFUSAL_COUNT, RefusalKind};
+use crate::routes::{ROUTE_COUNT, Route};
+use exposition::Durations;
+use fleet_events::Answer;
 
-/// How many routes there are, what no route has among them.
-const ROUTE_COUNT: usize = 21;
 /// How many status codes are told apart.
 const STATUS_COUNT: usize = 15;
-/// How many kinds of events there are.
-const KIND_COUNT: usize = 12;
-/// How many names answers have.
-const ANSWER_COUNT: usize = 32;
-
-/// The routes as they are told, and what no route has.
-pub(crate) const ROUTES: [&str; ROUTE_COUNT] = [
-    "/",
-    "/scrape_configs",
-    "/jobs",
-    "/jobs/{job}/targets",
-    "/jobs/{job}/targets?collector_id",
-    "/jobs/{job}/uncovered",
-    "/acknowledged",
-    "/certificate",
-    "POST /collectors",
-    "DELETE /collectors/{id}",
-    "POST /collectors/{id}/drain",
-    "POST /collectors/{id}/release",
-    "PUT /collectors/{id}/limits",
-    "POST /reports",
-    "/-/healthy",
-    "/livez",
-    "/-/ready",
-    "/metrics",
-    "POST /-/reload",
-    "POST /-/quit",
-    "none",
-];
 
 /// The status codes of responses, and 0 for any other.
 pub(crate) const STATUSES: [u16; STATUS_COUNT] = [
     200, 400, 401, 403, 404, 405, 409, 413, 415, 417, 500, 501, 503, 507, 0,
 ];
 
-/// The kinds of events by the names of their JSON.
-pub(crate) const KINDS: [&str; KIND_COUNT] = [
-    "discover", "join", "leave", "drain", "limits", "install", "spread", "round", "take", "serve",
-    "release", "report",
-];
-
-/// The names of answers: first those of events that were done, and then those of refusals.
-pub(crate) const ANSWERS: [&str; ANSWER_COUNT] = [
-    "Discovered",
-    "Joined",
-    "Left",
-    "Draining",
-    "LimitsSet",
-    "Published",
-    "RoundOpen",
-    "Taken",
-    "Served",
-    "Released",
-    "Booked",
-    "UnknownJob",
-    "UnknownSource",
-    "TooManyLive",
-    "TooManyKnown",
-    "AlreadyJoined",
-    "TooManyCollectors",
-    "IdsSpent",
-    "UnknownCollector",
-    "AlreadyDraining",
-    "Refused",
-    "RefusedSpread",
-    "Unchanged",
-    "NumbersSpent",
-    "RoundsSpent",
-    "NotTaken",
-    "UnknownTarget",
-    "NotHolder",
-    "StillServed",
-    "RoundClosed",
-    "RoundNotOpen",
-    "AlreadyBooked",
-];
-
-/// How many of the answers are of events that were done.
-const DONE: usize = 11;
-
-/// A route as requests are counted, or that there is none.
-#[derive(Clone, Copy, Debug, PartialEq, Eq)]
-pub struct Route {
-    /// Its place among the routes.
-    place: usize,
-}
-
-impl Route {
-    /// The route of what is asked for. Without it, that of what has no route.
-    pub fn of(ask: Option<&Ask>) -> Route {
-        let place = match ask {
-            Some(ask) => place_of(ask),
-            None => ROUTES.len() - 1,
-        };
-        Route { place }
-    }
-}
-
-/// What an event is.
+/// What is counted of the requests of a route.
 #[derive(Clone, Copy, Debug)]
-pub enum EventKind {
-    Discover,
-    Join,
-    Leave,
-    Drain,
-    SetLimits,
-    Install,
-    Spread,
-    NextRound,
-    Take,
-    Serve,
-    Release,
-    Report,
+pub(crate) struct RequestCounts {
+    /// At the places of their statuses.
+    statuses: [u64; STATUS_COUNT],
+    durations: Durations,
 }
 
-impl EventKind {
-    pub fn of(event: &Event) -> EventKind {
-        match event {
-            Event::Discover { .. } => EventKind::Discover,
-            Event::Join { .. } => EventKind::Join,
-            Event::Leave(_) => EventKind::Leave,
-            Event::Drain(_) => EventKind::Drain,
-            Event::SetLimits { .. } => EventKind::SetLimits,
-            Event::Install(_) => EventKind::Install,
-            Event::Spread(_) => EventKind::Spread,
-            Event::NextRound => EventKind::NextRound,
-            Event::Take(_) => EventKind::Take,
-            Event::Serve { .. } => EventKind::Serve,
-            Event::Release { .. } => EventKind::Release,
-            Event::Report(_) => EventKind::Report,
-        }
-    }
-
-    /// The name of the kind's JSON.
-    pub fn name(self) -> &'static str {
-        match KINDS.get(self.place()) {
-            Some(name) => name,
-            None => "",
-        }
-    }
-
-    /// The place among the kinds.
-    fn place(self) -> usize {
-        match self {
-            EventKind::Discover => 0,
-            EventKind::Join => 1,
-            EventKind::Leave => 2,
-            EventKind::Drain => 3,
-            EventKind::SetLimits => 4,
-            EventKind::Install => 5,
-            EventKind::Spread => 6,
-            EventKind::NextRound => 7,
-            EventKind::Take => 8,
-            EventKind::Serve => 9,
-            EventKind::Release => 10,
-            EventKind::Report => 11,
-        }
-    }
+/// What is counted of the events of a kind.
+#[derive(Clone, Copy, Debug)]
+pub(crate) struct EventCounts {
+    /// Of those that were done, by what they were answered.
+    done: [u64; DONE_COUNT],
+    /// Of those that were refused, by why.
+    refused: [u64; REFUSAL_COUNT],
 }
 
 /// Counts since the service began.
-#[derive(Clone, Copy, Debug, Drop)]
+#[derive(Clone, Copy, Debug)]
 pub(crate) struct Counts {
-    /// Of requests that were answered, at the places of their routes and statuses.
-    pub(crate) requests: [[u64; STATUS_COUNT]; ROUTE_COUNT],
-    /// Of events, at the places of their kinds and answers.
-    pub(crate) events: [[u64; ANSWER_COUNT]; KIND_COUNT],
+    /// Of requests that were answered, by their routes.
+    requests: [RequestCounts; ROUTE_COUNT],
+    /// Of events, by their kinds.
+    events: [EventCounts; KIND_COUNT],
+}
+
+impl RequestCounts {
+    fn none() -> RequestCounts {
+        RequestCounts {
+            statuses: [0; STATUS_COUNT],
+            durations: Durations::new(),
+        }
+    }
+
+    /// One more that is answered with this status after so many microseconds.
+    fn count(&mut self, status: u16, microseconds: u64) {
+        let place = STATUSES.iter().position(|other| *other == status);
+        count_one(&mut self.statuses[place.unwrap_or(STATUS_COUNT - 1)]);
+        self.durations.observe(microseconds);
+    }
+
+    /// How many there are of each status.
+    pub(crate) fn statuses(&self) -> &[u64] {
+        &self.statuses
+    }
+
+    /// How long it took to answer them.
+    pub(crate) fn durations(&self) -> &Durations {
+        &self.durations
+    }
+}
+
+impl EventCounts {
+    fn none() -> EventCounts {
+        EventCounts {
+            done: [0; DONE_COUNT],
+            refused: [0; REFUSAL_COUNT],
+        }
+    }
+
+    /// One more that is answered so.
+    fn count(&mut self, answer: &Answer) {
+        match answer {
+            Answer::Discovered { .. } => self.count_done(DoneKind::Discovered),
+            Answer::Joined(_) => self.count_done(DoneKind::Joined),
+            Answer::Left => self.count_done(DoneKind::Left),
+            Answer::Draining => self.count_done(DoneKind::Draining),
+            Answer::LimitsSet => self.count_done(DoneKind::LimitsSet),
+            Answer::Published(_) => self.count_done(DoneKind::Published),
+            Answer::RoundOpen(_) => self.count_done(DoneKind::RoundOpen),
+            Answer::Taken { .. } => self.count_done(DoneKind::Taken),
+            Answer::Served { .. } => self.count_done(DoneKind::Served),
+            Answer::Released(_) => self.count_done(DoneKind::Released),
+            Answer::Booked => self.count_done(DoneKind::Booked),
+            Answer::Not(refusal) => self.count_refused(RefusalKind::of(refusal)),
+        }
+    }
+
+    fn count_done(&mut self, kind: DoneKind) {
+        count_one(&mut self.done[kind as usize]);
+    }
+
+    fn count_refused(&mut self, kind: RefusalKind) {
+        count_one(&mut self.refused[kind as usize]);
+    }
+
+    /// How many that were done are answered so.
+    pub(crate) fn of_done(&self, kind: DoneKind) -> u64 {
+        self.done[kind as usize]
+    }
+
+    /// How many were refused so.
+    pub(crate) fn of_refusal(&self, kind: RefusalKind) -> u64 {
+        self.refused[kind as usize]
+    }
+
+    /// How many were refused.
+    pub(crate) fn all_refused(&self) -> u64 {
+        let mut sum: u64 = 0;
+        for number in &self.refused {
+            sum = sum.saturating_add(*number);
+        }
+        sum
+    }
 }
 
 impl Counts {
     pub(crate) fn new() -> Counts {
         Counts {
-            requests: [[0; STATUS_COUNT]; ROUTE_COUNT],
-            events: [[0; ANSWER_COUNT]; KIND_COUNT],
+            requests: [RequestCounts::none(); ROUTE_COUNT],
+            events: [EventCounts::none(); KIND_COUNT],
         }
     }
 
-    /// One request more that is answered with this status.
-    pub(crate) fn count_request(&mut self, route: Route, status: u16) {
-        let status = STATUSES.iter().position(|other| *other == status);
-        if let Some(of_route) = self.requests.get_mut(route.place) {
-            count(of_route, status.unwrap_or(STATUSES.len() - 1));
-        }
+    /// One request more that is answered with this status after so many microseconds.
+    pub(crate) fn count_request(&mut self, route: Route, status: u16, microseconds: u64) {
+        self.requests[route as usize].count(status, microseconds);
     }
 
     /// One event more.
     pub(crate) fn count_event(&mut self, kind: EventKind, answer: &Answer) {
-        if let Some(of_kind) = self.events.get_mut(kind.place()) {
-            count(of_kind, answer_place(answer));
-        }
+        self.events[kind as usize].count(answer);
+    }
+
+    /// What is counted of a route.
+    pub(crate) fn of_route(&self, route: Route) -> &RequestCounts {
+        &self.requests[route as usize]
+    }
+
+    /// What is counted of a kind of events.
+    pub(crate) fn of_kind(&self, kind: EventKind) -> &EventCounts {
+        &self.events[kind as usize]
     }
 }
 
-/// Whether the line of an answer says that an event was done.
-pub(crate) fn is_done(line: &str) -> bool {
-    let name = line.split(' ').next().unwrap_or("");
-    ANSWERS.iter().take(DONE).any(|done| *done == name)
-}
-
-/// How many events of a kind were refused, by the counts of its answers.
-pub(crate) fn refused(of_kind: &[u64]) -> u64 {
-    let mut sum: u64 = 0;
-    for number in of_kind.iter().skip(DONE) {
-        sum = sum.saturating_add(*number);
-    }
-    sum
-}
-
-fn count(counts: &mut [u64], place: usize) {
-    if let Some(number) = counts.get_mut(place) {
-        *number = number.saturating_add(1);
-    }
-}
-
-/// The place of a route among the routes.
-fn place_of(ask: &Ask) -> usize {
-    match ask {
-        Ask::Status => 0,
-        Ask::ScrapeConfigs { .. } => 1,
-        Ask::Jobs => 2,
-        Ask::JobTargets(_) => 3,
-        Ask::CollectorTargets { .. } => 4,
-        Ask::Uncovered(_) => 5,
-        Ask::Acknowledged(_) => 6,
-        Ask::Certificate => 7,
-        Ask::Join => 8,
-        Ask::Leave(_) => 9,
-        Ask::Drain(_) => 10,
-        Ask::Release(_) => 11,
-        Ask::SetLimits(_) => 12,
-        Ask::Report => 13,
-        Ask::Healthy => 14,
-        Ask::Live => 15,
-        Ask::Ready => 16,
-        Ask::Metrics => 17,
-        Ask::Reload => 18,
-        Ask::Quit => 19,
-    }
-}
-
-/// The place of an answer among the answers.
-fn answer_place(answer: &Answer) -> usize {
-    match answer {
-        Answer::Discovered { .. } => 0,
-        Answer::Joined(_) => 1,
-        Answer::Left => 2,
-        Answer::Draining => 3,
-        Answer::LimitsSet => 4,
-        Answer::Published(_) => 5,
-        Answer::RoundOpen(_) => 6,
-        Answer::Taken { .. } => 7,
-        Answer::Served { .. } => 8,
-        Answer::Released(_) => 9,
-        Answer::Booked => 10,
-        Answer::Not(refusal) => refusal_place(refusal).saturating_add(DONE),
-    }
-}
-
-/// The place of a refusal among the refusals.
-fn refusal_place(refusal: &Refusal) -> usize {
-    match refusal {
-        Refusal::UnknownJob => 0,
-        Refusal::UnknownSource => 1,
-        Refusal::TooManyLive => 2,
-        Refusal::TooManyKnown => 3,
-        Refusal::AlreadyJoined(_) => 4,
-        Refusal::TooManyCollectors => 5,
-        Refusal::IdsSpent => 6,
-        Refusal::UnknownCollector => 7,
-        Refusal::AlreadyDraining => 8,
-        Refusal::Refused(_) => 9,
-        Refusal::RefusedSpread(_) => 10,
-        Refusal::Unchanged(_) => 11,
-        Refusal::NumbersSpent => 12,
-        Refusal::RoundsSpent => 13,
-        Refusal::NotTaken(_) => 14,
-        Refusal::UnknownTarget => 15,
-        Refusal::NotHolder(_) => 16,
-        Refusal::StillServed(_) => 17,
-        Refusal::RoundClosed(_) => 18,
-        Refusal::RoundNotOpen(_) => 19,
-        Refusal::AlreadyBooked => 20,
-    }
+fn count_one(number: &mut u64) {
+    *number = number.saturating_add(1);
 }

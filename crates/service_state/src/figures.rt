@@ -3,65 +3,10 @@ use crate::handing_over::{HandingOver, targets_handing_over};
 use alloc_desk::Record;
 use allocation_core::Core;
 use fleet::{Collector, JobSpec};
-use fleet_events::{AllocationNumber, CollectorId, Round};
-use lists::{List, Plain, Text};
-use reach_rules::CollectorName;
+use fleet_events::{AllocationNumber, CollectorId};
+use lists::{Plain, Text};
+use service_pages::{CollectorFigures, Figures, JobFigures, ShareFigures};
 use std::alloc::{AllocError, Global};
-
-/// What a desk shows of itself in numbers, from one state.
-#[derive(Debug, Drop)]
-pub struct Figures {
-    pub(crate) jobs: Vec<JobFigures>,
-    pub(crate) collectors: Vec<CollectorFigures>,
-    /// The number of the current allocation, 0 before the first.
-    pub(crate) allocation: AllocationNumber,
-    pub(crate) round: Round,
-    /// The samples of all reports that are booked.
-    pub(crate) samples: u128,
-    /// How many entries the journal has.
-    pub(crate) entries: usize,
-    /// How many live targets stand in lists of collectors that left, and are held by others.
-    pub(crate) waited_for_left: u64,
-}
-
-#[derive(Debug, Drop)]
-pub(crate) struct JobFigures {
-    pub(crate) name: Text,
-    /// How many targets are live.
-    pub(crate) live: u64,
-    /// How many of them somebody holds in the current allocation.
-    pub(crate) covered: u64,
-    /// How many of these the list of the holder leaves out, since another list has them.
-    pub(crate) handing_over: u64,
-}
-
-#[derive(Debug, Drop)]
-pub(crate) struct CollectorFigures {
-    pub(crate) name: CollectorName,
-    pub(crate) id: CollectorId,
-    pub(crate) draining: bool,
-    /// How many live targets it holds in the current allocation.
-    pub(crate) held: u64,
-    /// Its shares, job by job.
-    pub(crate) shares: Vec<ShareFigures>,
-    /// The number of the allocation that it took last, 0 where it took none.
-    pub(crate) taken: AllocationNumber,
-    /// How many it may hold of all jobs together, where each job has a limit for it.
-    pub(crate) room: Option<u64>,
-    /// How many live targets stand in its lists, and are held by others.
-    pub(crate) waited_for: u64,
-}
-
-/// A collector's share of a job.
-#[derive(Clone, Copy, Debug)]
-pub(crate) struct ShareFigures {
-    /// How many live targets it has in the current allocation.
-    pub(crate) held: u64,
-    /// How many it may have, 0 where nothing limits it.
-    pub(crate) limit: u32,
-    /// Whether the collector has a limit of its own for the job.
-    pub(crate) has_own_limit: bool,
-}
 
 /// The numbers of a desk at a moment.
 pub fn figures_of(alloc: Global, record: &Record) -> Result<Figures, AllocError> {
@@ -100,7 +45,7 @@ fn empty_jobs(alloc: Global, core: &Core) -> Result<Vec<JobFigures>, AllocError>
 fn idle_collectors(alloc: Global, core: &Core) -> Result<Vec<CollectorFigures>, AllocError> {
     let mut collectors = Vec::new(alloc);
     for collector in core.collectors() {
-        let name = collector.name.copy()?;
+        let name = Text::from_str(alloc, collector.name.as_str())?;
         collectors.push(CollectorFigures {
             name,
             id: collector.id,

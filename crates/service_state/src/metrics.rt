@@ -1,11 +1,13 @@
 //! The metrics of a service.
-use crate::counts::{ANSWERS, Counts, KINDS, ROUTES, STATUSES, refused};
-use crate::figures::{CollectorFigures, Figures, JobFigures};
-use crate::notes::{LoadNote, Notes, SourceNote};
+use crate::counts::{Counts, EventCounts, RequestCounts, STATUSES};
+use crate::kinds::{DONE, KINDS, REFUSALS};
+use crate::notes::Notes;
+use crate::routes::ROUTES;
 use crate::service_state::ServiceState;
 use exposition::{Exposition, Kind};
 use fleet_events::CollectorId;
 use lists::Text;
+use service_pages::{CollectorFigures, Figures, JobFigures, LoadNote, SourceNote};
 use std::alloc::{AllocError, Global};
 
 /// The metrics of a service, in the text exposition format.
@@ -244,23 +246,40 @@ fn write_waiting(
     )
 }
 
-fn write_state(page: &mut Exposition, state: &ServiceState) -> Result<(), AllocError> {
+/// Which program runs, and since when.
+fn write_process(page: &mut Exposition, state: &ServiceState) -> Result<(), AllocError> {
+    let name = "allocd_build_info";
+    page.family(name, Kind::Gauge, "The version of the program.")?;
+    page.labelled_sample(name, "version", state.version(), 1)?;
     write_gauge(
         page,
         "process_start_time_seconds",
         "When the process began, in seconds since 1970.",
         u128::from(state.started()),
-    )?;
-    let name = "allocd_reallocations_total";
-    let count = u128::from(state.reallocations());
-    write_counter(page, name, "Searches for an allocation.", count)?;
-    let followed = u128::from(state.is_reloaded());
+    )
+}
+
+fn write_configuration(page: &mut Exposition, state: &ServiceState) -> Result<(), AllocError> {
     write_gauge(
         page,
         "allocd_config_last_reload_successful",
         "Whether the configuration that was read last is followed.",
-        followed,
+        u128::from(state.is_reloaded()),
     )?;
+    write_gauge(
+        page,
+        "allocd_config_last_reload_success_timestamp_seconds",
+        "When the configuration was read that is followed, in seconds since 1970, or 0.",
+        u128::from(state.followed_since()),
+    )
+}
+
+fn write_state(page: &mut Exposition, state: &ServiceState) -> Result<(), AllocError> {
+    write_process(page, state)?;
+    write_configuration(page, state)?;
+    let name = "allocd_reallocations_total";
+    let count = u128::from(state.reallocations());
+    write_counter(page, name, "Searches for an allocation.", count)?;
     write_gauge(
         page,
         "allocd_journal_broken",
@@ -318,13 +337,13 @@ fn write_last_allocation(page: &mut Exposition, notes: &Notes) -> Result<(), All
         "Targets that the last published allocation left with draining collectors.",
         u128::from(left),
     )?;
-    let name = "allocd_reallocation_seconds_total";
+    let name = "allocd_reallocation_duration_seconds";
     page.family(
         name,
-        Kind::Counter,
-        "Seconds that searches for an allocation took.",
+        Kind::Histogram,
+        "How long searches for an allocation took.",
     )?;
-    page.seconds(name, notes.milliseconds)
+    page.histogram(name, &notes.searches)
 }
 
 fn write_events(page: &mut Exposition, counts: &Counts) -> Result<(), AllocError> {
@@ -334,31 +353,63 @@ fn write_events(page: &mut Exposition, counts: &Counts) -> Result<(), AllocError
         Kind::Counter,
         "Events that were entered, by what they were answered.",
     )?;
-    for (kind, of_kind) in KINDS.iter().zip(counts.events.iter()) {
-        write_answers(page, name, kind, of_kind)?;
+    for kind in KINDS {
+        write_done(page, name, kind.name(), counts.of_kind(kind))?;
+        write_refused(page, name, kind.name(), counts.of_kind(kind))?;
     }
     let name = "allocd_events_refused_total";
     page.family(name, Kind::Counter, "Events that were entered and refused.")?;
-    for (kind, of_kind) in KINDS.iter().zip(counts.events.iter()) {
-        page.labelled_sample(name, "event", kind, u128::from(refused(of_kind)))?;
+    for kind in KINDS {
+        let count = u128::from(counts.of_kind(kind).all_refused());
+        page.labelled_sample(name, "event", kind.name(), count)?;
     }
     Ok(())
 }
 
-/// The answers to events of a kind, but for those that none was given.
-fn write_answers(
+/// The answers to events of a kind that were done, but for those that none was given.
+fn write_done(
     page: &mut Exposition,
     name: &str,
     kind: &str,
-    of_kind: &[u64],
+    of_kind: &EventCounts,
 ) -> Result<(), AllocError> {
-    for (answer, count) in ANSWERS.iter().zip(of_kind.iter()) {
-        if *count > 0 {
-            let count = u128::from(*count);
-            page.twice_labelled_sample(name, "event", kind, "answer", answer, count)?;
-        }
+    for done in DONE {
+        write_answer(page, name, kind, done.name(), of_kind.of_done(done))?;
     }
     Ok(())
+}
+
+/// The refusals of events of a kind, but for those that none was given.
+fn write_refused(
+    page: &mut Exposition,
+    name: &str,
+    kind: &str,
+    of_kind: &EventCounts,
+) -> Result<(), AllocError> {
+    for refusal in REFUSALS {
+        write_answer(
+            page,
+            name,
+            kind,
+            refusal.name(),
+            of_kind.of_refusal(refusal),
+        )?;
+    }
+    Ok(())
+}
+
+fn write_answer(
+    page: &mut Exposition,
+    name: &str,
+    kind: &str,
+    answer: &str,
+    count: u64,
+) -> Result<(), AllocError> {
+    if count == 0 {
+        return Ok(());
+    }
+    let count = u128::from(count);
+    page.twice_labelled_sample(name, "event", kind, "answer", answer, count)
 }
 
 fn write_requests(page: &mut Exposition, alloc: Global, counts: &Counts) -> Result<(), AllocError> {
@@ -368,22 +419,32 @@ fn write_requests(page: &mut Exposition, alloc: Global, counts: &Counts) -> Resu
         Kind::Counter,
         "Requests that were answered, by route and status code, where 0 is any other code.",
     )?;
-    for (route, of_route) in ROUTES.iter().zip(counts.requests.iter()) {
-        write_statuses(page, alloc, name, route, of_route)?;
+    for route in ROUTES {
+        write_statuses(page, alloc, name, route.name(), counts.of_route(route))?;
+    }
+    let name = "allocd_http_request_duration_seconds";
+    page.family(
+        name,
+        Kind::Histogram,
+        "How long it took to answer requests, by route.",
+    )?;
+    for route in ROUTES {
+        let durations = counts.of_route(route).durations();
+        page.labelled_histogram(name, "route", route.name(), durations)?;
     }
     Ok(())
 }
 
-/// The status codes of a route's answers, but for those that none had.
+/// The status codes of a route's answers: 200 and 503 from the start, and the others once an answer had them.
 fn write_statuses(
     page: &mut Exposition,
     alloc: Global,
     name: &str,
     route: &str,
-    of_route: &[u64],
+    of_route: &RequestCounts,
 ) -> Result<(), AllocError> {
-    for (status, count) in STATUSES.iter().zip(of_route.iter()) {
-        if *count > 0 {
+    for (status, count) in STATUSES.iter().zip(of_route.statuses().iter()) {
+        if *count > 0 || *status == 200 || *status == 503 {
             let status = format!(in alloc; "{status}")?;
             let count = u128::from(*count);
             page.twice_labelled_sample(name, "route", route, "status", status.as_str(), count)?;

@@ -87,6 +87,14 @@ impl Names {
         Ok(asked)
     }
 
+    /// When a list was asked for last by the collector of a number, in seconds since 1970, if one was.
+    pub(crate) fn last_asked(&self, id: CollectorId) -> Option<u64> {
+        match self.live.iter().find(|known| known.id == id) {
+            Some(known) if known.asked > 0 => Some(known.asked),
+            _ => None,
+        }
+    }
+
     /// A name that is not known.
     fn add(&mut self, name: &str, id: CollectorId) -> Result<(), AllocError> {
         let name = Text::from_str(self.alloc, name)?;

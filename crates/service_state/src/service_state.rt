@@ -1,30 +1,37 @@
 //! What a service says of itself beside its desk.
 use crate::changes::{ChangeNote, Changes};
-use crate::counts::{EventKind, Route};
+use crate::elapsed::{microseconds_since, seconds_now};
 use crate::followed::{Followed, FollowedList};
+use crate::kinds::EventKind;
 use crate::names::Names;
-use crate::notes::{AllocationNote, LoadNote, Notes, SourceNote};
+use crate::notes::Notes;
 use crate::open_round::{OpenRound, RoundStart, RoundTimes};
 use crate::reloading::Reloading;
+use crate::routes::Route;
 use crate::takers::Takers;
 use fleet_events::{Answer, CollectorId, TargetId};
 use lists::Text;
+use service_pages::{AllocationNote, LoadNote, SourceNote, Standing};
 use std::alloc::{AllocError, Global};
 use std::sync::atomic::{AtomicBool, AtomicU64, Ordering};
 use std::sync::{Arc, Mutex, Wait};
-use std::time::{Clock, Duration};
+use std::time::{Clock, Duration, Instant};
 
 /// What a service says of itself beside its desk. The threads of the service write it, and requests read it.
 #[derive(Drop)]
 pub struct ServiceState {
     /// Whether a request may end the service.
     has_lifecycle: bool,
+    /// The program's version. Empty where nobody told it.
+    version: &'static str,
     /// When it began, in seconds since 1970. 0 where nobody knows.
     started: u64,
     is_quitting: AtomicBool,
     reloading: Reloading,
     /// Whether the configuration that was read last is the one that is followed.
     is_reloaded: AtomicBool,
+    /// When the one that is followed was read, in seconds since 1970. 0 where nobody knows.
+    followed_since: AtomicU64,
     /// Whether what is submitted cannot be kept.
     is_broken: AtomicBool,
     /// Whether the device that keeps it does not come back.
@@ -67,10 +74,12 @@ impl ServiceState {
     pub fn new(alloc: Global, has_lifecycle: bool, sources: u64) -> ServiceState {
         ServiceState {
             has_lifecycle,
+            version: "",
             started: 0,
             is_quitting: AtomicBool::new(false),
             reloading: Reloading::new(alloc),
             is_reloaded: AtomicBool::new(true),
+            followed_since: AtomicU64::new(0),
             is_broken: AtomicBool::new(false),
             is_hanging: AtomicBool::new(false),
             has_begun: AtomicBool::new(false),
@@ -132,9 +141,20 @@ impl ServiceState {
         &self.reloading
     }
 
-    /// The configuration was read again, and is followed or not.
-    pub fn set_reloaded(&self, is_followed: bool) {
-        self.is_reloaded.store(is_followed, Ordering::SeqCst);
+    /// The configuration was read again, and is followed.
+    pub fn set_reloaded(&self, rt: &impl Clock) {
+        self.is_reloaded.store(true, Ordering::SeqCst);
+        self.followed_since.store(seconds_now(rt), Ordering::SeqCst);
+    }
+
+    /// The configuration was read again, and is not followed.
+    pub fn set_not_reloaded(&self) {
+        self.is_reloaded.store(false, Ordering::SeqCst);
+    }
+
+    /// When the configuration was read that is followed, in seconds since 1970. 0 where nobody knows.
+    pub(crate) fn followed_since(&self) -> u64 {
+        self.followed_since.load(Ordering::SeqCst)
     }
 
     /// Whether the configuration that was read last is the one that is followed.
@@ -244,11 +264,13 @@ impl ServiceState {
 
     /// The live collector of this number asks for a list under this name. What finds no memory is not noted.
     pub fn note_asked<R: Wait + Clock>(&self, rt: &R, name: &str, id: CollectorId) {
-        let at = match rt.since_1970() {
-            Ok(now) => now.as_secs(),
-            Err(_) => 0,
-        };
+        let at = seconds_now(rt);
         let _ = self.names.lock(rt).note_asked(name, id, at);
+    }
+
+    /// When the collector of this number asked for a list last, in seconds since 1970, if it did.
+    pub fn last_asked(&self, rt: &impl Wait, id: CollectorId) -> Option<u64> {
+        self.names.lock(rt).last_asked(id)
     }
 
     /// Somebody asks under a name that no live collector has. Gives the number that the last one had it under, where one had it.
@@ -342,9 +364,19 @@ impl ServiceState {
         self.turned_away.load(Ordering::SeqCst)
     }
 
-    /// It began so many seconds after 1970.
+    /// It began so many seconds after 1970, with the configuration that it follows.
     pub fn set_started(&mut self, seconds: u64) {
         self.started = seconds;
+        self.followed_since.store(seconds, Ordering::SeqCst);
+    }
+
+    /// It is the program of this version.
+    pub fn set_version(&mut self, version: &'static str) {
+        self.version = version;
+    }
+
+    pub(crate) fn version(&self) -> &'static str {
+        self.version
     }
 
     pub(crate) fn started(&self) -> u64 {
@@ -363,9 +395,17 @@ impl ServiceState {
         }
     }
 
-    /// A request is answered with this status code.
-    pub fn count_request(&self, rt: &impl Wait, route: Route, status: u16) {
-        self.notes.lock(rt).counts.count_request(route, status);
+    /// A request that began then is answered with this status code.
+    pub fn count_request<R: Wait + Clock>(
+        &self,
+        rt: &R,
+        route: Route,
+        status: u16,
+        begun: Option<Instant>,
+    ) {
+        let microseconds = microseconds_since(rt, begun);
+        let mut notes = self.notes.lock(rt);
+        notes.counts.count_request(route, status, microseconds);
     }
 
     /// An event is answered.
@@ -388,10 +428,10 @@ impl ServiceState {
         self.notes.lock(rt).loads = loads;
     }
 
-    /// A reallocation took so many milliseconds.
-    pub fn count_search(&self, rt: &impl Wait, milliseconds: u64) {
-        let mut notes = self.notes.lock(rt);
-        notes.milliseconds = notes.milliseconds.saturating_add(milliseconds);
+    /// A search for an allocation that began then is over.
+    pub fn count_search<R: Wait + Clock>(&self, rt: &R, begun: Option<Instant>) {
+        let microseconds = microseconds_since(rt, begun);
+        self.notes.lock(rt).searches.observe(microseconds);
     }
 
     /// Other sources are refreshed from now on.
@@ -413,5 +453,25 @@ impl ServiceState {
     pub fn notes(&self, rt: &impl Wait, alloc: Global) -> Result<Notes, AllocError> {
         let asked = self.names.lock(rt).asked(alloc)?;
         self.notes.lock(rt).copy_with(alloc, asked)
+    }
+
+    /// How it stands now, with a journal or without one.
+    pub fn standing(&self, rt: &impl Clock, has_journal: bool) -> Standing {
+        Standing {
+            version: self.version,
+            started: self.started,
+            time: seconds_now(rt),
+            is_followed: self.is_reloaded(),
+            followed_since: self.followed_since(),
+            has_journal,
+            is_broken: self.is_broken(),
+            is_hanging: self.is_hanging.load(Ordering::SeqCst),
+            connections: self.connections(),
+            most_connections: self.most_connections(),
+            turned_away: self.turned_away(),
+            refreshes: self.refreshes(),
+            failed_refreshes: self.failed_refreshes(),
+            reallocations: self.reallocations(),
+        }
     }
 }

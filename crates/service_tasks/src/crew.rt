@@ -1,18 +1,17 @@
 //! The passes of a desk's threads beside its server.
 use alloc_desk::{DeskName, Pass};
 use std::alloc::{AllocError, Global};
-use std::sync::Mutex;
 use std::sync::ledger::Ledger;
 
 /// How many passes a crew has.
 const SEATS: usize = 3;
 
-/// The passes of a desk's threads beside its server: of the schedule, of the journal's keeper, and the one that the refreshers share.
+/// The passes of a desk's threads beside its server: of the schedule, of the journal's keeper, and of the refresher.
 #[derive(Drop)]
 pub struct Crew<L: Ledger, B: Ledger, N: DeskName> {
     pub scheduler: Pass<L, B, N>,
     pub keeper: Pass<L, B, N>,
-    pub refreshers: Mutex<Pass<L, B, N>>,
+    pub refresher: Pass<L, B, N>,
 }
 
 impl<L: Ledger, B: Ledger, N: DeskName> Crew<L, B, N> {
@@ -20,18 +19,18 @@ impl<L: Ledger, B: Ledger, N: DeskName> Crew<L, B, N> {
     pub fn muster(mut passes: Vec<Pass<L, B, N>>) -> Option<Crew<L, B, N>> {
         let scheduler = passes.pop()?;
         let keeper = passes.pop()?;
-        let refreshers = Mutex::new(passes.pop()?);
+        let refresher = passes.pop()?;
         Some(Crew {
             scheduler,
             keeper,
-            refreshers,
+            refresher,
         })
     }
 
     /// Gives the passes back.
     pub fn dismiss(self, alloc: Global) -> Result<Vec<Pass<L, B, N>>, AllocError> {
         let mut passes = Vec::with_capacity(alloc, SEATS)?;
-        passes.push(self.refreshers.into_inner())?;
+        passes.push(self.refresher)?;
         passes.push(self.keeper)?;
         passes.push(self.scheduler)?;
         Ok(passes)

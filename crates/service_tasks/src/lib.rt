@@ -49,4 +49,3 @@ pub use renewing::continued;
 pub use scheduling::Schedule;
 pub use service::{Service, ServiceError};
 pub use shared::Shared;
-pub use sources::Sources;

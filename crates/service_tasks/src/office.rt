@@ -8,9 +8,10 @@ use crate::service::{JobText, Service};
 use crate::source::Source;
 use crate::sources::Sources;
 use admission::Admission;
-use http_get::Scrape;
+use http_get::FetchSeveral;
 use journal_files::round_age;
 use lists::List;
+use sd_documents::Job;
 use service_state::{ConfigPages, Kept, RoundStart, ServiceState};
 use std::alloc::{AllocError, Global};
 use std::io;
@@ -34,7 +35,7 @@ pub struct Office<S, F, C> {
     pub(crate) is_new: bool,
 }
 
-impl<S: Scrape + Drop, F: Drop, C: Configuration + Drop> Office<S, F, C> {
+impl<S: FetchSeveral + Drop, F: Drop, C: Configuration + Drop> Office<S, F, C> {
     /// The office of a service that begins.
     pub fn open<R: Clock + Wait>(
         rt: &R,
@@ -42,7 +43,7 @@ impl<S: Scrape + Drop, F: Drop, C: Configuration + Drop> Office<S, F, C> {
         service: &Service,
         listener: TcpListener,
         journal: Journal<F>,
-        devices: Vec<S>,
+        device: S,
         configuration: C,
     ) -> io::Result<Office<S, F, C>> {
         match Parts::of(rt, alloc, service, &journal) {
@@ -54,7 +55,8 @@ impl<S: Scrape + Drop, F: Drop, C: Configuration + Drop> Office<S, F, C> {
                 state: parts.state,
                 schedule: Schedule::new(alloc, parts.start, parts.job_texts, configuration),
                 watch: Watch {
-                    devices,
+                    device,
+                    jobs: parts.jobs,
                     sources: parts.sources,
                 },
                 journal,
@@ -67,7 +69,7 @@ impl<S: Scrape + Drop, F: Drop, C: Configuration + Drop> Office<S, F, C> {
     /// Tells that the configuration that was read last is not followed.
     pub(crate) fn refuse<R: Clock + Eprint + Copy>(&self, rt: &R) {
         log_warning(rt, "no memory to follow the configuration");
-        self.state.set_reloaded(false);
+        self.state.set_not_reloaded();
     }
 
     /// Remembers for the next journal the names that collectors have or had. Where there is no memory for them those from before stay.
@@ -93,7 +95,7 @@ impl<S: Scrape + Drop, F: Drop, C: Configuration + Drop> Office<S, F, C> {
         );
         if self.schedule.is_read {
             self.schedule.is_read = false;
-            self.state.set_reloaded(false);
+            self.state.set_not_reloaded();
         }
     }
 
@@ -107,7 +109,8 @@ impl<S: Scrape + Drop, F: Drop, C: Configuration + Drop> Office<S, F, C> {
         self.doors = Arc::try_clone(&service.doors)?;
         self.connections = service.connections;
         self.state.await_sources(sources.len() as u64);
-        self.watch.sources = Sources::new(Arc::try_clone(&service.jobs)?, sources);
+        self.watch.jobs = Arc::try_clone(&service.jobs)?;
+        self.watch.sources = Sources::new(sources);
         self.is_new = true;
         Ok(())
     }
@@ -121,6 +124,7 @@ struct Parts {
     state: Arc<ServiceState>,
     start: RoundStart,
     job_texts: Arc<List<JobText>>,
+    jobs: Arc<List<Job>>,
     sources: Sources,
 }
 
@@ -141,13 +145,14 @@ impl Parts {
         let start = round_start(rt, service, journal.epoch)?;
         let job_texts = Arc::try_clone(&service.job_texts)?;
         let jobs = Arc::try_clone(&service.jobs)?;
-        let sources = Sources::new(jobs, sources_of(alloc, service)?);
+        let sources = Sources::new(sources_of(alloc, service)?);
         Ok(Parts {
             pages,
             doors,
             state,
             start,
             job_texts,
+            jobs,
             sources,
         })
     }
@@ -185,6 +190,7 @@ fn state_of<R: Clock>(
     if let Ok(since) = rt.since_1970() {
         state.set_started(since.as_secs());
     }
+    state.set_version(service.version);
     if let Some(lost_lines) = &service.lost_lines {
         state.set_log(Arc::try_clone(lost_lines)?);
     }

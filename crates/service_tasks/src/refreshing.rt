@@ -1,109 +1,192 @@
-//! The threads that refresh what discovery sources list.
-use crate::logging::log_warning;
+//! The thread that refreshes what discovery sources list.
+use crate::logging::{log_warning, log_warning_of};
 use crate::shared::Shared;
-use crate::source::Listed;
-use crate::sources::{Errand, Sources};
+use crate::source::{Listed, Source};
+use crate::sources::Sources;
 use alloc_desk::{DeskName, Pass};
 use fleet_events::{Answer, Event};
-use http_get::{RefreshError, Scrape, refresh};
-use lists::{Plain, Text};
+use http_get::{
+    Asker, Cause, FetchFault, FetchSeveral, Get, Next, RefreshError, Reply, get_of_source, heard,
+};
+use lists::{List, Plain, Text};
 use log::warn;
 use logfmt::{Logfmt, Quoted, timestamp};
 use relabel::Rules;
 use sd_documents::Job;
 use service_state::SourceNote;
-use std::alloc::AllocError;
+use std::alloc::{AllocError, Global};
+use std::io;
 use std::sync::atomic::Ordering;
 use std::sync::ledger::Ledger;
-use std::sync::{Mutex, Wait};
+use std::sync::{Arc, Wait};
 use std::time::{Clock, Duration};
 
-/// The sources of a service, and the devices that ask them, one for each that is asked at once.
+/// How long it is waited at most for answers before it is looked whether the desk is to be closed.
+const LOOK_MILLIS: u64 = 50;
+
+/// How long no source is asked where none can be.
+const PAUSE_MILLIS: u64 = 1_000;
+
+/// The sources of a service, and the device that asks them.
 #[derive(Drop)]
 pub struct Watch<S> {
-    pub devices: Vec<S>,
-    pub sources: Sources,
+    pub(crate) device: S,
+    /// The jobs of the configuration.
+    pub(crate) jobs: Arc<List<Job>>,
+    pub(crate) sources: Sources,
+}
+
+/// Who asks the sources, over one desk.
+#[derive(Drop)]
+struct Refresher<'a, R, L: Ledger, B: Ledger, N: DeskName> {
+    shared: &'a Shared<R, L, B, N>,
+    pass: &'a mut Pass<L, B, N>,
+    jobs: &'a List<Job>,
+    sources: Sources,
+}
+
+impl<R: Wait + Clock + Eprint + Copy, L: Ledger, B: Ledger, N: DeskName> Asker
+    for Refresher<'_, R, L, B, N> {
+    /// The source that is due for longest is asked next. It is waited for answers, or, where none is to come, until a source is due.
+    fn next(&mut self) -> Next {
+        match self.sources.begin_due(&self.shared.rt) {
+            Ok(place) => self.ask(place),
+            Err(wait) => self.wait(wait),
+        }
+    }
+
+    fn hear(&mut self, mark: usize, fetched: Result<Reply, Cause>) {
+        let Some(source) = self.sources.ended(mark) else {
+            return;
+        };
+        if let Some(job) = self.jobs.as_slice().get(source.settings.job) {
+            self.shared.refresh(self.pass, job, source, fetched);
+        }
+        if source.end() {
+            self.shared.state.count_tried();
+        }
+    }
+}
+
+impl<R: Wait + Clock + Eprint + Copy, L: Ledger, B: Ledger, N: DeskName> Refresher<'_, R, L, B, N> {
+    /// Asks the source at a place. Where it cannot be asked, that is what it comes to.
+    fn ask(&mut self, place: usize) -> Next {
+        match self.get_at(place) {
+            Some(get) => Next::Ask { mark: place, get },
+            None => {
+                self.hear(place, Err(Cause::Memory));
+                Next::Wait(Duration::ZERO)
+            }
+        }
+    }
+
+    /// How the source at a place is asked. None where there is no memory to say so.
+    fn get_at(&self, place: usize) -> Option<Get> {
+        let settings = self.sources.at(place)?.settings;
+        let job = self.jobs.as_slice().get(settings.job)?;
+        get_of_source(self.shared.alloc, job, settings.number).ok()?
+    }
+
+    /// Waits until the desk is to be closed, but no longer than this, and no longer than a look where answers are to come.
+    fn wait(&self, time: Duration) -> Next {
+        let (here, there) = if self.sources.is_any_asked() {
+            (Duration::ZERO, Duration::from_millis(LOOK_MILLIS))
+        } else {
+            (time, Duration::ZERO)
+        };
+        if self.shared.control.is_ended_within(&self.shared.rt, here) {
+            return Next::End;
+        }
+        Next::Wait(there)
+    }
 }
 
 impl<R: Wait + Clock + Eprint + Copy, L: Ledger, B: Ledger, N: DeskName> Shared<R, L, B, N> {
-    /// Refreshes sources that are due, one after the other, until the desk is to be closed. Others do so beside it, each with a device of its
-    /// own.
-    pub fn refresh_sources<S: Scrape>(
-        &self,
-        pass: &Mutex<Pass<L, B, N>>,
-        sources: &Sources,
-        device: &mut S,
-    ) {
-        let mut wait = Duration::ZERO;
+    /// Refreshes sources until the desk is to be closed, each when it is due, whatever others do. A refresh that is under way then is given
+    /// up: it is due over the next desk.
+    pub fn refresh_sources<S: FetchSeveral>(&self, pass: &mut Pass<L, B, N>, watch: &mut Watch<S>) {
         for _ in self.rt.forever() {
-            if self.control.is_ended_within(&self.rt, wait) {
+            match self.refresh_by(pass, watch) {
+                Ok(()) => return,
+                Err(error) => log_warning_of(&self.rt, "discovery sources cannot be asked", &error),
+            }
+            let pause = Duration::from_millis(PAUSE_MILLIS);
+            if self.control.is_ended_within(&self.rt, pause) {
                 return;
             }
-            wait = self.refresh_next(pass, sources, device);
         }
     }
 
-    /// Refreshes the source that is due for longest, if one is, and says how long it is until the next look.
-    fn refresh_next<S: Scrape>(
+    /// Refreshes sources until the desk is to be closed, or the device fails.
+    fn refresh_by<S: FetchSeveral>(
         &self,
-        pass: &Mutex<Pass<L, B, N>>,
-        sources: &Sources,
-        device: &mut S,
-    ) -> Duration {
-        match sources.take_due(&self.rt) {
-            Ok(mut errand) => {
-                self.refresh_taken(pass, sources, device, &mut errand);
-                sources.put_back(&self.rt, errand);
-                Duration::ZERO
-            }
-            Err(wait) => wait,
-        }
+        pass: &mut Pass<L, B, N>,
+        watch: &mut Watch<S>,
+    ) -> io::Result<()> {
+        let none = Sources::new(Vec::new(self.alloc));
+        let sources = std::mem::replace(&mut watch.sources, none);
+        let mut refresher = Refresher {
+            shared: self,
+            pass,
+            jobs: &watch.jobs,
+            sources,
+        };
+        let asked = watch.device.fetch_for(&mut refresher);
+        let mut sources = refresher.sources;
+        sources.give_up();
+        watch.sources = sources;
+        asked
     }
 
-    /// Refreshes a source that was taken out.
-    fn refresh_taken<S: Scrape>(
+    fn refresh(
         &self,
-        pass: &Mutex<Pass<L, B, N>>,
-        sources: &Sources,
-        device: &mut S,
-        errand: &mut Errand,
-    ) {
-        if let Some(job) = sources.job(errand.settings) {
-            self.refresh(pass, job, device, errand);
-        }
-        if errand.is_first {
-            self.state.count_tried();
-        }
-    }
-
-    fn refresh<S: Scrape>(
-        &self,
-        pass: &Mutex<Pass<L, B, N>>,
+        pass: &mut Pass<L, B, N>,
         job: &Job,
-        device: &mut S,
-        errand: &mut Errand,
+        source: &mut Source,
+        fetched: Result<Reply, Cause>,
     ) {
         self.state.count_refresh();
-        let number = errand.settings.number;
-        let list = self.list_of(job, device, number);
-        self.note_refresh(job, number, &list);
+        let number = source.settings.number;
+        let cause = cause_of(&fetched);
+        let fetched = with_fault(fetched);
+        let list = self.list_of(job, number, &fetched);
+        self.tell(job, number, &list, cause);
         match list {
-            Ok(event) => self.submit_news(pass, job.name.as_str(), &mut errand.listed, event),
-            Err(error) => {
-                self.state.count_failed_refresh();
-                self.log_failure(job.name.as_str(), number, &error);
-            }
+            Ok(event) => self.submit_news(pass, job.name.as_str(), &mut source.listed, event),
+            Err(_told) => {}
         }
     }
 
-    fn log_failure(&self, job: &str, number: u32, error: &RefreshError) {
-        let about = Quoted(job);
-        warn!(Logfmt(self.rt); about:% = about, source = number; "refresh failed: {error}");
+    /// Tells how a refresh ended those who look at the service, and in the log where it failed.
+    fn tell(
+        &self,
+        job: &Job,
+        number: u32,
+        list: &Result<Event, RefreshError>,
+        cause: Option<Cause>,
+    ) {
+        if list.is_err() {
+            self.state.count_failed_refresh();
+        }
+        let Ok(fault) = fault_in(self.alloc, list, cause) else {
+            log_warning(&self.rt, "no memory to note a refresh");
+            return;
+        };
+        if list.is_err() {
+            self.log_failure(job, number, fault.as_str());
+        }
+        self.note_refresh(job, number, list.is_ok(), fault);
+    }
+
+    fn log_failure(&self, job: &Job, number: u32, fault: &str) {
+        let about = Quoted(job.name.as_str());
+        let url = Quoted(url_of(job, number));
+        warn!(Logfmt(self.rt); about:% = about, source = number, url:% = url; "refresh failed: {fault}");
     }
 
     /// Notes for those who look at the service how a refresh ended.
-    fn note_refresh(&self, job: &Job, number: u32, list: &Result<Event, RefreshError>) {
-        let Ok(note) = self.note_of(job, number, list) else {
+    fn note_refresh(&self, job: &Job, number: u32, is_listed: bool, fault: Text) {
+        let Ok(note) = self.note_of(job, number, is_listed, fault) else {
             return;
         };
         if self.state.note_refresh(&self.rt, note).is_err() {
@@ -115,21 +198,17 @@ impl<R: Wait + Clock + Eprint + Copy, L: Ledger, B: Ledger, N: DeskName> Shared<
         &self,
         job: &Job,
         number: u32,
-        list: &Result<Event, RefreshError>,
+        is_listed: bool,
+        fault: Text,
     ) -> Result<SourceNote, AllocError> {
         let job = job.name.copy()?;
-        let fault = match list {
-            Ok(_) => "",
-            Err(error) => error.name(),
-        };
-        let fault = Text::from_str(self.alloc, fault)?;
         let at = timestamp(&self.rt, self.alloc).ok_or(AllocError)?;
         Ok(SourceNote {
             job,
             number,
             refreshes: 1,
-            failures: u64::from(list.is_err()),
-            succeeded: if list.is_ok() { self.seconds_now() } else { 0 },
+            failures: u64::from(!is_listed),
+            succeeded: if is_listed { self.seconds_now() } else { 0 },
             at: Text::from_string(at),
             fault,
         })
@@ -143,27 +222,21 @@ impl<R: Wait + Clock + Eprint + Copy, L: Ledger, B: Ledger, N: DeskName> Shared<
         }
     }
 
-    /// What a source lists now. The job's rules are compiled for each refresh, so that no threads share them.
-    fn list_of<S: Scrape>(
+    /// What a source lists, by what asking it came to. The job's rules are compiled for each refresh.
+    fn list_of(
         &self,
         job: &Job,
-        device: &mut S,
         number: u32,
+        fetched: &Result<Reply, FetchFault>,
     ) -> Result<Event, RefreshError> {
         match Rules::read(self.alloc, job.rules.as_slice()) {
-            Ok(rules) => refresh(self.alloc, job, &rules, number, device),
+            Ok(rules) => heard(self.alloc, job, &rules, number, fetched),
             Err(_) => Err(RefreshError::Memory),
         }
     }
 
     /// Submits a list that is another one than the last.
-    fn submit_news(
-        &self,
-        pass: &Mutex<Pass<L, B, N>>,
-        job: &str,
-        listed: &mut Listed,
-        event: Event,
-    ) {
+    fn submit_news(&self, pass: &mut Pass<L, B, N>, job: &str, listed: &mut Listed, event: Event) {
         let Ok(text) = event.to_json(self.alloc) else {
             log_warning(&self.rt, "no memory for a list of targets");
             return;
@@ -172,17 +245,49 @@ impl<R: Wait + Clock + Eprint + Copy, L: Ledger, B: Ledger, N: DeskName> Shared<
             return;
         }
         self.listed.fetch_add(targets_in(&event), Ordering::SeqCst);
-        if let Some(answer) = self.enter_by(pass, event) {
+        if let Some(answer) = self.enter(pass, event) {
             self.log_answer(job, &answer);
             let is_refused = matches!(answer, Answer::Not(_));
             listed.submitted(text, is_refused);
         }
     }
+}
 
-    /// What an event is answered that is entered by a pass which several share.
-    fn enter_by(&self, pass: &Mutex<Pass<L, B, N>>, event: Event) -> Option<Answer> {
-        let mut pass = pass.lock(&self.rt);
-        self.enter(&mut *pass, event)
+/// Why there is no answer, where there is none.
+fn cause_of(fetched: &Result<Reply, Cause>) -> Option<Cause> {
+    match fetched {
+        Ok(_) => None,
+        Err(cause) => Some(*cause),
+    }
+}
+
+/// What asking came to, as lists know it.
+fn with_fault(fetched: Result<Reply, Cause>) -> Result<Reply, FetchFault> {
+    match fetched {
+        Ok(reply) => Ok(reply),
+        Err(cause) => Err(cause.fault()),
+    }
+}
+
+/// Why a source gave no list, in words. Empty where it gave one.
+fn fault_in(
+    alloc: Global,
+    list: &Result<Event, RefreshError>,
+    cause: Option<Cause>,
+) -> Result<Text, AllocError> {
+    match (list, cause) {
+        (Ok(_), _) => Text::from_str(alloc, ""),
+        (Err(_), Some(cause)) => Text::from_str(alloc, cause.text()),
+        (Err(error), None) => Ok(Text::from_string(format!(in alloc; "{error}")?)),
+    }
+}
+
+/// The URL of a job's source.
+fn url_of(job: &Job, number: u32) -> &str {
+    let index = number.saturating_sub(1) as usize;
+    match job.http_urls.as_slice().get(index) {
+        Some(url) => url.as_str(),
+        None => "",
     }
 }
 

@@ -58,7 +58,7 @@ impl<R: Wait + Clock + Eprint + Copy, L: Ledger, B: Ledger, N: DeskName> Shared<
         self.log_read(line.as_str());
         self.warn_of_leaving(pass, next.job_texts.as_slice());
         schedule.is_read = true;
-        self.state.set_reloaded(true);
+        self.state.set_reloaded(&self.rt);
         self.state.reloading().answer(&self.rt, Ok(told));
         self.control.end(&self.rt, Ending::Reload);
     }
@@ -99,7 +99,7 @@ impl<R: Wait + Clock + Eprint + Copy, L: Ledger, B: Ledger, N: DeskName> Shared<
 
     fn refuse_reload(&self, fault: Text) {
         self.log_refused(fault.as_str());
-        self.state.set_reloaded(false);
+        self.state.set_not_reloaded();
         self.state.reloading().answer(&self.rt, Err(fault));
     }
 

@@ -11,7 +11,7 @@ use crate::service::Service;
 use crate::source::Source;
 use allocation_core::{Core, JobSpec, NotRenewed};
 use durable_journal::{Archive, FirstLine, are_jobs_of, with_epoch};
-use http_get::Scrape;
+use http_get::FetchSeveral;
 use journal_files::with_names;
 use lists::copies;
 use replay_lines::resume;
@@ -30,7 +30,7 @@ pub fn continued<R: Clock + Eprint + Copy, S, F, A, C>(
     core: Core,
 ) -> io::Result<Core>
 where
-    S: Scrape + Drop,
+    S: FetchSeveral + Drop,
     F: Drop,
     A: Archive<F>,
     C: Configuration + Drop,
@@ -69,7 +69,7 @@ fn reloaded<R: Clock + Eprint + Copy, S, F, A, C>(
     core: Core,
 ) -> io::Result<Core>
 where
-    S: Scrape + Drop,
+    S: FetchSeveral + Drop,
     F: Drop,
     A: Archive<F>,
     C: Configuration + Drop,
@@ -85,7 +85,7 @@ where
         office.follow(&next, sources)?;
         *service = next;
     } else {
-        office.state.set_reloaded(false);
+        office.state.set_not_reloaded();
     }
     Ok(core)
 }

@@ -202,10 +202,10 @@ impl<R: Wait + Clock + Eprint + Copy, L: Ledger, B: Ledger, N: DeskName> Shared<
 
     fn reallocate<C>(&self, pass: &mut Pass<L, B, N>, schedule: &mut Schedule<C>) {
         self.state.count_reallocation();
-        let begun = Instant::now(&self.rt);
+        let begun = Instant::now(&self.rt).ok();
         let found = self.search(pass);
-        let milliseconds = self.milliseconds_since(begun.ok());
-        self.state.count_search(&self.rt, milliseconds);
+        let milliseconds = self.milliseconds_since(begun);
+        self.state.count_search(&self.rt, begun);
         self.note_loads(pass);
         match found {
             Ok(Reallocated::Published(number)) => {

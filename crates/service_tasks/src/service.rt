@@ -25,6 +25,8 @@ pub struct Service {
     /// Who may ask for what.
     pub(crate) doors: Arc<Admission>,
     pub(crate) settings: Settings,
+    /// The program's version. Empty where nobody told it.
+    pub(crate) version: &'static str,
     /// Where the log counts the lines that it loses, if it may lose some.
     pub(crate) lost_lines: Option<Arc<AtomicU64>>,
     /// How many connections there may be at once.
@@ -85,6 +87,7 @@ impl Service {
                     pages,
                     doors,
                     settings,
+                    version: "",
                     lost_lines: None,
                     connections,
                     sources,
@@ -114,6 +117,13 @@ impl Service {
     pub fn with_log(self, lost_lines: Arc<AtomicU64>) -> Service {
         let mut service = self;
         service.lost_lines = Some(lost_lines);
+        service
+    }
+
+    /// A service of the program of this version.
+    pub fn with_version(self, version: &'static str) -> Service {
+        let mut service = self;
+        service.version = version;
         service
     }
 

@@ -16,8 +16,12 @@ pub(crate) struct Source {
     first_wait: Duration,
     /// How long after its last refresh began the next one does.
     wait: Duration,
-    /// What it listed last. Nobody else has it: it is away while the source is asked.
-    listed: Option<Listed>,
+    /// Whether a refresh is under way.
+    is_asked: bool,
+    /// Whether a refresh came to an end.
+    is_tried: bool,
+    /// What it listed last.
+    pub(crate) listed: Listed,
 }
 
 /// What a source listed last.
@@ -38,13 +42,15 @@ impl Source {
             began: None,
             first_wait: part_of(settings.every, turn, count),
             wait: settings.every,
-            listed: Some(Listed::nothing()),
+            is_asked: false,
+            is_tried: false,
+            listed: Listed::nothing(),
         }
     }
 
-    /// For how long it is due and nobody asks it. None where it is not.
+    /// For how long it is due. None where it is not, or a refresh is under way.
     pub(crate) fn is_due_for(&self, now: Instant) -> Option<Duration> {
-        if self.listed.is_none() {
+        if self.is_asked {
             return None;
         }
         match self.began {
@@ -53,7 +59,7 @@ impl Source {
         }
     }
 
-    /// How long from now it is due. Nothing where it is due by now, whether or not it is asked.
+    /// How long from now it is due. Nothing where it is due by now, whether or not a refresh is under way.
     pub(crate) fn due_in(&self, now: Instant) -> Duration {
         match self.began {
             Some(began) => self
@@ -63,22 +69,31 @@ impl Source {
         }
     }
 
-    /// What it listed last, for who asks it from now on, and whether it was never asked before. None while it is asked.
-    pub(crate) fn begin(&mut self, now: Instant) -> Option<(Listed, bool)> {
-        let listed = self.listed.take()?;
-        let is_first = self.began.is_none();
-        self.wait = if is_first {
-            self.first_wait
-        } else {
+    /// A refresh begins.
+    pub(crate) fn begin(&mut self, now: Instant) {
+        self.wait = if self.is_tried {
             self.settings.every
+        } else {
+            self.first_wait
         };
         self.began = Some(now);
-        Some((listed, is_first))
+        self.is_asked = true;
     }
 
-    /// It is asked no more, and listed this.
-    pub(crate) fn end(&mut self, listed: Listed) {
-        self.listed = Some(listed);
+    /// The refresh that was under way came to an end. Whether it was the first that did.
+    pub(crate) fn end(&mut self) -> bool {
+        let is_first = !self.is_tried;
+        self.is_asked = false;
+        self.is_tried = true;
+        is_first
+    }
+
+    /// The refresh that was under way is given up, and another one is due.
+    pub(crate) fn give_up(&mut self) {
+        if self.is_asked {
+            self.is_asked = false;
+            self.began = None;
+        }
     }
 }
 

@@ -1,90 +1,73 @@
-//! The discovery sources of a service, as those share them who refresh them.
-use crate::service::SourceSettings;
-use crate::source::{Listed, Source};
-use lists::List;
-use sd_documents::Job;
-use std::sync::{Arc, Mutex, Wait};
+//! The discovery sources of a service, as they are watched.
+use crate::source::Source;
 use std::time::{Clock, Duration, Instant};
 
-/// How long a refresher waits at most before it looks at the sources again, in seconds.
+/// How many sources are asked at once at most.
+const MOST_ASKED: usize = 16;
+
+/// How long it is waited at most before it is looked at the sources again, in seconds.
 const LONGEST_WAIT: u64 = 3_600;
 
-/// The discovery sources of a service, each of which one refresher at a time takes out to ask it.
+/// The discovery sources of a service.
 #[derive(Drop)]
 pub struct Sources {
-    /// The jobs of the configuration.
-    jobs: Arc<List<Job>>,
-    count: usize,
-    all: Mutex<Vec<Source>>,
-}
-
-/// A source that a refresher took out.
-#[derive(Drop)]
-pub(crate) struct Errand {
-    /// Its place among the sources.
-    place: usize,
-    pub(crate) settings: SourceSettings,
-    pub(crate) listed: Listed,
-    /// Whether it was never asked before.
-    pub(crate) is_first: bool,
+    all: Vec<Source>,
+    /// Of how many a refresh is under way.
+    asked: usize,
 }
 
 impl Sources {
-    pub(crate) fn new(jobs: Arc<List<Job>>, all: Vec<Source>) -> Sources {
-        Sources {
-            jobs,
-            count: all.len(),
-            all: Mutex::new(all),
+    /// Sources of none of which a refresh is under way.
+    pub(crate) fn new(all: Vec<Source>) -> Sources {
+        Sources { all, asked: 0 }
+    }
+
+    /// Whether some refresh is under way.
+    pub(crate) fn is_any_asked(&self) -> bool {
+        self.asked > 0
+    }
+
+    /// A refresh begins of the source that is due for longest, the place of which is given. Where none is due, or as many are asked as may
+    /// be, it says how long it is until one is due.
+    pub(crate) fn begin_due(&mut self, clock: &impl Clock) -> Result<usize, Duration> {
+        let longest = Duration::from_secs(LONGEST_WAIT);
+        if self.asked >= MOST_ASKED {
+            return Err(longest);
         }
-    }
-
-    /// How many they are.
-    pub fn count(&self) -> usize {
-        self.count
-    }
-
-    /// The job of a source.
-    pub(crate) fn job(&self, settings: SourceSettings) -> Option<&Job> {
-        self.jobs.as_slice().get(settings.job)
-    }
-
-    /// Takes out the source that is due for longest. Where none is due, it says how long it is until one is: whoever waits so long, or comes
-    /// back with a source, looks again, so that none that is due is left out.
-    pub(crate) fn take_due<R: Wait + Clock>(&self, rt: &R) -> Result<Errand, Duration> {
-        let Ok(now) = Instant::now(rt) else {
-            return Err(Duration::from_secs(LONGEST_WAIT));
+        let Ok(now) = Instant::now(clock) else {
+            return Err(longest);
         };
-        let mut all = self.all.lock(rt);
-        let all = &mut *all;
-        match next_errand(all.as_mut_slice(), now) {
-            Some(errand) => Ok(errand),
-            None => Err(next_due(all.as_slice(), now)),
+        let Some(place) = longest_due(self.all.as_slice(), now) else {
+            return Err(next_due(self.all.as_slice(), now, longest));
+        };
+        if let Some(source) = self.all.get_mut(place) {
+            source.begin(now);
+            self.asked = self.asked.saturating_add(1);
         }
+        Ok(place)
     }
 
-    /// Puts a source back that was taken out.
-    pub(crate) fn put_back(&self, rt: &impl Wait, errand: Errand) {
-        if let Some(source) = self.all.lock(rt).get_mut(errand.place) {
-            source.end(errand.listed);
+    /// The source at a place.
+    pub(crate) fn at(&self, place: usize) -> Option<&Source> {
+        self.all.get(place)
+    }
+
+    /// The source at a place whose refresh came to an end.
+    pub(crate) fn ended(&mut self, place: usize) -> Option<&mut Source> {
+        self.asked = self.asked.saturating_sub(1);
+        self.all.get_mut(place)
+    }
+
+    /// The refreshes that are under way are given up.
+    pub(crate) fn give_up(&mut self) {
+        for source in &mut self.all {
+            source.give_up();
         }
+        self.asked = 0;
     }
 }
 
-/// The source that is due for longest, if one is.
-fn next_errand(all: &mut [Source], now: Instant) -> Option<Errand> {
-    let place = longest_due(all, now)?;
-    let source = all.get_mut(place)?;
-    let settings = source.settings;
-    let (listed, is_first) = source.begin(now)?;
-    Some(Errand {
-        place,
-        settings,
-        listed,
-        is_first,
-    })
-}
-
-/// The place of the source that is due for longest and that nobody asks, the first of several.
+/// The place of the source that is due for longest and is not asked, the first of several.
 fn longest_due(all: &[Source], now: Instant) -> Option<usize> {
     let mut found: Option<(usize, Duration)> = None;
     for (place, source) in all.iter().enumerate() {
@@ -109,9 +92,9 @@ fn longer(
     }
 }
 
-/// How long it is until the next source is due, of those that are not due by now.
-fn next_due(all: &[Source], now: Instant) -> Duration {
-    let mut wait = Duration::from_secs(LONGEST_WAIT);
+/// How long it is until the next source is due, of those that are not due by now, but no longer than this.
+fn next_due(all: &[Source], now: Instant, longest: Duration) -> Duration {
+    let mut wait = longest;
     for source in all {
         let left = source.due_in(now);
         if !left.is_zero() {

@@ -1,0 +1,11 @@
+use Rattle.std.proofs.Common.{rules}
+use Rattle.std.proofs.lemmas.List.Edits.{map_over_more}
+use Rattle.std.proofs.lemmas.List.{take_all, drop_all}
+use Rattle.exposition.specs.Counting.{observed}
+use Rattle.exposition.proofs.observing.observe_in.Goals as goal
+
+pub loop-i-preserved : goal.loop-i-preserved
+loop-i-preserved c = search (rules, map_over_more (observed c.args.microseconds))
+
+pub returns : goal.returns
+returns c = search (rules, take_all, drop_all)

@@ -1,0 +1,111 @@
+//! The texts of pages of collectors, and of targets that were searched for.
+use crate::numbers::{first_word, large, number};
+use crate::pages::numbered;
+use alloc_desk::NumberedTarget;
+use fleet_events::{Event, read_event};
+use lists::{List, Plain, Text};
+use reach_rules::{CollectorName, OwnLimits, Reach};
+use sd_routes::{CollectorRow, FoundTarget, collector_page, collectors_page, found_page};
+use std::alloc::{AllocError, Global};
+
+/// The page of a collector, as `NUMBER STATE TAKEN TAKE JOIN`. STATE is `draining` or another word; TAKEN and TAKE are the numbers of its last
+/// take, or 0; JOIN is the line of a join, and its limits are what the collector holds too.
+pub(crate) fn collector(alloc: Global, text: &str) -> Result<String, AllocError> {
+    match row_in(alloc, text)? {
+        Some(row) => Ok(collector_page(alloc, &row)?.into_string()),
+        None => String::from_str(alloc, "no collector"),
+    }
+}
+
+/// The page of collectors, with ` | ` between them.
+pub(crate) fn collectors(alloc: Global, text: &str) -> Result<String, AllocError> {
+    let mut rows = Vec::new(alloc);
+    for part in text.split(" | ") {
+        if let Some(row) = row_in(alloc, part)? {
+            rows.push(row)?;
+        }
+    }
+    Ok(collectors_page(alloc, rows.as_slice())?.into_string())
+}
+
+fn row_in(alloc: Global, text: &str) -> Result<Option<CollectorRow>, AllocError> {
+    let (id, rest) = first_word(text);
+    let (state, rest) = first_word(rest);
+    let (taken, rest) = first_word(rest);
+    let (take, join) = first_word(rest);
+    match read_event(alloc, join.as_bytes())? {
+        Some(
+            Event::Join {
+                name,
+                reach,
+                limits,
+            },
+        ) => {
+            let mut row = joined(alloc, name, reach, limits)?;
+            row.id = number(id);
+            row.draining = state == "draining";
+            row.taken = Some(number(taken)).filter(|number| *number > 0);
+            row.last_take = Some(large(take)).filter(|number| *number > 0);
+            Ok(Some(row))
+        }
+        _ => Ok(None),
+    }
+}
+
+fn joined(
+    alloc: Global,
+    name: CollectorName,
+    reach: Reach,
+    limits: OwnLimits,
+) -> Result<CollectorRow, AllocError> {
+    let mut held = List::new(alloc);
+    for share in limits.entries() {
+        held.push(share.copy()?)?;
+    }
+    Ok(CollectorRow {
+        id: 0,
+        name,
+        draining: false,
+        reach,
+        limits,
+        held,
+        taken: None,
+        last_take: None,
+    })
+}
+
+/// The page of targets of a job that were searched for, numbered from 7 on, as `ALL JOB HOLDER GROUPS`. Without a holder, which is `-`, none is
+/// handed over.
+pub(crate) fn found(alloc: Global, text: &str) -> Result<String, AllocError> {
+    let (all, rest) = first_word(text);
+    let (job, rest) = first_word(rest);
+    let (holder, groups) = first_word(rest);
+    let mut found = Vec::new(alloc);
+    if let Some(targets) = numbered(alloc, groups)? {
+        for target in targets.into_vec() {
+            found.push(found_target(alloc, job, holder, target)?)?;
+        }
+    }
+    Ok(found_page(alloc, number(all), found.as_slice())?.into_string())
+}
+
+fn found_target(
+    alloc: Global,
+    job: &str,
+    holder: &str,
+    target: NumberedTarget,
+) -> Result<FoundTarget, AllocError> {
+    let job = Text::from_str(alloc, job)?;
+    let collector = if holder == "-" {
+        None
+    } else {
+        CollectorName::read(alloc, holder).ok()
+    };
+    let handing_over = collector.is_some();
+    Ok(FoundTarget {
+        job,
+        target,
+        collector,
+        handing_over,
+    })
+}

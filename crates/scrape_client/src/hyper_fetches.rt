@@ -1,0 +1,149 @@
+//! Fetches over HTTP that are under way at once, all on the calling thread.
+ghost use Rattle.std.specs.Prelude.{OnOk};
+ghost use Rattle.futures.specs.Queued.{AllPollable, set_places};
+ghost use Rattle.futures.specs.Task.{IsArmed, Keeps};
+ghost use Rattle.futures.specs.Poll.{OnPending};
+
+use crate::beginning::timed;
+use crate::marked::Marked;
+use futures::stream::FuturesUnordered;
+use futures::task::{Context, Poll};
+use futures::{Future, Stream};
+use http_get::{Asker, FetchSeveral, Get, Next};
+use std::alloc::AllocGlobal;
+use std::io;
+use std::net::Net;
+use std::random::RandomSource;
+use std::sync::Wait;
+use std::time::{Clock, Duration};
+use tokio::runtime::{Handle, LocalRuntime};
+use tokio::time::Sleep;
+
+/// A device over HTTP/1.1 that has several fetches under way, each over a new connection. No redirect is followed.
+#[derive(Clone, Copy, Drop)]
+pub struct HyperFetches<R> {
+    rt: R,
+    limit: Duration,
+}
+
+/// The fetches that are under way for an asker.
+#[derive(Drop)]
+struct UnderWay<'a, R, A> {
+    rt: &'a R,
+    limit: Duration,
+    handle: Handle,
+    asker: &'a mut A,
+    fetches: FuturesUnordered<Marked>,
+    pause: Option<Sleep>,
+}
+
+impl<R> HyperFetches<R> {
+    /// A device that gives each fetch so much time, from the connecting to the end of the body.
+    pub fn new(rt: R, limit: Duration) -> HyperFetches<R> {
+        HyperFetches { rt, limit }
+    }
+}
+
+impl<R> FetchSeveral for HyperFetches<R>
+where
+    R: Wait + Clock + Net + RandomSource + AllocGlobal,
+{
+    fn fetch_for<A: Asker>(&self, asker: &mut A) -> io::Result<()> {
+        let mut runtime = LocalRuntime::new(&self.rt)?;
+        let under_way = UnderWay {
+            rt: &self.rt,
+            limit: self.limit,
+            handle: runtime.handle().clone()?,
+            asker,
+            fetches: FuturesUnordered::new(self.rt.alloc())?,
+            pause: None,
+        };
+        runtime.block_on(&self.rt, under_way)?
+    }
+}
+
+impl<R, A> UnderWay<'_, R, A>
+where
+    R: Clock + Net + RandomSource + AllocGlobal,
+    A: Asker,
+{
+    /// Begins a fetch. One that cannot begin has come to that.
+    fn begin(&mut self, mark: usize, get: &Get) -> io::Result<()>
+        requires { AllPollable ⟦<Marked as Future>⟧.can_poll (set_places self.old.fetches) }
+        ensures { AllPollable ⟦<Marked as Future>⟧.can_poll (set_places self.new.fetches) }
+    {
+        match timed(self.rt, &self.handle, self.limit, get) {
+            Ok(timed) => match self.fetches.push(Marked { mark, timed }) {
+                Ok(()) => Ok(()),
+                Err(_) => Err(io::ErrorKind::OutOfMemory.into()),
+            },
+            Err(cause) => {
+                self.asker.hear(mark, Err(cause));
+                Ok(())
+            }
+        }
+    }
+
+    /// Waits for the next end, at most so long.
+    fn wait(&mut self, time: Duration, cx: &mut Context<'_>) -> Poll<io::Result<()>>
+        requires { AllPollable ⟦<Marked as Future>⟧.can_poll (set_places self.old.fetches) }
+        ensures again { OnPending result (AllPollable ⟦<Marked as Future>⟧.can_poll (set_places self.new.fetches)) }
+        ensures armed { OnPending result (IsArmed cx.new) }
+        ensures kept { Keeps cx.old cx.new }
+    {
+        if self.fetches.is_empty() {
+            return self.pause(time, cx);
+        }
+        match self.fetches.poll_next(cx) {
+            Poll::Ready(Some((mark, fetched))) => {
+                self.asker.hear(mark, fetched);
+                cx.yield_now()
+            }
+            Poll::Ready(None) => Poll::Ready(Err(io::ErrorKind::UnexpectedEof.into())),
+            Poll::Pending => self.pause(time, cx),
+        }
+    }
+
+    /// Asks to be polled again after a pause.
+    fn pause(&mut self, time: Duration, cx: &mut Context<'_>) -> Poll<io::Result<()>>
+        requires { AllPollable ⟦<Marked as Future>⟧.can_poll (set_places self.old.fetches) }
+        ensures again { OnPending result (AllPollable ⟦<Marked as Future>⟧.can_poll (set_places self.new.fetches)) }
+        ensures armed { OnPending result (IsArmed cx.new) }
+        ensures kept { Keeps cx.old cx.new }
+    {
+        let mut pause = match self.handle.time().sleep(self.rt, time) {
+            Ok(pause) => pause,
+            Err(e) => return Poll::Ready(Err(e)),
+        };
+        match pause.poll(cx) {
+            Poll::Ready(_) => cx.yield_now(),
+            Poll::Pending => {
+                self.pause = Some(pause);
+                Poll::Pending
+            }
+        }
+    }
+}
+
+impl<R, A> Future for UnderWay<'_, R, A>
+where
+    R: Clock + Net + RandomSource + AllocGlobal,
+    A: Asker,
+{
+    ghost use Rattle.futures.specs.Queued.{AllPollable, set_places};
+
+    type Output = io::Result<()>;
+
+    ghost can_poll = { λ u. AllPollable ⟦<Marked as Future>⟧.can_poll (set_places u.fetches) };
+
+    fn poll(&mut self, cx: &mut Context<'_>) -> Poll<io::Result<()>> {
+        match self.asker.next() {
+            Next::Ask { mark, get } => match self.begin(mark, &get) {
+                Ok(()) => cx.yield_now(),
+                Err(e) => Poll::Ready(Err(e)),
+            },
+            Next::Wait(time) => self.wait(time, cx),
+            Next::End => Poll::Ready(Ok(())),
+        }
+    }
+}

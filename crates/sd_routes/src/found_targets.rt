@@ -1,0 +1,76 @@
+//! The JSON text of targets that were searched for.
+ghost use Rattle.std.specs.Prelude.{◌≡◌, IfOk};
+ghost use Rattle.serde_json.specs.View.{view, items_view};
+ghost use Rattle.serde_json.specs.Written.{compact_text};
+ghost use Rattle.json_values.specs.Spelling.{items_data};
+ghost use Rattle.sd_routes.specs.FoundPages.{found_data, holder_data, target_data};
+
+use crate::pages::labels_value;
+use alloc_desk::NumberedTarget;
+use json_values::text_of;
+use lists::Text;
+use reach_rules::CollectorName;
+use serde_json::{Value, json};
+use std::alloc::{AllocError, Global};
+
+/// A live target that was searched for.
+#[derive(Debug, Drop)]
+pub struct FoundTarget {
+    pub job: Text,
+    pub target: NumberedTarget,
+    /// The collector that holds it, if one does.
+    pub collector: Option<CollectorName>,
+    /// Whether that collector's list leaves it out, since another list has it.
+    pub handing_over: bool,
+}
+
+/// How many targets were found, and the first of them: an object.
+pub fn found_page(alloc: Global, all: u32, found: &[FoundTarget]) -> Result<Text, AllocError>
+    ensures { IfOk result (λ t. t ≡ compact_text (found_data all found.now)) }
+{
+    let page = found_value(alloc, all, found)?;
+    text_of(alloc, &page)
+}
+
+fn found_value(alloc: Global, all: u32, found: &[FoundTarget]) -> Result<Value, AllocError>
+    ensures { IfOk result (λ v. view v ≡ found_data all found.now) }
+{
+    let targets = Value::Array(target_values(alloc, found)?);
+    json!(in alloc; {"all": all, "targets": targets})
+}
+
+fn target_values(alloc: Global, found: &[FoundTarget]) -> Result<Vec<Value>, AllocError>
+    ensures { IfOk result (λ vs. items_view vs.items ≡ items_data target_data found.now) }
+{
+    let mut values = Vec::with_capacity(alloc, found.len())?;
+    for target in found {
+        values.push(target_value(alloc, target)?)?;
+    }
+    Ok(values)
+}
+
+fn target_value(alloc: Global, found: &FoundTarget) -> Result<Value, AllocError>
+    ensures { IfOk result (λ v. view v ≡ target_data found.now) }
+{
+    let numbered = &found.target;
+    let labels = labels_value(alloc, numbered.target.labels().entries(), numbered.number)?;
+    let collector = holder_value(alloc, &found.collector)?;
+    let target = numbered.target.get("__address__");
+    let (handing_over, job) = (found.handing_over, found.job.as_str());
+    json!(in alloc; {
+        "collector": collector,
+        "handing_over": handing_over,
+        "job": job,
+        "labels": labels,
+        "target": target
+    })
+}
+
+fn holder_value(alloc: Global, holder: &Option<CollectorName>) -> Result<Value, AllocError>
+    ensures { IfOk result (λ v. view v ≡ holder_data holder.now) }
+{
+    match holder {
+        Some(name) => Value::try_from_str(alloc, name.as_str()),
+        None => Ok(Value::Null),
+    }
+}

@@ -1,0 +1,144 @@
+//! The pages of collectors, and of targets that are searched for.
+ghost use Rattle.std.specs.Prelude.{◌≡◌, ◌≤◌, length, Some, IfOk, IfSome};
+ghost use Rattle.sd_server.specs.Says.{IsCollectorText, IsCollectorsText, IsFoundText, OfSome, SaysCollectorPage, SaysCollectors, SaysFound, id_meant};
+ghost use Rattle.sd_server.specs.declared.found.TheConstants.{MOST_FOUND};
+
+use crate::collector_rows::{row_meant, rows_of};
+use crate::found::{Found, LOOKED_AT_ONCE, found_of, matching};
+use crate::handler::Handler;
+use alloc_desk::DeskName;
+use allocation_core::{Answer, Refusal};
+use fleet_events::TargetId;
+use lists::Text;
+use sd_routes::{
+    CollectorRow, RequestError, Said, WhichCollector, collector_page, collectors_page, found_page,
+};
+use std::alloc::AllocError;
+use std::sync::Wait;
+use std::sync::ledger::Ledger;
+use std::time::Clock;
+
+impl<R: Wait + Clock + Copy, L: Ledger, B: Ledger, N: DeskName> Handler<R, L, B, N> {
+    /// The page of the live collectors.
+    pub(crate) fn collectors(&self) -> Said
+        ensures { SaysCollectors result }
+    {
+        match self.collectors_text() {
+            Ok(text) => Said::Page(text),
+            Err(_) => Said::Refused(RequestError::Memory),
+        }
+    }
+
+    fn collectors_text(&self) -> Result<Text, AllocError>
+        ensures { IfOk result IsCollectorsText }
+    {
+        let mut rows = self.rows()?;
+        for row in rows.iter_mut() {
+            row.last_take = self.state.last_asked(&self.rt, row.id);
+        }
+        collectors_page(self.alloc, rows.as_slice())
+    }
+
+    fn rows(&self) -> Result<Vec<CollectorRow>, AllocError> {
+        let mut pass = self.pass.lock(&self.rt);
+        self.desk.read(
+            &self.rt,
+            &mut *pass,
+            |record| rows_of(self.alloc, record.core()),
+        )
+    }
+
+    /// The page of the live collector that is meant.
+    pub(crate) fn one_collector(&self, which: &WhichCollector) -> Said
+        ensures { SaysCollectorPage N.opening which.now result }
+    {
+        match self.row(which) {
+            Ok(Some(row)) => self.row_told(which, row),
+            Ok(None) => Said::Answer(Answer::Not(Refusal::UnknownCollector)),
+            Err(_) => Said::Refused(RequestError::Memory),
+        }
+    }
+
+    fn row_told(&self, which: &WhichCollector, row: CollectorRow) -> Said
+        requires { OfSome N.opening (λ h. id_meant h.state which.now ≡ Some row.id) }
+        ensures { SaysCollectorPage N.opening which.now result }
+    {
+        let mut row = row;
+        row.last_take = self.state.last_asked(&self.rt, row.id);
+        match collector_page(self.alloc, &row) {
+            Ok(text) => Said::Page(text),
+            Err(_) => Said::Refused(RequestError::Memory),
+        }
+    }
+
+    fn row(&self, which: &WhichCollector) -> Result<Option<CollectorRow>, AllocError>
+        ensures { IfOk result (λ found. IfSome found (λ row. OfSome N.opening (λ h. id_meant h.state which.now ≡ Some row.id))) }
+    {
+        let mut pass = self.pass.lock(&self.rt);
+        self.desk.read(
+            &self.rt,
+            &mut *pass,
+            |record| row_meant(self.alloc, record.core(), which),
+        )
+    }
+
+    /// The page of the live targets that have a text.
+    pub(crate) fn found(&self, text: &str) -> Said
+        ensures { SaysFound result }
+    {
+        match self.found_text(text) {
+            Ok(text) => Said::Page(text),
+            Err(_) => Said::Refused(RequestError::Memory),
+        }
+    }
+
+    fn found_text(&self, text: &str) -> Result<Text, AllocError>
+        ensures { IfOk result IsFoundText }
+    {
+        let numbers = self.matching(text)?;
+        let found = self.found_among(numbers.as_slice())?;
+        found_page(self.alloc, found.all, found.first.as_slice())
+    }
+
+    /// The numbers of the known targets that have a text. What is known is never changed, so they are looked at by and by.
+    fn matching(&self, text: &str) -> Result<Vec<TargetId>, AllocError> {
+        let mut numbers = Vec::new(self.alloc);
+        let times = self.known_count() / LOOKED_AT_ONCE + 1;
+        for time in 0..times {
+            let from = time.saturating_mul(LOOKED_AT_ONCE);
+            let more = self.matching_from(text, from)?;
+            numbers.extend_from_slice(more.as_slice())?;
+        }
+        Ok(numbers)
+    }
+
+    fn known_count(&self) -> usize {
+        let mut pass = self.pass.lock(&self.rt);
+        self.desk.read(
+            &self.rt,
+            &mut *pass,
+            |record| record.core().fleet().known().len(),
+        )
+    }
+
+    fn matching_from(&self, text: &str, from: usize) -> Result<Vec<TargetId>, AllocError> {
+        let mut pass = self.pass.lock(&self.rt);
+        self.desk.read(
+            &self.rt,
+            &mut *pass,
+            |record| matching(self.alloc, record.core(), text, from),
+        )
+    }
+
+    /// Those of these targets that are live, at one moment.
+    fn found_among(&self, numbers: &[TargetId]) -> Result<Found, AllocError>
+        ensures { IfOk result (λ f. length f.first ≤ MOST_FOUND) }
+    {
+        let mut pass = self.pass.lock(&self.rt);
+        self.desk.read(
+            &self.rt,
+            &mut *pass,
+            |record| found_of(self.alloc, record.core(), numbers),
+        )
+    }
+}

@@ -1,0 +1,100 @@
+//! What a service tells of its sources and of its last allocations.
+use lists::{Plain, Text};
+use std::alloc::{AllocError, Global};
+
+/// What is told of a discovery source.
+#[derive(Debug, Drop)]
+pub struct SourceNote {
+    pub job: Text,
+    /// The number of the source in its job, from 1.
+    pub number: u32,
+    pub refreshes: u64,
+    pub failures: u64,
+    /// When it last gave its list, in seconds since 1970. 0 where it gave none.
+    pub succeeded: u64,
+    /// When it was refreshed last, as a timestamp (RFC 3339). Empty where it was not.
+    pub at: Text,
+    /// Why the last refresh failed. Empty where it did not.
+    pub fault: Text,
+}
+
+/// What is told of a published allocation.
+#[derive(Debug, Drop)]
+pub struct AllocationNote {
+    pub number: u32,
+    /// When it was published, as a timestamp (RFC 3339).
+    pub at: Text,
+    /// How many targets somebody holds.
+    pub covered: u64,
+    /// How many targets another live collector held before.
+    pub moved: u64,
+    /// How many targets are left with a draining collector.
+    pub left: u64,
+    /// How long it took to find and publish, in milliseconds.
+    pub milliseconds: u64,
+}
+
+/// How many targets a collector is to hold, where loads are made even.
+#[derive(Clone, Copy, Debug)]
+pub struct LoadNote {
+    /// The collector's number.
+    pub collector: u32,
+    /// How many it holds where the loads are the most even. None where the search does not tell it.
+    pub even: Option<u64>,
+    /// How many it may hold by the last search.
+    pub cap: u64,
+}
+
+impl SourceNote {
+    ghost use Rattle.std.specs.Prelude.{◌≡◌};
+    ghost use Rattle.service_pages.specs.Counted.{fails};
+
+    /// What is told of a source that was not asked yet.
+    pub fn unasked(alloc: Global, job: Text, number: u32) -> SourceNote {
+        SourceNote {
+            job,
+            number,
+            refreshes: 0,
+            failures: 0,
+            succeeded: 0,
+            at: Text::from_string(String::new(alloc)),
+            fault: Text::from_string(String::new(alloc)),
+        }
+    }
+
+    pub fn copy(&self) -> Result<SourceNote, AllocError> {
+        let job = self.job.copy()?;
+        let at = self.at.copy()?;
+        let fault = self.fault.copy()?;
+        Ok(SourceNote {
+            job,
+            number: self.number,
+            refreshes: self.refreshes,
+            failures: self.failures,
+            succeeded: self.succeeded,
+            at,
+            fault,
+        })
+    }
+
+    /// Whether the last refresh failed.
+    pub(crate) fn fails(&self) -> bool
+        ensures { result ≡ fails self.now }
+    {
+        !self.fault.as_str().is_empty()
+    }
+}
+
+impl AllocationNote {
+    pub fn copy(&self) -> Result<AllocationNote, AllocError> {
+        let at = self.at.copy()?;
+        Ok(AllocationNote {
+            number: self.number,
+            at,
+            covered: self.covered,
+            moved: self.moved,
+            left: self.left,
+            milliseconds: self.milliseconds,
+        })
+    }
+}

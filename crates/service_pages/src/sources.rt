@@ -1,0 +1,70 @@
+//! The discovery sources: those that fail first.
+use crate::cells::{begin_bad_cell, begin_cell, end_cell, length_of_time, number_cell, text_cell};
+use crate::notes::SourceNote;
+use crate::standing::Standing;
+use hypertext::Hypertext;
+use std::alloc::AllocError;
+
+const HEAD: &str =
+    "<table id=\"sources\"><caption>Discovery sources</caption><thead><tr><th scope=\"col\">Source</th><th scope=\"col\">Asked</th><th scope=\"col\">Failed</th><th scope=\"col\">Last list</th><th scope=\"col\">Last refresh</th><th scope=\"col\">Last fault</th></tr></thead><tbody>\n";
+
+pub(crate) fn write_sources(
+    page: &mut Hypertext,
+    sources: &[SourceNote],
+    standing: &Standing,
+) -> Result<(), AllocError> {
+    page.markup(HEAD)?;
+    for source in sources {
+        if source.fails() {
+            write_source(page, source, standing)?;
+        }
+    }
+    for source in sources {
+        if !source.fails() {
+            write_source(page, source, standing)?;
+        }
+    }
+    page.markup("</tbody></table>\n")
+}
+
+fn write_source(
+    page: &mut Hypertext,
+    source: &SourceNote,
+    standing: &Standing,
+) -> Result<(), AllocError> {
+    page.markup("<tr><th scope=\"row\">")?;
+    page.text(source.job.as_str())?;
+    page.markup("/")?;
+    page.number(u128::from(source.number))?;
+    page.markup("</th>")?;
+    number_cell(page, "Asked", source.refreshes)?;
+    number_cell(page, "Failed", source.failures)?;
+    write_last_list(page, standing.seconds_since(source.succeeded))?;
+    text_cell(page, "Last refresh", source.at.as_str())?;
+    write_fault(page, source)?;
+    page.markup("</tr>\n")
+}
+
+fn write_last_list(page: &mut Hypertext, ago: Option<u64>) -> Result<(), AllocError> {
+    match ago {
+        Some(seconds) => {
+            begin_cell(page, "Last list")?;
+            length_of_time(page, seconds)?;
+            page.markup(" ago")?;
+        }
+        None => {
+            begin_bad_cell(page, "Last list")?;
+            page.markup("none yet")?;
+        }
+    }
+    end_cell(page)
+}
+
+fn write_fault(page: &mut Hypertext, source: &SourceNote) -> Result<(), AllocError> {
+    if !source.fails() {
+        return page.markup("<td></td>");
+    }
+    page.markup("<td class=\"bad long\" data-h=\"Last fault\">")?;
+    page.text(source.fault.as_str())?;
+    end_cell(page)
+}
