@@ -205,6 +205,7 @@ def page(folder):
     jobs = [static(odd, 3), static("n", 2, 9100), found]
     service = started(folder, jobs)
     has(service, 'allocd_targets_covered{job="found"}', 1)
+    comes(lambda: service.ask("GET", "/-/ready")[0] == 200, 20)
     look = lambda: Page(service.ask("GET", "/")[1])
     first = look()
     tell("what needs attention stands on top, and its title counts it", first.title == "allocd: 2 things need attention" and [re.sub(r"\d+$", "N", text) for text in first.bad()] == [
