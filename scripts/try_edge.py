@@ -3,7 +3,7 @@
 
 Where it listens and keeps its journal, each job's own rules, reloads with more sources, other orders and too many jobs, who is uncovered,
 names as text, the page and its links, what is counted, how long it took, what strangers send and don't send, answers to the byte, rounds over renewals and
-starts, sources that fall silent beside others, YAML, lists that are acknowledged, loads that are made even. It needs Linux and the program (ALLOCD_PROGRAM, or dist/allocd)."""
+starts, sources that fall silent beside others, YAML, entity tags, lists that are acknowledged, loads that are made even. It needs Linux and the program (ALLOCD_PROGRAM, or dist/allocd)."""
 
 import html.parser
 import http.client
@@ -508,14 +508,19 @@ def opens_after(service, journal):
     return changes_from(service, service.figure("allocd_round"))
 
 
-def headers_of(service, path, accept=None):
-    """The headers and the text of an answer."""
+def answer_of(service, path, headers):
+    """The status, the headers and the text of an answer."""
     it = http.client.HTTPConnection("127.0.0.1", service.port, timeout=30)
-    it.request("GET", path, headers={"accept": accept} if accept else {})
+    it.request("GET", path, headers=headers)
     answer = it.getresponse()
     text = answer.read().decode()
     it.close()
-    return answer.headers, text
+    return answer.status, answer.headers, text
+
+
+def headers_of(service, path, accept=None):
+    """The headers and the text of an answer."""
+    return answer_of(service, path, {"accept": accept} if accept else {})[1:]
 
 
 ROUND = 6
@@ -624,6 +629,30 @@ def own_of(groups):
     [own] = [group for group in groups if group["labels"]["__metrics_path__"] == "/acknowledged"]
     parameters = {label[len("__param_") :]: value for label, value in own["labels"].items() if label.startswith("__param_")}
     return own["targets"][0], parameters, own["labels"]["__scheme__"]
+
+
+def entity_tags(folder):
+    """A list that is the same is not sent again to who shows its tag."""
+    service = started(folder, [static("node", 4)])
+    has(service, "allocd_allocation", 1)
+    path = "/jobs/node/targets?collector_id=a"
+    shows = lambda tags: answer_of(service, path, {"if-none-match": tags})
+    tag = headers_of(service, f"{path}&take=false")[0]["etag"]
+    tell("a list has an entity tag", re.fullmatch('"[0-9a-f]{32}"', tag or "") is not None, tag)
+    status, headers, text = shows(tag)
+    tell("who shows it is told that the list is the same", (status, text, headers["etag"], headers["x-allocation-number"]) == (304, "", tag, "1"), (status, text, headers.items()))
+    tell("and has taken it", service.figure('allocd_collector_taken_allocation{collector="a"}') == 1)
+    tell("it may stand among others, and be weak", [shows(f'"x", W/{tag}')[0], shows(f'{tag},"y"')[0]] == [304, 304])
+    tell("another one is none", [shows(f'"x{tag[1:]}')[0], shows(tag.strip('"'))[0], shows('"x", "y"')[0]] == [200, 200, 200])
+    tell("as YAML it has none", (headers_of(service, path, "application/yaml")[0]["etag"], answer_of(service, path, {"accept": "application/yaml", "if-none-match": tag})[0]) == (None, 200))
+    reloaded(service, config([static("node", 4), static("other", 2, 9100)]))
+    has(service, 'allocd_targets_covered{job="other"}', 2)
+    tell("a change that is not of the list leaves its tag", shows(tag)[0] == 304 or shows(tag)[1]["etag"])
+    reloaded(service, config([static("node", 5), static("other", 2, 9100)]))
+    has(service, 'allocd_targets_covered{job="node"}', 5)
+    status, headers, text = shows(tag)
+    tell("another list has another one", (status, len(json.loads(text)), headers["etag"] != tag) == (200, 5, True), (status, headers["etag"], text))
+    ends(service)
 
 
 def acknowledge(folder):
@@ -797,5 +826,5 @@ def evens_in_turn(folder):
 SOURCE = http.server.ThreadingHTTPServer(("127.0.0.1", 0), Source)
 SOURCE.daemon_threads = True
 threading.Thread(target=SOURCE.serve_forever, daemon=True).start()
-PARTS = (settings, relabels, reloads, uncovered, texts, page, series, figures, talks, requests, held_rows, stalls, rounds, rounds_kept, silences, yaml, acknowledge, spreads, spreads_by_job, evens, evens_in_turn)
+PARTS = (settings, relabels, reloads, uncovered, texts, page, series, figures, talks, requests, held_rows, stalls, rounds, rounds_kept, silences, yaml, entity_tags, acknowledge, spreads, spreads_by_job, evens, evens_in_turn)
 run_parts(PARTS, sys.argv[1:])
