@@ -465,6 +465,21 @@ def requests(folder):
     service.it.wait(20)
 
 
+LIFECYCLES = ((True, 200, 200), (False, 403, 403), ({"reload": True, "quit": False}, 200, 403), ({"quit": True}, 403, 200), ({}, 403, 403))
+
+
+def lifecycles(folder):
+    for index, (lifecycle, reload, quit) in enumerate(LIFECYCLES):
+        inner = f"{folder}/{index}"
+        os.mkdir(inner)
+        service = started(inner, [static("n", 1)], lifecycle=lifecycle)
+        answered = [service.ask("POST", path)[0] for path in ("/-/reload", "/-/quit")]
+        tell(f"lifecycle {json.dumps(lifecycle)}: reload {reload}, quit {quit}", answered == [reload, quit], answered)
+        if quit != 200:
+            service.it.kill()
+        service.it.wait(20)
+
+
 def held_rows(folder):
     job = {"job_name": "j", "target_limit": 1, "static_configs": [{"targets": ["e1:9100"], "labels": {"zone": "east"}}]}
     service = started(folder, [job], collectors=[{"name": "h", "reach": ANY}], rejoin=False)
@@ -797,5 +812,5 @@ def evens_in_turn(folder):
 SOURCE = http.server.ThreadingHTTPServer(("127.0.0.1", 0), Source)
 SOURCE.daemon_threads = True
 threading.Thread(target=SOURCE.serve_forever, daemon=True).start()
-PARTS = (settings, relabels, reloads, uncovered, texts, page, series, figures, talks, requests, held_rows, stalls, rounds, rounds_kept, silences, yaml, acknowledge, spreads, spreads_by_job, evens, evens_in_turn)
+PARTS = (settings, relabels, reloads, uncovered, texts, page, series, figures, talks, requests, lifecycles, held_rows, stalls, rounds, rounds_kept, silences, yaml, acknowledge, spreads, spreads_by_job, evens, evens_in_turn)
 run_parts(PARTS, sys.argv[1:])

@@ -37,4 +37,5 @@ pub use open_round::{RoundStart, RoundTimes};
 pub use reloading::{Reloading, unanswered};
 pub use routes::Route;
 pub use service_pages::{AllocationNote, Figures, LoadNote, SourceNote};
+pub use service_settings::Lifecycle;
 pub use service_state::ServiceState;

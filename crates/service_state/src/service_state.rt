@@ -12,6 +12,7 @@ use crate::takers::Takers;
 use fleet_events::{Answer, CollectorId, TargetId};
 use lists::Text;
 use service_pages::{AllocationNote, LoadNote, SourceNote, Standing};
+use service_settings::Lifecycle;
 use std::alloc::{AllocError, Global};
 use std::sync::atomic::{AtomicBool, AtomicU64, Ordering};
 use std::sync::{Arc, Mutex, Wait};
@@ -20,8 +21,8 @@ use std::time::{Clock, Duration, Instant};
 /// What a service says of itself beside its desk. The threads of the service write it, and requests read it.
 #[derive(Drop)]
 pub struct ServiceState {
-    /// Whether a request may end the service.
-    has_lifecycle: bool,
+    /// What requests may do with the whole service.
+    lifecycle: Lifecycle,
     /// The program's version. Empty where nobody told it.
     version: &'static str,
     /// When it began, in seconds since 1970. 0 where nobody knows.
@@ -71,9 +72,9 @@ pub struct ServiceState {
 
 impl ServiceState {
     /// The state of a service that has tried none of so many sources.
-    pub fn new(alloc: Global, has_lifecycle: bool, sources: u64) -> ServiceState {
+    pub fn new(alloc: Global, lifecycle: Lifecycle, sources: u64) -> ServiceState {
         ServiceState {
-            has_lifecycle,
+            lifecycle,
             version: "",
             started: 0,
             is_quitting: AtomicBool::new(false),
@@ -125,15 +126,15 @@ impl ServiceState {
 
     /// The service is to end, where requests may say so. Says whether they may.
     pub fn quit(&self) -> bool {
-        if self.has_lifecycle {
+        if self.lifecycle.quit {
             self.is_quitting.store(true, Ordering::SeqCst);
         }
-        self.has_lifecycle
+        self.lifecycle.quit
     }
 
-    /// Whether a request may end the service, or have it read its configuration again.
-    pub fn has_lifecycle(&self) -> bool {
-        self.has_lifecycle
+    /// Whether a request may have the service read its configuration again.
+    pub fn may_reload(&self) -> bool {
+        self.lifecycle.reload
     }
 
     /// How requests have the configuration read again.
