@@ -6,6 +6,7 @@ mod configuration;
 mod descriptors;
 mod documents;
 mod doors;
+mod left_out;
 mod listening;
 mod not_followed;
 mod running;

@@ -36,6 +36,6 @@ pub use notes::Notes;
 pub use open_round::{RoundStart, RoundTimes};
 pub use reloading::{Reloading, unanswered};
 pub use routes::Route;
-pub use service_pages::{AllocationNote, Figures, LoadNote, SourceNote};
+pub use service_pages::{AllocationNote, Figures, ListCounts, LoadNote, SourceNote};
 pub use service_settings::Lifecycle;
 pub use service_state::ServiceState;

@@ -7,7 +7,7 @@ use crate::service_state::ServiceState;
 use exposition::{Exposition, Kind};
 use fleet_events::CollectorId;
 use lists::Text;
-use service_pages::{CollectorFigures, Figures, JobFigures, LoadNote, SourceNote};
+use service_pages::{CollectorFigures, Figures, JobFigures, ListCounts, LoadNote, SourceNote};
 use std::alloc::{AllocError, Global};
 
 /// The metrics of a service, in the text exposition format.
@@ -474,7 +474,8 @@ fn write_sources(
         let said = name_of(alloc, source)?;
         page.labelled_sample(name, "source", said.as_str(), u128::from(source.failures))?;
     }
-    write_last_successes(page, alloc, sources)
+    write_last_successes(page, alloc, sources)?;
+    write_last_lists(page, alloc, sources)
 }
 
 fn write_last_successes(
@@ -489,12 +490,67 @@ fn write_last_successes(
         "When the discovery source last gave its list, in seconds since 1970, or 0.",
     )?;
     for source in sources {
-        let said = name_of(alloc, source)?;
-        let job = source.job.as_str();
-        let seconds = u128::from(source.succeeded);
-        page.twice_labelled_sample(name, "job", job, "source", said.as_str(), seconds)?;
+        write_count(page, alloc, name, source, source.succeeded)?;
     }
     Ok(())
+}
+
+/// What the last list of each source has, and what is left out of it.
+fn write_last_lists(
+    page: &mut Exposition,
+    alloc: Global,
+    sources: &[SourceNote],
+) -> Result<(), AllocError> {
+    let name = "allocd_source_targets";
+    page.family(
+        name,
+        Kind::Gauge,
+        "Targets that the last list of the discovery source has.",
+    )?;
+    for source in sources {
+        write_count(page, alloc, name, source, counts_of(source).targets)?;
+    }
+    let name = "allocd_source_targets_dropped";
+    page.family(
+        name,
+        Kind::Gauge,
+        "Targets that a relabelling rule leaves out of the last list of the discovery source.",
+    )?;
+    for source in sources {
+        write_count(page, alloc, name, source, counts_of(source).dropped)?;
+    }
+    let name = "allocd_source_targets_without_address";
+    page.family(
+        name,
+        Kind::Gauge,
+        "Targets that are left out of the last list of the discovery source, since they have no address.",
+    )?;
+    for source in sources {
+        write_count(page, alloc, name, source, counts_of(source).without_address)?;
+    }
+    Ok(())
+}
+
+/// What the last list of a source has: nothing where it gave none.
+fn counts_of(source: &SourceNote) -> ListCounts {
+    source.counts.unwrap_or(ListCounts {
+        targets: 0,
+        dropped: 0,
+        without_address: 0,
+    })
+}
+
+/// A count of a source.
+fn write_count(
+    page: &mut Exposition,
+    alloc: Global,
+    name: &str,
+    source: &SourceNote,
+    count: u64,
+) -> Result<(), AllocError> {
+    let said = name_of(alloc, source)?;
+    let job = source.job.as_str();
+    page.twice_labelled_sample(name, "job", job, "source", said.as_str(), u128::from(count))
 }
 
 /// A source by its job and its number.

@@ -61,6 +61,7 @@ impl Notes {
                 note.succeeded = note.succeeded.max(refresh.succeeded);
                 note.at = refresh.at;
                 note.fault = refresh.fault;
+                note.counts = refresh.counts.or(note.counts);
                 return Ok(());
             }
         }

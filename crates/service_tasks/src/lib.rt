@@ -38,6 +38,7 @@ mod sighting;
 mod source;
 mod sources;
 
+pub use beginning::found_in_static_groups;
 pub use configuration::Configuration;
 pub use control::Ending;
 pub use crew::Crew;
