@@ -32,11 +32,15 @@ fn tell_of_job(
     let all = found.targets.len().saturating_add(dropped);
     let all = all.saturating_add(without);
     if dropped > 0 {
-        let line = format!(in alloc; "{way}: of its {all} static targets rules leave out {dropped}\n")?;
+        let line = format!(in alloc;
+            "{way}: of its {all} static targets rules leave out {dropped}\n"
+        )?;
         lines.push_str(line.as_str())?;
     }
     if without > 0 {
-        let line = format!(in alloc; "{way}: of its {all} static targets {without} have no address\n")?;
+        let line = format!(in alloc;
+            "{way}: of its {all} static targets {without} have no address\n"
+        )?;
         lines.push_str(line.as_str())?;
     }
     Ok(())

@@ -6,6 +6,7 @@ use crate::kinds::EventKind;
 use crate::names::Names;
 use crate::notes::Notes;
 use crate::open_round::{OpenRound, RoundStart, RoundTimes};
+use crate::process_figures::ProcessFigures;
 use crate::reloading::Reloading;
 use crate::routes::Route;
 use crate::takers::Takers;
@@ -433,6 +434,17 @@ impl ServiceState {
     pub fn count_search<R: Wait + Clock>(&self, rt: &R, begun: Option<Instant>) {
         let microseconds = microseconds_since(rt, begun);
         self.notes.lock(rt).searches.observe(microseconds);
+    }
+
+    /// Writing to the journal, which began then, is over.
+    pub fn count_write<R: Wait + Clock>(&self, rt: &R, begun: Option<Instant>) {
+        let microseconds = microseconds_since(rt, begun);
+        self.notes.lock(rt).writes.observe(microseconds);
+    }
+
+    /// The machine says this of the process.
+    pub fn note_process(&self, rt: &impl Wait, figures: ProcessFigures) {
+        self.notes.lock(rt).process = figures;
     }
 
     /// Other sources are refreshed from now on.

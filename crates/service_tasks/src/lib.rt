@@ -24,6 +24,7 @@ mod letting_go;
 mod logging;
 mod office;
 mod patience;
+mod process;
 mod publishing;
 mod reallocating;
 mod refreshing;

@@ -20,10 +20,7 @@ pub struct Lifecycle {
 }
 
 /// Neither, where it is left out.
-pub(crate) fn lifecycle_in(
-    alloc: Global,
-    found: Option<&Value>,
-) -> Result<Lifecycle, SettingsError>
+pub(crate) fn lifecycle_in(alloc: Global, found: Option<&Value>) -> Result<Lifecycle, SettingsError>
     ensures { Gives (λ l. l) result (lifecycle_said (option_map (λ v. view v.now) found.entry)) }
 {
     match found {
