@@ -22,6 +22,6 @@ mod standing;
 pub use counted::Counted;
 pub use figures::{CollectorFigures, Figures, JobFigures, ShareFigures};
 pub use needs::{Need, count_needs};
-pub use notes::{AllocationNote, LoadNote, SourceNote};
+pub use notes::{AllocationNote, ListCounts, LoadNote, SourceNote};
 pub use page::{Shown, status_page};
 pub use standing::Standing;
