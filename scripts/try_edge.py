@@ -3,7 +3,7 @@
 
 Where it listens and keeps its journal, each job's own rules, reloads with more sources, other orders and too many jobs, who is uncovered,
 names as text, the page and its links, what is counted, how long it took, what strangers send and don't send, answers to the byte, rounds over renewals and
-starts, sources that fall silent beside others, YAML, lists that are acknowledged, loads that are made even. It needs Linux and the program (ALLOCD_PROGRAM, or dist/allocd)."""
+starts, sources that fall silent beside others, YAML, entity tags, lists that are acknowledged, loads that are made even. It needs Linux and the program (ALLOCD_PROGRAM, or dist/allocd)."""
 
 import html.parser
 import http.client
@@ -101,6 +101,13 @@ def relabels(folder):
     labels = lambda job: {group["labels"].get("by") for group in json.loads(service.ask("GET", f"/jobs/{job}/targets?collector_id=a")[1])}
     tell("static targets and discovered ones have the labels of their own job's rules", (labels("one"), labels("two")) == ({"first"}, {"second"}))
     tell("what a rule drops is not there", held(service, "three") == ["127.0.0.1:7002"])
+    of = lambda job: tuple(service.figure(f'allocd_source_targets{what}{{job="{job}",source="{job}/1"}}') for what in ("", "_dropped", "_without_address"))
+    tell("the figures say how many a source lists, and how many rules leave out", (of("two"), of("three")) == ((2, 0, 0), (1, 1, 0)), (of("two"), of("three")))
+    Source.lists["/rules"] = ["127.0.0.1:7001", "127.0.0.1:7003"]
+    bare = {"target_label": "__address__", "source_labels": ["__address__"], "regex": ".*:7003", "replacement": ""}
+    reloaded(service, config([*jobs, {"job_name": "three", **found, "relabel_configs": [*drops, bare]}, {"job_name": "four", "http_sd_configs": [url("/none", port=1)]}]))
+    tell("and how many have no address then", comes(lambda: of("three") == (0, 1, 1), 20), of("three"))
+    tell("nothing where a source gave no list", of("four") == (0, 0, 0), of("four"))
     ends(service)
 
 
@@ -302,6 +309,7 @@ COUNTED = {
     'allocd_http_requests_total{route="POST /reports",status="409"}': 1,
     'allocd_http_requests_total{route="none",status="404"}': 1,
     "allocd_samples_booked_total": 7,
+    'allocd_targets_taken{job="n"}': 4,
     'allocd_collector_targets{collector="a"}': 4,
     'allocd_collector_targets{collector="b"}': 0,
     'allocd_collector_draining{collector="a"}': 0,
@@ -309,7 +317,78 @@ COUNTED = {
     'allocd_collector_taken_allocation{collector="b"}': 0,
     "allocd_journal_broken": 0,
 }
+PROCESS = ("resident_memory_bytes", "virtual_memory_bytes", "cpu_seconds_total", "open_fds", "max_fds")
 READ_ONLY = ("/", "/jobs", "/scrape_configs", "/jobs/n/targets", "/jobs/n/uncovered", "/certificate", "/-/healthy", "/-/ready", "/metrics", "/nothing")
+
+
+def kernel_says(pid):
+    """What Linux says of a process, in the order of PROCESS."""
+    with open(f"/proc/{pid}/status") as it:
+        status = dict(line.split(":", 1) for line in it)
+    with open(f"/proc/{pid}/stat") as it:
+        fields = it.read().rpartition(")")[2].split()
+    with open(f"/proc/{pid}/limits") as it:
+        most = next(int(line.split()[3]) for line in it if line.startswith("Max open files"))
+    kilobytes = lambda name: 1024 * int(status[name].split()[0])
+    ticks = (int(fields[11]) + int(fields[12])) / os.sysconf("SC_CLK_TCK")
+    return kilobytes("VmRSS"), kilobytes("VmSize"), ticks, len(os.listdir(f"/proc/{pid}/fd")), most
+
+
+def process(folder):
+    service = started(folder, [static("n", 4)])
+    text = service.ask("GET", "/metrics")[1]
+    tell("a histogram of the journal's writes is there from the start", durations_in(text, "allocd_journal_write_duration_seconds")[0][:-1] == OWN_BOUNDS)
+    has(service, "allocd_allocation", 1)
+    written = lambda: durations_in(service.ask("GET", "/metrics")[1], "allocd_journal_write_duration_seconds")
+    _, counts, total, count = written()
+    tell("it counts the writes, and how long they took", count == counts[-1] > 0 and 0 < total < 60, (counts, total))
+    service.ask("POST", "/collectors", {"name": "c", "reach": ANY})
+    tell("one more where something is entered", comes(lambda: written()[3] > count, 5))
+    time.sleep(6)
+    told = [re.search(rf"^process_{name} (\S+)$", service.ask("GET", "/metrics")[1], re.M) for name in PROCESS]
+    told, says = [one and float(one[1]) for one in told], kernel_says(service.it.pid)
+    near = lambda a, b: a is not None and abs(a - b) <= max(a, b) / 4
+    tell("memory is what Linux says", near(told[0], says[0]) and near(told[1], says[1]), (told, says))
+    tell("so are the time of processors and the descriptors", 0 < told[2] <= says[2] and abs(told[3] - says[3]) <= 8 and told[4] == says[4], (told, says))
+    ends(service)
+    inner = f"{folder}/none"
+    os.mkdir(inner)
+    service = Service(inner, config([static("n", 4)]))
+    service.is_up()
+    has(service, "allocd_allocation", 1)
+    _, counts, total, count = durations_in(service.ask("GET", "/metrics")[1], "allocd_journal_write_duration_seconds")
+    tell("nothing is written where there is no journal", (set(counts), total, count) == ({0}, 0, 0), (counts, total, count))
+    ends(service)
+
+
+def takes(folder):
+    collectors = [{"name": name, "reach": ANY} for name in "ab"]
+    for handover in ("ordered", "free"):
+        inner = f"{folder}/{handover}"
+        os.mkdir(inner)
+        service = started(inner, [static("n", 4), static("m", 2, 9500)], collectors=collectors, handover=handover)
+        has(service, "allocd_allocation", 1)
+        taken = lambda: tuple(service.figure(f'allocd_targets_taken{{job="{job}"}}') for job in "nm")
+        given = lambda: tuple(service.figure(f'allocd_targets_covered{{job="{job}"}}') for job in "nm")
+        tell(f"{handover}: what is given is not taken before lists are asked for", (given(), taken()) == ((4, 2), (0, 0)), (given(), taken()))
+        ask_both = lambda jobs: [held(service, job, name) for job in jobs for name in "ab"]
+        ask_both("n")
+        tell(f"{handover}: then it is, job by job where lists are served in order", taken() == ((4, 0) if handover == "ordered" else (4, 2)), taken())
+        ask_both("m")
+        tell(f"{handover}: and all of it once all lists are", taken() == (4, 2), taken())
+        reloaded(service, config([static("n", 5), static("m", 2, 9500)], collectors=collectors, handover=handover))
+        has(service, 'allocd_targets_covered{job="n"}', 5)
+        tell(f"{handover}: what came since is not", (given(), taken()) == ((5, 2), (4, 2)), (given(), taken()))
+        ask_both("nm")
+        tell(f"{handover}: until lists are asked for again", taken() == (5, 2), taken())
+        service.ask("POST", "/collectors/1/drain", {})
+        has(service, 'allocd_collector_targets{collector="a"}', 0)
+        moved = 7 - sum(taken())
+        tell(f"{handover}: what moved is not", 0 < moved < 7 and given() == (5, 2), taken())
+        ask_both("nm")
+        ask_both("nm")
+        tell(f"{handover}: until its new collector has it", taken() == (5, 2), taken())
+        ends(service)
 
 
 def figures(folder):
@@ -465,6 +544,21 @@ def requests(folder):
     service.it.wait(20)
 
 
+LIFECYCLES = ((True, 200, 200), (False, 403, 403), ({"reload": True, "quit": False}, 200, 403), ({"quit": True}, 403, 200), ({}, 403, 403))
+
+
+def lifecycles(folder):
+    for index, (lifecycle, reload, quit) in enumerate(LIFECYCLES):
+        inner = f"{folder}/{index}"
+        os.mkdir(inner)
+        service = started(inner, [static("n", 1)], lifecycle=lifecycle)
+        answered = [service.ask("POST", path)[0] for path in ("/-/reload", "/-/quit")]
+        tell(f"lifecycle {json.dumps(lifecycle)}: reload {reload}, quit {quit}", answered == [reload, quit], answered)
+        if quit != 200:
+            service.it.kill()
+        service.it.wait(20)
+
+
 def held_rows(folder):
     job = {"job_name": "j", "target_limit": 1, "static_configs": [{"targets": ["e1:9100"], "labels": {"zone": "east"}}]}
     service = started(folder, [job], collectors=[{"name": "h", "reach": ANY}], rejoin=False)
@@ -508,14 +602,19 @@ def opens_after(service, journal):
     return changes_from(service, service.figure("allocd_round"))
 
 
-def headers_of(service, path, accept=None):
-    """The headers and the text of an answer."""
+def answer_of(service, path, headers):
+    """The status, the headers and the text of an answer."""
     it = http.client.HTTPConnection("127.0.0.1", service.port, timeout=30)
-    it.request("GET", path, headers={"accept": accept} if accept else {})
+    it.request("GET", path, headers=headers)
     answer = it.getresponse()
     text = answer.read().decode()
     it.close()
-    return answer.headers, text
+    return answer.status, answer.headers, text
+
+
+def headers_of(service, path, accept=None):
+    """The headers and the text of an answer."""
+    return answer_of(service, path, {"accept": accept} if accept else {})[1:]
 
 
 ROUND = 6
@@ -624,6 +723,30 @@ def own_of(groups):
     [own] = [group for group in groups if group["labels"]["__metrics_path__"] == "/acknowledged"]
     parameters = {label[len("__param_") :]: value for label, value in own["labels"].items() if label.startswith("__param_")}
     return own["targets"][0], parameters, own["labels"]["__scheme__"]
+
+
+def entity_tags(folder):
+    """A list that is the same is not sent again to who shows its tag."""
+    service = started(folder, [static("node", 4)])
+    has(service, "allocd_allocation", 1)
+    path = "/jobs/node/targets?collector_id=a"
+    shows = lambda tags: answer_of(service, path, {"if-none-match": tags})
+    tag = headers_of(service, f"{path}&take=false")[0]["etag"]
+    tell("a list has an entity tag", re.fullmatch('"[0-9a-f]{32}"', tag or "") is not None, tag)
+    status, headers, text = shows(tag)
+    tell("who shows it is told that the list is the same", (status, text, headers["etag"], headers["x-allocation-number"]) == (304, "", tag, "1"), (status, text, headers.items()))
+    tell("and has taken it", service.figure('allocd_collector_taken_allocation{collector="a"}') == 1)
+    tell("it may stand among others, and be weak", [shows(f'"x", W/{tag}')[0], shows(f'{tag},"y"')[0]] == [304, 304])
+    tell("another one is none", [shows(f'"x{tag[1:]}')[0], shows(tag.strip('"'))[0], shows('"x", "y"')[0]] == [200, 200, 200])
+    tell("as YAML it has none", (headers_of(service, path, "application/yaml")[0]["etag"], answer_of(service, path, {"accept": "application/yaml", "if-none-match": tag})[0]) == (None, 200))
+    reloaded(service, config([static("node", 4), static("other", 2, 9100)]))
+    has(service, 'allocd_targets_covered{job="other"}', 2)
+    tell("a change that is not of the list leaves its tag", shows(tag)[0] == 304 or shows(tag)[1]["etag"])
+    reloaded(service, config([static("node", 5), static("other", 2, 9100)]))
+    has(service, 'allocd_targets_covered{job="node"}', 5)
+    status, headers, text = shows(tag)
+    tell("another list has another one", (status, len(json.loads(text)), headers["etag"] != tag) == (200, 5, True), (status, headers["etag"], text))
+    ends(service)
 
 
 def acknowledge(folder):
@@ -797,5 +920,5 @@ def evens_in_turn(folder):
 SOURCE = http.server.ThreadingHTTPServer(("127.0.0.1", 0), Source)
 SOURCE.daemon_threads = True
 threading.Thread(target=SOURCE.serve_forever, daemon=True).start()
-PARTS = (settings, relabels, reloads, uncovered, texts, page, series, figures, talks, requests, held_rows, stalls, rounds, rounds_kept, silences, yaml, acknowledge, spreads, spreads_by_job, evens, evens_in_turn)
+PARTS = (settings, relabels, reloads, uncovered, texts, page, series, figures, process, takes, talks, requests, lifecycles, held_rows, stalls, rounds, rounds_kept, silences, yaml, entity_tags, acknowledge, spreads, spreads_by_job, evens, evens_in_turn)
 run_parts(PARTS, sys.argv[1:])

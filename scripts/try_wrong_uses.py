@@ -221,7 +221,8 @@ ROWS = [
     config("a limit of a job that is not there", collector(limits={"web": 1}), "allocator\\.collectors\\[0\\]\\.limits.*web"),
     config("a collector of an earlier one's name", settings(collectors=[{"name": "a", "reach": ANY}] * 2),
            "allocator\\.collectors\\[1\\]\\.name: the name of an earlier collector"),
-    config("a text where true or false belongs", settings(lifecycle="true"), "allocator\\.lifecycle: neither true nor false"),
+    config("a text where true or false belongs", settings(lifecycle="true"), "allocator\\.lifecycle: neither true nor false nor an object"),
+    config("a misspelt part of the lifecycle", settings(lifecycle={"relaod": True}), "allocator\\.lifecycle\\.relaod: unknown member"),
     said_at_start("no journal", GOOD, "level=warn.*journal"),
     # The journal's path; what is lost there is in try_losses.py.
     command("a journal in a folder that is not there", [*SERVE, "--listen", f"127.0.0.1:{free_port()}", "--journal", "none/journal"], 'journal="none/journal"', status=3),

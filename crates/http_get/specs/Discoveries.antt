@@ -12,6 +12,7 @@ use Rattle.relabel.specs.declared.rule.RuleSettings.{RuleSettings}
 use Rattle.relabel.specs.Discovering.{discovered}
 use Rattle.fleet_events.specs.declared.event.Event.{Event}
 use Rattle.fleet_events.specs.declared.event.Event.TheVariants.{Discover}
+use Rattle.http_get.specs.declared.discovery.Listing.{Listing}
 use Rattle.http_get.specs.declared.reply.Reply.{Reply}
 use Rattle.http_get.specs.declared.reply.FetchFault.{FetchFault}
 use Rattle.http_get.specs.declared.reply.FetchFault.TheVariants as fault
@@ -41,17 +42,30 @@ or_document (Err fault) = Err (Document fault)
 abbrev pub groups_said : List ℕ → Result (List Group) RefreshError
 groups_said body = or_document (groups_read body)
 
+-- the groups of an answer: the status is looked at first, then the media type, then the body
+abbrev pub groups_answered : Reply → Result (List Group) RefreshError
+groups_answered reply =
+    if reply.status == 200 then (if is_json reply.media then groups_said reply.body else Err Media)
+    else Err (Status reply.status)
+
 module _ (job : Job) (rules : List RuleSettings) (source : ℕ) where
   -- the source lists the final targets of the groups, in order
   abbrev pub discover_event : List Group → Event
   discover_event groups = Discover job.name source (discovered rules job source groups).targets
 
-  -- the status is looked at first, then the media type, then the body
   abbrev pub found_said : Reply → Result Event RefreshError
-  found_said reply =
-      if reply.status == 200
-      then (if is_json reply.media then (groups_said reply.body >>= λ groups. Ok (discover_event groups)) else Err Media)
-      else Err (Status reply.status)
+  found_said reply = groups_answered reply >>= λ groups. Ok (discover_event groups)
+
+  -- with how many targets of the groups a rule drops, and how many have no address after the rules
+  abbrev pub listing : List Group → Listing
+  listing groups = record {
+    event = discover_event groups;
+    dropped = (discovered rules job source groups).dropped;
+    no_address = (discovered rules job source groups).no_address;
+  }
+
+  abbrev pub listed_said : Reply → Result Listing RefreshError
+  listed_said reply = groups_answered reply >>= λ groups. Ok (listing groups)
 
 -- a fetch that brought no answer
 abbrev pub unanswered : FetchFault → RefreshError

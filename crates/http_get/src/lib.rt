@@ -24,7 +24,7 @@ mod url;
 
 pub use address::{DEFAULT_PORT, address_of};
 pub use cause::Cause;
-pub use discovery::found;
+pub use discovery::{Listing, found, listed};
 pub use error::RefreshError;
 pub use fetches::{Asker, FetchSeveral, Next};
 pub use get::Get;

@@ -314,7 +314,7 @@ impl<R: Wait + Clock + Copy, L: Ledger, B: Ledger, N: DeskName> Handler<R, L, B,
     fn reload(&self) -> Entry
         ensures { Leads SaysReload result }
     {
-        if !self.state.has_lifecycle() {
+        if !self.state.may_reload() {
             return Entry::Now(Said::Notice(Notice::NoLifecycle));
         }
         match self.state.reloading().ask(&self.rt) {

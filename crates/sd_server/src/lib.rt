@@ -18,6 +18,7 @@ mod keeping;
 mod list_text;
 mod list_texts;
 mod look;
+mod manner;
 mod one_by_one;
 mod reply;
 mod service;

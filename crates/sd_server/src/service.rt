@@ -13,9 +13,8 @@ ghost use Rattle.sd_routes.specs.declared.responding.Said.TheVariants.{Refused};
 
 use crate::entry::Entry;
 use crate::handler::Handler;
+use crate::manner::Manner;
 use crate::reply::Reply;
-use crate::yaml::wants_yaml;
-use admission::has_body;
 use alloc_desk::DeskName;
 use bytes::Bytes;
 use http::request::Parts;
@@ -91,7 +90,7 @@ impl<R: Wait + Clock + Copy, L: Ledger, B: Ledger, N: DeskName> AllocatorService
         ensures says { (said : Said) → MaySay result.stage said → said ≡ Refused Memory }
     {
         let entry = Entry::Now(Said::Refused(RequestError::Memory));
-        Reply::of(self.handler.alloc, None, entry, true, false)
+        Reply::of(self.handler.alloc, None, entry, Manner::plain(true))
     }
 
     fn begin_with(&self, ask: Ask) -> Begun
@@ -123,9 +122,7 @@ impl<R: Wait + Clock + Copy + Drop, L: Ledger, B: Ledger, N: DeskName, I: Drop> 
         match self.begin(&head) {
             Begun::Told(entry, route) => {
                 let counter = self.handler.counter(route, begun);
-                let fields = &head.headers;
-                let alloc = self.handler.alloc;
-                Reply::of(alloc, counter, entry, has_body(fields), wants_yaml(fields))
+                Reply::of(self.handler.alloc, counter, entry, Manner::of(&head.headers))
             }
             Begun::Reads(ask) => match self.handler.another() {
                 Ok(handler) => Reply::to(handler, ask, body),

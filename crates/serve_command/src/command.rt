@@ -12,6 +12,7 @@ use journal_files::{Fault, is_same_file};
 use log::error;
 use log_queue::LogQueue;
 use logfmt::Logfmt;
+use sd_documents::Job;
 use service_tasks::Service;
 use std::alloc::{AllocError, AllocGlobal, Global};
 use std::fs::File;
@@ -168,7 +169,9 @@ where
 {
     let mut service = service;
     match places_of(rt, options, &mut service) {
-        Ok(_) if options.check_config => tell_valid(rt, options.config, document),
+        Ok(_) if options.check_config => {
+            tell_valid(rt, options.config, document, service.jobs())
+        }
         Ok((here, journal)) => serve_at(rt, host, options, document, service, here, journal),
         Err(fault) => Err(fault),
     }
@@ -190,8 +193,13 @@ fn places_of<R: Files<File = File> + AllocGlobal>(
     }
 }
 
-fn tell_valid<R: Print + AllocGlobal>(rt: &R, path: &str, document: &[u8]) -> Result<(), Fault> {
-    let valid = told_valid(rt.alloc(), path, document)?;
+fn tell_valid<R: Print + AllocGlobal>(
+    rt: &R,
+    path: &str,
+    document: &[u8],
+    jobs: &[Job],
+) -> Result<(), Fault> {
+    let valid = told_valid(rt.alloc(), path, document, jobs)?;
     written(rt, valid.as_str())
 }
 

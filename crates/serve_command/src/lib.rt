@@ -6,8 +6,11 @@ mod configuration;
 mod descriptors;
 mod documents;
 mod doors;
+mod kernel_texts;
+mod left_out;
 mod listening;
 mod not_followed;
+mod process;
 mod running;
 mod standard_streams;
 

@@ -30,7 +30,7 @@ pub use figures::{CollectorFigures, Figures, JobFigures, ShareFigures};
 pub use job_page::{JobShare, ShownJob, job_document};
 pub use moment::Moment;
 pub use needs::{Need, count_needs};
-pub use notes::{AllocationNote, LoadNote, SourceNote};
+pub use notes::{AllocationNote, ListCounts, LoadNote, SourceNote};
 pub use page::{Shown, status_page};
 pub use standing::Standing;
 pub use targets::{Keeper, MOST_ROWS, Rows, TargetRow};

@@ -24,6 +24,7 @@ mod letting_go;
 mod logging;
 mod office;
 mod patience;
+mod process;
 mod publishing;
 mod reallocating;
 mod refreshing;
@@ -38,6 +39,7 @@ mod sighting;
 mod source;
 mod sources;
 
+pub use beginning::found_in_static_groups;
 pub use configuration::Configuration;
 pub use control::Ending;
 pub use crew::Crew;

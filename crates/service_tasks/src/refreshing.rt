@@ -6,14 +6,15 @@ use crate::sources::Sources;
 use alloc_desk::{DeskName, Pass};
 use fleet_events::{Answer, Event};
 use http_get::{
-    Asker, Cause, FetchFault, FetchSeveral, Get, Next, RefreshError, Reply, get_of_source, heard,
+    Asker, Cause, FetchFault, FetchSeveral, Get, Listing, Next, RefreshError, Reply, get_of_source,
+    heard,
 };
 use lists::{List, Plain, Text};
 use log::warn;
 use logfmt::{Logfmt, Quoted, timestamp};
 use relabel::Rules;
 use sd_documents::Job;
-use service_state::SourceNote;
+use service_state::{ListCounts, SourceNote};
 use std::alloc::{AllocError, Global};
 use std::io;
 use std::sync::atomic::Ordering;
@@ -152,7 +153,10 @@ impl<R: Wait + Clock + Eprint + Copy, L: Ledger, B: Ledger, N: DeskName> Shared<
         let list = self.list_of(job, number, &fetched);
         self.tell(job, number, &list, cause);
         match list {
-            Ok(event) => self.submit_news(pass, job.name.as_str(), &mut source.listed, event),
+            Ok(listing) => {
+                let listed = &mut source.listed;
+                self.submit_news(pass, job.name.as_str(), listed, listing.event);
+            }
             Err(_told) => {}
         }
     }
@@ -162,7 +166,7 @@ impl<R: Wait + Clock + Eprint + Copy, L: Ledger, B: Ledger, N: DeskName> Shared<
         &self,
         job: &Job,
         number: u32,
-        list: &Result<Event, RefreshError>,
+        list: &Result<Listing, RefreshError>,
         cause: Option<Cause>,
     ) {
         if list.is_err() {
@@ -175,7 +179,7 @@ impl<R: Wait + Clock + Eprint + Copy, L: Ledger, B: Ledger, N: DeskName> Shared<
         if list.is_err() {
             self.log_failure(job, number, fault.as_str());
         }
-        self.note_refresh(job, number, list.is_ok(), fault);
+        self.note_refresh(job, number, counts_in(list), fault);
     }
 
     fn log_failure(&self, job: &Job, number: u32, fault: &str) {
@@ -185,8 +189,8 @@ impl<R: Wait + Clock + Eprint + Copy, L: Ledger, B: Ledger, N: DeskName> Shared<
     }
 
     /// Notes for those who look at the service how a refresh ended.
-    fn note_refresh(&self, job: &Job, number: u32, is_listed: bool, fault: Text) {
-        let Ok(note) = self.note_of(job, number, is_listed, fault) else {
+    fn note_refresh(&self, job: &Job, number: u32, counts: Option<ListCounts>, fault: Text) {
+        let Ok(note) = self.note_of(job, number, counts, fault) else {
             return;
         };
         if self.state.note_refresh(&self.rt, note).is_err() {
@@ -198,9 +202,10 @@ impl<R: Wait + Clock + Eprint + Copy, L: Ledger, B: Ledger, N: DeskName> Shared<
         &self,
         job: &Job,
         number: u32,
-        is_listed: bool,
+        counts: Option<ListCounts>,
         fault: Text,
     ) -> Result<SourceNote, AllocError> {
+        let is_listed = counts.is_some();
         let job = job.name.copy()?;
         let at = timestamp(&self.rt, self.alloc).ok_or(AllocError)?;
         Ok(SourceNote {
@@ -211,6 +216,7 @@ impl<R: Wait + Clock + Eprint + Copy, L: Ledger, B: Ledger, N: DeskName> Shared<
             succeeded: if is_listed { self.seconds_now() } else { 0 },
             at: Text::from_string(at),
             fault,
+            counts,
         })
     }
 
@@ -228,7 +234,7 @@ impl<R: Wait + Clock + Eprint + Copy, L: Ledger, B: Ledger, N: DeskName> Shared<
         job: &Job,
         number: u32,
         fetched: &Result<Reply, FetchFault>,
-    ) -> Result<Event, RefreshError> {
+    ) -> Result<Listing, RefreshError> {
         match Rules::read(self.alloc, job.rules.as_slice()) {
             Ok(rules) => heard(self.alloc, job, &rules, number, fetched),
             Err(_) => Err(RefreshError::Memory),
@@ -272,7 +278,7 @@ fn with_fault(fetched: Result<Reply, Cause>) -> Result<Reply, FetchFault> {
 /// Why a source gave no list, in words. Empty where it gave one.
 fn fault_in(
     alloc: Global,
-    list: &Result<Event, RefreshError>,
+    list: &Result<Listing, RefreshError>,
     cause: Option<Cause>,
 ) -> Result<Text, AllocError> {
     match (list, cause) {
@@ -288,6 +294,18 @@ fn url_of(job: &Job, number: u32) -> &str {
     match job.http_urls.as_slice().get(index) {
         Some(url) => url.as_str(),
         None => "",
+    }
+}
+
+/// What a list has, where there is one.
+fn counts_in(list: &Result<Listing, RefreshError>) -> Option<ListCounts> {
+    match list {
+        Ok(listing) => Some(ListCounts {
+            targets: targets_in(&listing.event),
+            dropped: listing.dropped as u64,
+            without_address: listing.no_address as u64,
+        }),
+        Err(_) => None,
     }
 }
 
