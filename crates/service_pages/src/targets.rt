@@ -92,12 +92,25 @@ fn write_row(page: &mut Hypertext, row: &TargetRow, beside: Beside) -> Result<()
     page.markup("</th>")?;
     match beside {
         Beside::Keeper => write_keeper(page, &row.keeper)?,
-        Beside::Job => text_cell(page, "Job", row.job.as_str())?,
+        Beside::Job => write_job(page, row)?,
     }
     write_number(page, "Since allocation", row.since)?;
     write_number(page, "Last report in round", row.last_round)?;
     write_labels(page, row.labels.as_slice())?;
     page.markup("</tr>\n")
+}
+
+/// Its job, and whether the list of its collector has it.
+fn write_job(page: &mut Hypertext, row: &TargetRow) -> Result<(), AllocError> {
+    match row.keeper {
+        Keeper::Awaits(_, _) => {
+            begin_bad_cell(page, "Job")?;
+            page.text(row.job.as_str())?;
+            page.markup(", once another list lets it go")?;
+            end_cell(page)
+        }
+        _ => text_cell(page, "Job", row.job.as_str()),
+    }
 }
 
 /// Who holds it, or why nobody does.
