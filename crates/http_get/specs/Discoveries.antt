@@ -53,6 +53,10 @@ module _ (job : Job) (rules : List RuleSettings) (source : ℕ) where
       then (if is_json reply.media then (groups_said reply.body >>= λ groups. Ok (discover_event groups)) else Err Media)
       else Err (Status reply.status)
 
+-- A source of files lists the final targets of its groups, in order. No label has a URL, as those of static groups have none.
+abbrev pub files_event : Job → List RuleSettings → ℕ → List Group → Event
+files_event job rules source groups = Discover job.name source (discovered rules job 0 groups).targets
+
 -- a fetch that brought no answer
 abbrev pub unanswered : FetchFault → RefreshError
 unanswered fault.Device = Device

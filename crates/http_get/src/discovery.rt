@@ -1,6 +1,6 @@
 //! What the answer of a discovery source says.
 ghost use Rattle.std.specs.Prelude.{◌≡◌, ◌≤◌, length, IfOk};
-ghost use Rattle.http_get.specs.Discoveries.{Gives, groups_said, discover_event, found_said};
+ghost use Rattle.http_get.specs.Discoveries.{Gives, groups_said, discover_event, found_said, files_event};
 
 use crate::error::RefreshError;
 use crate::reply::Reply;
@@ -55,6 +55,25 @@ fn event_of(
     ensures { IfOk result (λ event. event ≡ discover_event job.now rules.now source groups.now) }
 {
     let Found { targets, .. } = rules.discover(alloc, job, source, groups)?;
+    let job = job.name.copy()?;
+    Ok(Event::Discover {
+        job,
+        source,
+        targets,
+    })
+}
+
+/// What a job's source of files lists, by the groups of its files: their final targets in order. As in Prometheus they have no label of a URL.
+pub fn found_in_files(
+    alloc: Global,
+    job: &Job,
+    rules: &Rules,
+    source: u32,
+    groups: &[Group],
+) -> Result<Event, AllocError>
+    ensures { IfOk result (λ event. event ≡ files_event job.now rules.now source groups.now) }
+{
+    let Found { targets, .. } = rules.discover(alloc, job, 0, groups)?;
     let job = job.name.copy()?;
     Ok(Event::Discover {
         job,
