@@ -2,7 +2,7 @@
 """Runs `allocd serve` over settings, sources and figures that scripts/try_serve.py does not look at, and tells of each thing whether it holds: try_edge.py [PART ..]
 
 Where it listens and keeps its journal, each job's own rules, reloads with more sources, other orders and too many jobs, who is uncovered,
-names as text, the page and its links, what is counted, how long it took, what strangers send and don't send, answers to the byte, rounds over renewals and
+names as text, the pages and their links, since when targets are held, what is counted, how long it took, what strangers send and don't send, answers to the byte, rounds over renewals and
 starts, sources that fall silent beside others, YAML, lists of reports, entity tags, lists that are acknowledged, loads that are made even. It needs Linux and the program (ALLOCD_PROGRAM, or dist/allocd)."""
 
 import html.parser
@@ -223,7 +223,8 @@ def page(folder):
     answers = {way: service.ask("GET", way)[0] for way in ways}
     tell("each of its links is answered 200", set(answers.values()) == {200}, {way: status for way, status in answers.items() if status != 200})
     of_jobs = [link for link in ways if link.startswith("/jobs/")]
-    tell("those of a job have its name in one segment", "/jobs/a%2Fb%20%3Ci%3E%26amp%3B%3F%23%25/targets" in of_jobs, of_jobs)
+    tell("those of a job have its name in one segment", "/jobs/a%2Fb%20%3Ci%3E%26amp%3B%3F%23%25" in of_jobs, of_jobs)
+    tell("each job and each collector has a page", {"/jobs/n", "/jobs/found", "/collectors/1"} <= set(ways), ways)
     tell("a link to a list takes nothing", service.figure('allocd_collector_taken_allocation{collector="a"}') == 0)
     sources = [row[0] for row in first.tables["Discovery sources"]]
     tell("sources that fail stand first", sources == ["found/2", "found/1"], sources)
@@ -247,6 +248,142 @@ def page(folder):
     tell("where nothing is live that needs attention", comes(lambda: "No target is live: no source lists one" in look().bad(), 10), look().bad())
     text = service.ask("GET", "/")[1]
     tell("version and journal stand at the foot", "<footer><p>allocd 0.1.0, up for " in text and "; no journal is written" in text, text.rpartition("<footer>")[2])
+    ends(service)
+
+
+BROWSER = "text/html,application/xhtml+xml,application/xml;q=0.9,*/*;q=0.8"
+
+
+def seen(service, path):
+    """What a browser is shown, and its text."""
+    status, headers, text = answer_of(service, path, {"accept": BROWSER})
+    assert status == 200 and headers["content-type"] == "text/html; charset=utf-8", (path, status, headers.items())
+    return Page(text), text
+
+
+def goes_on(service, page, path):
+    """The links of a page that lead nowhere."""
+    ways = sorted({link for link in page.links if link.startswith("/")})
+    return len(ways) < 5 or [(way, path) for way in ways if service.ask("GET", way)[0] != 200]
+
+
+def job_pages(folder):
+    Source.lists["/found"] = ["127.0.0.1:7001"]
+    odd = "a/b <i>&amp;?#%"
+    reach = [{"allow": True, "test": "equals", "label": "job", "value": job} for job in ("n", odd)]
+    labels = {"team": "<b>x</b>", "__hidden": "no"}
+    sources = [url("/found"), url("/", port=1)]
+    jobs = [static("n", 3, target_limit=3, http_sd_configs=sources), {"job_name": odd, "static_configs": [{"targets": ["127.0.0.1:9300"], "labels": labels}]}, static("lone", 2, 9500)]
+    service = started(folder, jobs, collectors=[{"name": "a", "reach": reach}])
+    has(service, 'allocd_targets_covered{job="n"}', 3)
+    comes(lambda: service.ask("GET", "/-/ready")[0] == 200, 20)
+    of = lambda job: json.loads(service.ask("GET", f"/jobs/{urllib.parse.quote(job, safe='')}")[1])
+    counts = lambda job: {name: of(job)[name] for name in ("job_name", "live", "covered", "uncovered", "unreached", "handing_over", "collectors")}
+    tell("a job says how many targets it has, and who holds how many", counts("n") == {
+        "job_name": "n", "live": 4, "covered": 3, "uncovered": 1, "unreached": 0, "handing_over": 0, "collectors": {"a": 3}}, counts("n"))
+    tell("one that nobody reaches, too", counts("lone") == {
+        "job_name": "lone", "live": 2, "covered": 0, "uncovered": 2, "unreached": 2, "handing_over": 0, "collectors": {}}, counts("lone"))
+    told = of("n")["sources"]
+    tell("its sources are told by their URLs, with their faults", [it["url"] for it in told] == [it["url"] for it in sources] and told[0]["fault"] is None
+         and abs(told[0]["last_success"] - time.time()) < 30 and told[1]["last_success"] is None and "connect" in told[1]["fault"].lower(), told)
+    tell("its links lead to its lists", [service.ask("GET", way)[0] for way in of(odd)["links"].values()] == [200, 200], of(odd)["links"])
+    tell("there is no other job", (service.ask("GET", "/jobs/k"), answer_of(service, "/jobs/k", {"accept": BROWSER})[::2]) == ((404, '{"refused":"UnknownJob"}'), (404, '{"refused":"UnknownJob"}')))
+    page, text = seen(service, "/jobs/n")
+    tell("a browser has a page of it, with its name in the title", page.title == "allocd: job n", page.title)
+    tell("it has no script, and each table a caption", "script" not in page.tags and list(page.tables) == ["How many targets", "Collectors", "Discovery sources", "Targets"], list(page.tables))
+    tell("the counts", page.tables["How many targets"] == [["4", "3", "1", "0", "0"]] and page.tables["Collectors"] == [["a", "3"]], page.tables)
+    tell("the sources, by their URLs", [row[0] for row in page.tables["Discovery sources"]] == [it["url"] for it in sources], page.tables["Discovery sources"])
+    rows = page.tables["Targets"]
+    tell("its targets, first those that nobody holds", len(rows) == 4 and rows[0][1] == "none: who reaches it is full" and {row[1] for row in rows[1:]} == {"a"}, rows)
+    tell("a link of the page leads somewhere", not (lost := goes_on(service, page, "/jobs/n")), lost)
+    page, text = seen(service, f"/jobs/{urllib.parse.quote(odd, safe='')}")
+    row = page.tables["Targets"][0]
+    tell("names and values of labels are text, and those with two underscores are left out", f"<h1>Job a/b &lt;i&gt;&amp;amp;?#%</h1>" in text and row[4].split() == [
+        'instance="127.0.0.1:9300"', 'job="a/b', "<i>&amp;?#%\"", 'team="<b>x</b>"'], row)
+    tell("of one that nobody reaches it is said", [row[1] for row in seen(service, "/jobs/lone")[0].tables["Targets"]] == ["none reaches it"] * 2)
+    media = lambda accept, path="/jobs/n": headers_of(service, path, accept)[0]["content-type"]
+    found = [media(it) for it in (None, "*/*", "application/json, text/html", "application/yaml, text/html", "Text/HTML;q=0.1, application/json", "text/html,application/yaml")]
+    tell("the first of the media types decides", found == ["application/json"] * 3 + ["application/yaml"] + ["text/html; charset=utf-8"] * 2, found)
+    tell("what has no page is told as before", (media(BROWSER, "/jobs"), media(BROWSER, "/collectors")) == ("application/json",) * 2)
+    length = len(seen(service, "/jobs/lone")[1].encode())
+    tell("HEAD has the head of the same", head_of(service, "/jobs/lone", BROWSER) == (200, "text/html; charset=utf-8", str(length)), head_of(service, "/jobs/lone", BROWSER))
+    reloaded(service, config([static("many", 1500)]))
+    comes(lambda: service.ask("GET", "/jobs/many")[0] == 200 and of("many")["covered"] == 1500, 20)
+    page, text = seen(service, "/jobs/many")
+    tell("a page has 1,000 targets at most, and says how many more there are", len(page.tables["Targets"]) == 1000 and "<p>And 500 more. <code>/targets?search=TEXT</code>" in text, len(page.tables["Targets"]))
+    ends(service)
+
+
+def head_of(service, path, accept):
+    """The status, the media type and the length that a HEAD tells."""
+    it = http.client.HTTPConnection("127.0.0.1", service.port, timeout=30)
+    it.request("HEAD", path, headers={"accept": accept})
+    answer = it.getresponse()
+    it.close()
+    return answer.status, answer.headers["content-type"], answer.headers["content-length"]
+
+
+def collector_pages(folder):
+    odd = "<i>a/b"
+    service = started(folder, [static("n", 3), static("m", 1, 9300)], collectors=[{"name": odd, "reach": [{"allow": True, "test": "present", "label": "<x>"}, *ANY]}])
+    has(service, 'allocd_targets_covered{job="n"}', 3)
+    has(service, 'allocd_targets_covered{job="m"}', 1)
+    page, text = seen(service, "/collectors/1")
+    tell("a browser has a page of a collector, with its name as text", page.title == f"allocd: collector {odd}" and "<h1>Collector &lt;i&gt;a/b</h1>" in text, page.title)
+    tell("it has no script, and each table a caption", not {"script", "form"} & page.tags and list(page.tables) == ["State", "By job", "Targets"], list(page.tables))
+    tell("its state", page.tables["State"] == [["1", "live", "4", "nothing", "not yet"]], page.tables["State"])
+    tell("whom it reaches", "[{&quot;allow&quot;:true,&quot;label&quot;:&quot;&lt;x&gt;&quot;,&quot;test&quot;:&quot;present&quot;},{&quot;allow&quot;:true,&quot;test&quot;:&quot;any&quot;}]" in text, text)
+    tell("what it holds by job", page.tables["By job"] == [["n", "3"], ["m", "1"]], page.tables["By job"])
+    tell("its targets", sorted(row[:2] for row in page.tables["Targets"]) == [["127.0.0.1:9000", "n"], ["127.0.0.1:9001", "n"], ["127.0.0.1:9002", "n"], ["127.0.0.1:9300", "m"]], page.tables["Targets"])
+    tell("lines for a shell change it", "curl -X POST $ALLOCD/collectors/1/drain  # it is to be emptied\n" in text and "curl -X DELETE $ALLOCD/collectors/1  # it leaves\n" in text)
+    tell("a link of the page leads somewhere", not (lost := goes_on(service, page, "/collectors/1")), lost)
+    tell("a look takes nothing", service.figure(f'allocd_collector_taken_allocation{{collector="{odd}"}}') == 0)
+    tell("it is found by its name as well", seen(service, f"/collectors/{urllib.parse.quote(odd, safe='')}")[0].title == page.title)
+    for job in "nm":
+        service.ask("GET", f"/jobs/{job}/targets?collector_id={urllib.parse.quote(odd)}")
+    service.ask("PUT", "/collectors/1/limits", {"limits": {"n": 2}})
+    comes(lambda: seen(service, "/collectors/1")[0].tables["State"][0][2] == "3", 20)
+    page = seen(service, "/collectors/1")[0]
+    tell("its limits, and what it took", page.tables["Limits of its own"] == [["n", "2"]] and page.tables["State"][0][3] == "1" and page.tables["State"][0][4].endswith(" s ago"), page.tables)
+    service.ask("POST", "/collectors/1/drain", {})
+    tell("and that it is emptied", seen(service, "/collectors/1")[0].tables["State"][0][1] == "draining")
+    tell("there is no other", answer_of(service, "/collectors/9", {"accept": BROWSER})[::2] == (404, '{"refused":"UnknownCollector"}'))
+    tell("who asks for no page has the object", json.loads(service.ask("GET", "/collectors/1")[1])["limits"] == {"n": 2})
+    ends(service)
+
+
+def since(folder):
+    """Since when each target is held, and when it was reported last: by search and on the pages."""
+    service = started(folder, [static("n", 4)])
+    has(service, 'allocd_targets_covered{job="n"}', 4)
+    of = lambda what: [it[what] for it in json.loads(service.ask("GET", "/targets?search=127.0.0.1")[1])["targets"]]
+    first = int(service.figure("allocd_allocation"))
+    tell("what was given out is held since then, and nothing is reported", (of("since"), of("last_round")) == ([first] * 4, [None] * 4), (of("since"), of("last_round")))
+    groups = json.loads(service.ask("GET", "/jobs/n/targets?collector_id=a")[1])
+    number = int(groups[1]["labels"]["__meta_allocator_target"])
+    service.ask("POST", "/reports", {"collector": 1, "number": first, "target": number, "round": 1, "up": True, "samples": 8})
+    tell("a report is told by its round", [of("last_round")[i] for i in (0, 1)] == [None, 1], of("last_round"))
+    service.ask("POST", "/collectors", {"name": "b", "reach": ANY})
+    service.ask("PUT", "/collectors/1/limits", {"limits": {"n": 2}})
+    comes(lambda: sorted(of("collector")) == ["a", "a", "b", "b"], 20)
+    second = int(service.figure("allocd_allocation"))
+    wanted = [first if name == "a" else second for name in of("collector")]
+    tell("what moved is held since then by another, what stayed as before", second > first and of("since") == wanted, (of("since"), of("collector"), second))
+    service.ask("PUT", "/collectors/1/limits", {"limits": {"n": 3}})
+    service.ask("POST", "/collectors/2/drain", {})
+    comes(lambda: sorted(of("collector")) == ["a", "a", "a", "b"], 20)
+    third = int(service.figure("allocd_allocation"))
+    kept = [it for it, name, was in zip(of("since"), of("collector"), wanted) if name == "a" and was == second]
+    tell("what comes back is held since it came back", kept == [third] and of("since").count(first) == 2, (of("since"), third))
+    rows = {row[0]: row[2] for row in seen(service, "/jobs/n")[0].tables["Targets"]}
+    found = {it["target"]: str(it["since"]) for it in json.loads(service.ask("GET", "/targets?search=127.0.0.1")[1])["targets"]}
+    tell("the page of the job tells the same", rows == found, (rows, found))
+    rows = {row[0]: row[2:4] for row in seen(service, "/collectors/a")[0].tables["Targets"]}
+    reported = f"127.0.0.1:{9000 + number}"
+    tell("that of the collector, too", all(found[target] == row[0] for target, row in rows.items()) and (reported not in rows or rows[reported][1] == "1"), (rows, found))
+    service.ask("DELETE", "/collectors/2")
+    service.ask("DELETE", "/collectors/1")
+    tell("what nobody holds is held since nothing", comes(lambda: of("since") == [None] * 4, 10), of("since"))
     ends(service)
 
 
@@ -945,5 +1082,5 @@ def evens_in_turn(folder):
 SOURCE = http.server.ThreadingHTTPServer(("127.0.0.1", 0), Source)
 SOURCE.daemon_threads = True
 threading.Thread(target=SOURCE.serve_forever, daemon=True).start()
-PARTS = (settings, relabels, reloads, uncovered, texts, page, series, figures, process, takes, talks, requests, lifecycles, held_rows, stalls, rounds, rounds_kept, silences, yaml, lists_of_reports, entity_tags, acknowledge, spreads, spreads_by_job, evens, evens_in_turn)
+PARTS = (settings, relabels, reloads, uncovered, texts, page, job_pages, collector_pages, since, series, figures, process, takes, talks, requests, lifecycles, held_rows, stalls, rounds, rounds_kept, silences, yaml, lists_of_reports, entity_tags, acknowledge, spreads, spreads_by_job, evens, evens_in_turn)
 run_parts(PARTS, sys.argv[1:])

@@ -48,6 +48,15 @@ groups_answered reply =
     if reply.status == 200 then (if is_json reply.media then groups_said reply.body else Err Media)
     else Err (Status reply.status)
 
+-- a source lists the final targets of groups, in order, which have the labels of groups of some source; with how many targets of the groups a rule
+-- drops, and how many have no address after the rules
+abbrev pub listing_from : Job → List RuleSettings → ℕ → ℕ → List Group → Listing
+listing_from job rules from source groups = record {
+  event = Discover job.name source (discovered rules job from groups).targets;
+  dropped = (discovered rules job from groups).dropped;
+  no_address = (discovered rules job from groups).no_address;
+}
+
 module _ (job : Job) (rules : List RuleSettings) (source : ℕ) where
   -- the source lists the final targets of the groups, in order
   abbrev pub discover_event : List Group → Event
@@ -56,16 +65,15 @@ module _ (job : Job) (rules : List RuleSettings) (source : ℕ) where
   abbrev pub found_said : Reply → Result Event RefreshError
   found_said reply = groups_answered reply >>= λ groups. Ok (discover_event groups)
 
-  -- with how many targets of the groups a rule drops, and how many have no address after the rules
   abbrev pub listing : List Group → Listing
-  listing groups = record {
-    event = discover_event groups;
-    dropped = (discovered rules job source groups).dropped;
-    no_address = (discovered rules job source groups).no_address;
-  }
+  listing groups = listing_from job rules source source groups
 
   abbrev pub listed_said : Reply → Result Listing RefreshError
   listed_said reply = groups_answered reply >>= λ groups. Ok (listing groups)
+
+  -- those of files have no label of a URL, as those of static groups have none
+  abbrev pub files_listing : List Group → Listing
+  files_listing groups = listing_from job rules 0 source groups
 
 -- a fetch that brought no answer
 abbrev pub unanswered : FetchFault → RefreshError

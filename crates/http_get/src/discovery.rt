@@ -1,6 +1,6 @@
 //! What the answer of a discovery source says.
 ghost use Rattle.std.specs.Prelude.{◌≡◌, ◌≤◌, length, IfOk};
-ghost use Rattle.http_get.specs.Discoveries.{Gives, groups_said, groups_answered, discover_event, found_said, listing, listed_said};
+ghost use Rattle.http_get.specs.Discoveries.{Gives, groups_said, groups_answered, discover_event, found_said, files_listing, listing, listing_from, listed_said};
 
 use crate::error::RefreshError;
 use crate::reply::Reply;
@@ -34,7 +34,7 @@ pub fn found(
     ensures { Gives result (found_said job.now rules.now source reply.now) }
 {
     let groups = answered(alloc, reply)?;
-    let Listing { event, .. } = listing_of(alloc, job, rules, source, groups.as_slice())?;
+    let Listing { event, .. } = listing_from(alloc, job, rules, source, source, groups.as_slice())?;
     Ok(event)
 }
 
@@ -50,7 +50,7 @@ pub fn listed(
     ensures { Gives result (listed_said job.now rules.now source reply.now) }
 {
     let groups = answered(alloc, reply)?;
-    let listing = listing_of(alloc, job, rules, source, groups.as_slice())?;
+    let listing = listing_from(alloc, job, rules, source, source, groups.as_slice())?;
     Ok(listing)
 }
 
@@ -77,22 +77,36 @@ fn groups_in(alloc: Global, body: &[u8]) -> Result<List<Group>, RefreshError>
     }
 }
 
-/// The source lists the targets of these groups.
-fn listing_of(
+/// What a job's source of files lists, by the groups of its files: their final targets in order. As in Prometheus they have no label of a URL.
+pub fn listed_in_files(
     alloc: Global,
     job: &Job,
     rules: &Rules,
     source: u32,
     groups: &[Group],
 ) -> Result<Listing, AllocError>
-    requires { source ≤ length job.now.http_urls }
-    ensures { IfOk result (λ l. l ≡ listing job.now rules.now source groups.now) }
+    ensures { IfOk result (λ l. l ≡ files_listing job.now rules.now source groups.now) }
+{
+    listing_from(alloc, job, rules, 0, source, groups)
+}
+
+/// The source lists the targets of these groups, which have the labels of groups of another source, or of its own.
+fn listing_from(
+    alloc: Global,
+    job: &Job,
+    rules: &Rules,
+    from: u32,
+    source: u32,
+    groups: &[Group],
+) -> Result<Listing, AllocError>
+    requires { from ≤ length job.now.http_urls }
+    ensures { IfOk result (λ l. l ≡ listing_from job.now rules.now from source groups.now) }
 {
     let Found {
         targets,
         dropped,
         no_address,
-    } = rules.discover(alloc, job, source, groups)?;
+    } = rules.discover(alloc, job, from, groups)?;
     let job = job.name.copy()?;
     Ok(Listing {
         event: Event::Discover {

@@ -131,6 +131,7 @@ fn spelled(alloc: Global, ask: &Ask) -> Result<String, AllocError> {
         Ask::ScrapeConfigs { rules: false } => String::from_str(alloc, "scrape configs"),
         Ask::ScrapeConfigs { rules: true } => String::from_str(alloc, "scrape configs with rules"),
         Ask::Jobs => String::from_str(alloc, "jobs"),
+        Ask::Job(job) => format!(in alloc; "job <{}>", job.as_str()),
         Ask::JobTargets(job) => format!(in alloc; "targets of <{}>", job.as_str()),
         Ask::CollectorTargets { job, name, takes } => {
             let at = if *takes { "at" } else { "as shown at" };

@@ -7,6 +7,7 @@ pub mod Queries
 pub mod Errors
 pub mod Gives
 pub mod Asks
+pub mod JobPages
 pub mod JoinMembers
 pub mod Changes
 pub mod Epochs

@@ -19,6 +19,7 @@ use Rattle.sd_routes.specs.Changes.{change_event}
 use Rattle.sd_routes.specs.CollectorPages.{collector_data}
 use Rattle.sd_routes.specs.Events.{event_said}
 use Rattle.sd_routes.specs.FoundPages.{found_data}
+use Rattle.sd_routes.specs.JobPages.{job_row_data}
 use Rattle.sd_routes.specs.Pages.{uncovered_data}
 use Rattle.sd_routes.specs.declared.change.Change.{Change}
 use Rattle.sd_routes.specs.declared.change.Change.TheVariants.{Release}
@@ -26,6 +27,7 @@ use Rattle.sd_routes.specs.declared.change.Wanted.{Wanted}
 use Rattle.sd_routes.specs.declared.change.Wanted.TheVariants.{Event as AnEvent, OfNamed, Reports}
 use Rattle.sd_routes.specs.declared.collector_row.CollectorRow.{CollectorRow}
 use Rattle.sd_routes.specs.declared.found_targets.FoundTarget.{FoundTarget}
+use Rattle.sd_routes.specs.declared.job_row.JobRow.{JobRow}
 use Rattle.sd_routes.specs.declared.which_collector.WhichCollector.{WhichCollector}
 use Rattle.sd_routes.specs.declared.which_collector.WhichCollector.TheVariants.{Number, Name}
 use Rattle.sd_routes.specs.declared.ask.Ask.{Ask}
@@ -238,7 +240,23 @@ abbrev pub SaysUncovered : Option ℕ → Said → Type 0
 SaysUncovered None said = said ≡ Answered (Not UnknownJob)
 SaysUncovered (Some place) said = SaysUncoveredText said
 
--- ---- collectors, and targets that are searched for
+-- ---- jobs, collectors, and targets that are searched for
+
+-- what is told of the job of a name
+abbrev pub IsJobRowText : List ℕ → List ℕ → Type 0
+IsJobRowText job text = (row : JobRow) × (row.name ≡ job) × (text ≡ compact_text (job_row_data row))
+
+-- the same in JSON, or a page for people
+abbrev pub SaysJobRow : List ℕ → Said → Type 0
+SaysJobRow job (Page page) = IsJobRowText job page
+SaysJobRow job (Document text) = Unit {0}
+SaysJobRow job (Refused error) = error ≡ Memory
+SaysJobRow job _ = ⊥
+
+-- it, where there is such a job
+abbrev pub SaysOneJob : List ℕ → Option ℕ → Said → Type 0
+SaysOneJob job None said = said ≡ Answered (Not UnknownJob)
+SaysOneJob job (Some place) said = SaysJobRow job said
 
 -- the page of some collectors
 abbrev pub IsCollectorsText : List ℕ → Type 0
@@ -254,13 +272,15 @@ abbrev pub id_meant : State → WhichCollector → Option ℕ
 id_meant m (Number id) = if is_joined m.fleet id then Some id else None
 id_meant m (Name name) = id_named m.fleet.collectors name
 
--- the page of the collector that is meant
+-- what is told of the collector that is meant
 abbrev pub IsCollectorText : State → WhichCollector → List ℕ → Type 0
 IsCollectorText opening which text =
     (row : CollectorRow) × OfSome opening (λ h. id_meant h.state which ≡ Some row.id) × (text ≡ compact_text (collector_data row))
 
+-- the same in JSON, or a page for people
 abbrev pub SaysCollectorPage : State → WhichCollector → Said → Type 0
 SaysCollectorPage opening which (Page page) = IsCollectorText opening which page
+SaysCollectorPage opening which (Document text) = Unit {0}
 SaysCollectorPage opening which (Answered answer) = answer ≡ Not UnknownCollector
 SaysCollectorPage opening which (Refused error) = error ≡ Memory
 SaysCollectorPage opening which _ = ⊥
@@ -290,6 +310,7 @@ SaysPage opening pages ask.Reload said = SaysReload said
 SaysPage opening pages ask.Quit said = SaysQuit said
 SaysPage opening pages ask.Status said = SaysDocument said
 SaysPage opening pages (ask.Uncovered job) said = SaysUncovered (place_of job pages.names) said
+SaysPage opening pages (ask.Job job) said = SaysOneJob job (place_of job pages.names) said
 SaysPage opening pages (ask.JobTargets job) said = SaysJob opening job (place_of job pages.names) said
 SaysPage opening pages (ask.CollectorTargets job name takes) said = SaysCollector opening pages.acknowledge job name (place_of job pages.names) said
 SaysPage opening pages ask.Collectors said = SaysCollectors said

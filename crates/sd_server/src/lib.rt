@@ -5,15 +5,19 @@
 //! opening state. Of connections, time and order they say nothing.
 #![tactic(auto)]
 
+mod accept;
 mod acknowledging;
 mod by_loops;
 mod certificate_page;
 mod collector_lists;
 mod collector_rows;
+mod collector_state;
 mod counter;
+mod documents;
 mod entry;
 mod found;
 mod handler;
+mod job_state;
 mod keeping;
 mod list_text;
 mod list_texts;
@@ -25,6 +29,7 @@ mod reported;
 mod service;
 mod shown;
 mod spoken;
+mod target_rows;
 mod uncovered;
 mod yaml;
 

@@ -5,7 +5,8 @@ ghost use Rattle.http_header.specs.FieldValue.{FieldValue};
 ghost use Rattle.sd_routes.specs.Responses.{IsResponse};
 ghost use Rattle.sd_server.specs.Writing.{fields_said, tag_said, tagged, IsKnown, WritesTagged, Writes};
 
-use crate::yaml::{as_yaml, is_page, wants_yaml};
+use crate::accept::wants_yaml;
+use crate::yaml::{as_yaml, is_page};
 use admission::has_body;
 use bytes::Bytes;
 use entity_tags::{entity_tag, is_shown};

@@ -1,16 +1,19 @@
 //! The service that a connection calls for each request.
-ghost use Rattle.std.specs.Prelude.{◌≡◌};
+ghost use Rattle.std.specs.Prelude.{◌≡◌, []};
 ghost use Rattle.std.specs.Arc.{arc_value};
 ghost use Rattle.http.specs.Request as request;
 ghost use Rattle.http_uri.specs.Uri.{uri_path, uri_query};
 ghost use Rattle.sd_routes.specs.Asks.{asked};
 ghost use Rattle.admission.specs.Admission.{let_in};
 ghost use Rattle.sd_routes.specs.Gives.{Gives};
+ghost use Rattle.sd_server.specs.Entries.{Leads};
+ghost use Rattle.sd_server.specs.Says.{Says};
 ghost use Rattle.sd_server.specs.Replies.{Begins, BeginsWith, CanRead, IsReplyTo, MaySay};
 ghost use Rattle.sd_routes.specs.declared.request_error.RequestError.TheVariants.{Memory};
 ghost use Rattle.sd_routes.specs.declared.responding.Said.{Said};
 ghost use Rattle.sd_routes.specs.declared.responding.Said.TheVariants.{Refused};
 
+use crate::accept::wants_document;
 use crate::entry::Entry;
 use crate::handler::Handler;
 use crate::manner::Manner;
@@ -62,7 +65,7 @@ impl<R: Wait + Clock + Copy, L: Ledger, B: Ledger, N: DeskName> AllocatorService
         ensures { Begins N.opening (arc_value self.now.handler.pages) (let_in (arc_value self.now.handler.doors) head.now.headers (asked head.now.method (uri_path head.now.uri) (uri_query head.now.uri))) result }
     {
         match self.came(head) {
-            Ok(ask) => self.begin_with(ask),
+            Ok(ask) => self.begin_with(ask, wants_document(&head.headers)),
             Err(error) => Begun::Told(Entry::Now(Said::Refused(error)), Route::of(None)),
         }
     }
@@ -93,13 +96,25 @@ impl<R: Wait + Clock + Copy, L: Ledger, B: Ledger, N: DeskName> AllocatorService
         Reply::of(self.handler.alloc, None, entry, Manner::plain(true))
     }
 
-    fn begin_with(&self, ask: Ask) -> Begun
+    fn begin_with(&self, ask: Ask, for_people: bool) -> Begun
         ensures { BeginsWith N.opening (arc_value self.now.handler.pages) ask result }
     {
         match ask {
             Ask::Join | Ask::Drain(_) | Ask::SetLimits(_) | Ask::Report => Begun::Reads(ask),
-            _ => Begun::Told(self.handler.entry(&ask, b""), Route::of(Some(&ask))),
+            _ => Begun::Told(self.entry(&ask, for_people), Route::of(Some(&ask))),
         }
+    }
+
+    /// What a request without a body is told, or what that waits for: of what has a page for people, that page where it is asked for.
+    fn entry(&self, ask: &Ask, for_people: bool) -> Entry
+        ensures { Leads (Says N.opening (arc_value self.now.handler.pages) ask.now []) result }
+    {
+        if for_people {
+            if let Some(said) = self.handler.document(ask) {
+                return Entry::Now(said);
+            }
+        }
+        self.handler.entry(ask, b"")
     }
 }
 
