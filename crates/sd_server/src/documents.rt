@@ -2,7 +2,8 @@
 ghost use Rattle.std.specs.Prelude.{◌≡◌, [], IfOk, IfSome};
 ghost use Rattle.std.specs.Arc.{arc_value};
 ghost use Rattle.service_state.specs.Jobs.{place_of};
-ghost use Rattle.sd_server.specs.Says.{IsJobRowText, Says, SaysCollectorPage, SaysDocument, SaysOneJob};
+ghost use Rattle.sd_server.specs.Says.{IsJobRowText, Says, SaysCollectorPage, SaysOneJob};
+ghost use Rattle.sd_routes.specs.declared.which_collector.WhichCollector.{WhichCollector};
 
 use crate::collector_state::{CollectorState, collector_state};
 use crate::handler::Handler;
@@ -12,9 +13,7 @@ use allocation_core::{Answer, Refusal};
 use json_values::{Spelled, text_of};
 use lists::{List, Text};
 use sd_routes::{Ask, JobRow, RequestError, Said, SourceRow, WhichCollector, job_row_page};
-use service_pages::{
-    MOST_ROWS, Rows, ShownCollector, ShownJob, collector_document, job_document,
-};
+use service_pages::{MOST_ROWS, Rows, ShownCollector, ShownJob, collector_document, job_document};
 use std::alloc::AllocError;
 use std::sync::Wait;
 use std::sync::ledger::Ledger;
@@ -92,7 +91,10 @@ impl<R: Wait + Clock + Copy, L: Ledger, B: Ledger, N: DeskName> Handler<R, L, B,
         let Some(place) = self.pages.place(job) else {
             return Said::Answer(Answer::Not(Refusal::UnknownJob));
         };
-        told(self.job_document_text(job, place))
+        match self.job_document_text(job, place) {
+            Ok(text) => Said::Document(text),
+            Err(_) => Said::Refused(RequestError::Memory),
+        }
     }
 
     fn job_document_text(&self, job: &str, place: usize) -> Result<Text, AllocError> {
@@ -123,8 +125,17 @@ impl<R: Wait + Clock + Copy, L: Ledger, B: Ledger, N: DeskName> Handler<R, L, B,
         ensures { SaysCollectorPage N.opening which.now result }
     {
         match self.collector_state(which) {
-            Ok(Some(state)) => told(self.collector_document_text(&state)),
+            Ok(Some(state)) => self.collector_told(&state),
             Ok(None) => Said::Answer(Answer::Not(Refusal::UnknownCollector)),
+            Err(_) => Said::Refused(RequestError::Memory),
+        }
+    }
+
+    fn collector_told(&self, state: &CollectorState) -> Said
+        ensures { (which : WhichCollector) → SaysCollectorPage N.opening which result }
+    {
+        match self.collector_document_text(state) {
+            Ok(text) => Said::Document(text),
             Err(_) => Said::Refused(RequestError::Memory),
         }
     }
@@ -162,15 +173,5 @@ impl<R: Wait + Clock + Copy, L: Ledger, B: Ledger, N: DeskName> Handler<R, L, B,
             standing: &standing,
         };
         collector_document(self.alloc, &shown)
-    }
-}
-
-/// A page for people, unless memory ran out.
-fn told(text: Result<Text, AllocError>) -> Said
-    ensures { SaysDocument result }
-{
-    match text {
-        Ok(text) => Said::Document(text),
-        Err(_) => Said::Refused(RequestError::Memory),
     }
 }

@@ -137,7 +137,12 @@ impl<R: Wait + Clock + Copy + Drop, L: Ledger, B: Ledger, N: DeskName, I: Drop> 
         match self.begin(&head) {
             Begun::Told(entry, route) => {
                 let counter = self.handler.counter(route, begun);
-                Reply::of(self.handler.alloc, counter, entry, Manner::of(&head.headers))
+                Reply::of(
+                    self.handler.alloc,
+                    counter,
+                    entry,
+                    Manner::of(&head.headers),
+                )
             }
             Begun::Reads(ask) => match self.handler.another() {
                 Ok(handler) => Reply::to(handler, ask, body),
