@@ -3,7 +3,7 @@
 
 Where it listens and keeps its journal, each job's own rules, reloads with more sources, other orders and too many jobs, who is uncovered,
 names as text, the pages and their links, since when targets are held, what is counted, how long it took, what strangers send and don't send, answers to the byte, rounds over renewals and
-starts, sources that fall silent beside others, YAML, entity tags, lists that are acknowledged, loads that are made even. It needs Linux and the program (ALLOCD_PROGRAM, or dist/allocd)."""
+starts, sources that fall silent beside others, YAML, lists of reports, entity tags, lists that are acknowledged, loads that are made even. It needs Linux and the program (ALLOCD_PROGRAM, or dist/allocd)."""
 
 import html.parser
 import http.client
@@ -862,6 +862,31 @@ def own_of(groups):
     return own["targets"][0], parameters, own["labels"]["__scheme__"]
 
 
+def lists_of_reports(folder):
+    """Reports in a list are booked one after the other, each as if it had come alone."""
+    journal = f"{folder}/journal"
+    service = started(folder, [static("node", 6)])
+    has(service, "allocd_allocation", 1)
+    head = headers_of(service, "/jobs/node/targets?collector_id=a")[0]
+    shared = {"collector": 1, "number": 1, "round": 1, "epoch": int(head["x-allocator-epoch"])}
+    up = lambda target, samples: {"target": target, "up": True, "samples": samples}
+    report = lambda reports, **other: service.ask("POST", "/reports", {**shared, "reports": reports, **other})
+    status, text = report([up(0, 5), {"target": 1, "up": False}, up(0, 6), up(9, 1), up(2, 7)])
+    tell("each has its answer, in order", (status, json.loads(text)) == (200, {"answers": ["Booked", "Booked", "AlreadyBooked", "UnknownTarget", "Booked"], "open": 1}), (status, text))
+    tell("who reports all again is told which were booked", json.loads(report([up(0, 5), up(3, 2)])[1])["answers"] == ["AlreadyBooked", "Booked"])
+    tell("an empty list is one", report([]) == (200, '{"answers":[],"open":1}'))
+    tell("a list of another epoch is refused", report([up(4, 1)], epoch=shared["epoch"] + 1)[0] == 409)
+    tell("a list with a fault is refused whole, with where", report([up(4, 1), {"target": 5, "up": True}]) == (400, '{"member":"reports[1].samples","refused":"Shape"}'))
+    tell("of one that is too long nothing is entered", (report([up(4, 1)] * 4097)[0], json.loads(report([up(4, 1)])[1])["answers"]) == (413, ["Booked"]))
+    status, text = report([up(5, 1)] * 4096)
+    tell("4,096 are not too many", (status, json.loads(text)["answers"].count("AlreadyBooked")) == (200, 4095), status)
+    tell("they are counted one by one", service.figure("allocd_samples_booked_total") == 5 + 7 + 2 + 1 + 1, service.figure("allocd_samples_booked_total"))
+    ends(service)
+    status, told, last = replayed(journal)
+    booked = [event["target"] for event, answer in told if event["event"] == "report" and answer == "Booked"]
+    tell("a replay answers as the service did", (status, booked) == (0, [0, 1, 2, 3, 4, 5]), booked)
+
+
 def entity_tags(folder):
     """A list that is the same is not sent again to who shows its tag."""
     service = started(folder, [static("node", 4)])
@@ -1057,5 +1082,5 @@ def evens_in_turn(folder):
 SOURCE = http.server.ThreadingHTTPServer(("127.0.0.1", 0), Source)
 SOURCE.daemon_threads = True
 threading.Thread(target=SOURCE.serve_forever, daemon=True).start()
-PARTS = (settings, relabels, reloads, uncovered, texts, page, job_pages, collector_pages, since, series, figures, process, takes, talks, requests, lifecycles, held_rows, stalls, rounds, rounds_kept, silences, yaml, entity_tags, acknowledge, spreads, spreads_by_job, evens, evens_in_turn)
+PARTS = (settings, relabels, reloads, uncovered, texts, page, job_pages, collector_pages, since, series, figures, process, takes, talks, requests, lifecycles, held_rows, stalls, rounds, rounds_kept, silences, yaml, lists_of_reports, entity_tags, acknowledge, spreads, spreads_by_job, evens, evens_in_turn)
 run_parts(PARTS, sys.argv[1:])

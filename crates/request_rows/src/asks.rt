@@ -88,7 +88,19 @@ fn spelled_wanted(alloc: Global, wanted: Wanted) -> Result<String, AllocError> {
     match wanted {
         Wanted::Event(event) => spelled_event(alloc, &event),
         Wanted::OfNamed { name, change } => spelled_change(alloc, &name, change),
+        Wanted::Reports(events) => spelled_events(alloc, events.as_slice()),
     }
+}
+
+/// Each event behind a blank.
+fn spelled_events(alloc: Global, events: &[Event]) -> Result<String, AllocError> {
+    let count = events.len();
+    let mut text = format!(in alloc; "{count} of")?;
+    for event in events {
+        text.push_str(" ")?;
+        text.push_str(spelled_event(alloc, event)?.as_str())?;
+    }
+    Ok(text)
 }
 
 fn spelled_change(

@@ -10,7 +10,10 @@ pub mod Asks
 pub mod JobPages
 pub mod JoinMembers
 pub mod Changes
+pub mod Epochs
 pub mod Events
+pub mod ReportLists
+pub mod AnswerTexts
 pub mod Responses
 pub mod Links
 pub mod Notices

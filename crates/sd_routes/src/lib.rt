@@ -7,6 +7,7 @@
 
 mod acknowledgement;
 mod acknowledging;
+mod answers_text;
 mod ask;
 mod change;
 mod collector_row;
@@ -23,6 +24,7 @@ mod pages;
 mod place;
 mod purpose;
 mod query;
+mod report_list;
 mod request_error;
 mod responding;
 mod routes;
@@ -44,6 +46,7 @@ pub use misshapen::misshapen_member;
 pub use notice::Notice;
 pub use pages::{job_page, jobs_page, targets_page, uncovered_page};
 pub use place::Place;
+pub use report_list::MOST_REPORTS;
 pub use request_error::RequestError;
 pub use responding::{Said, answer};
 pub use routes::Routes;

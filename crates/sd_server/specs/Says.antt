@@ -1,5 +1,5 @@
 -- What a request is told.
-use Rattle.std.specs.Prelude.{◌≡◌, ◌⊎◌, ◌≤◌, ℕ, List, [], Option, Some, None, Result, Ok, Err, IsSome, codes, length, if◌then◌else◌}
+use Rattle.std.specs.Prelude.{◌≡◌, ◌⊎◌, ◌≤◌, ℕ, List, [], ◌∷◌, Option, Some, None, Result, Ok, Err, IsSome, codes, length, if◌then◌else◌}
 use Rattle.fleet.specs.Fleet.{id_named, is_joined}
 use Rattle.fleet_events.specs.declared.event.Event.{Event}
 use Rattle.fleet_events.specs.declared.event.Event.TheVariants.{Take, Serve}
@@ -24,7 +24,7 @@ use Rattle.sd_routes.specs.Pages.{uncovered_data}
 use Rattle.sd_routes.specs.declared.change.Change.{Change}
 use Rattle.sd_routes.specs.declared.change.Change.TheVariants.{Release}
 use Rattle.sd_routes.specs.declared.change.Wanted.{Wanted}
-use Rattle.sd_routes.specs.declared.change.Wanted.TheVariants.{Event as AnEvent, OfNamed}
+use Rattle.sd_routes.specs.declared.change.Wanted.TheVariants.{Event as AnEvent, OfNamed, Reports}
 use Rattle.sd_routes.specs.declared.collector_row.CollectorRow.{CollectorRow}
 use Rattle.sd_routes.specs.declared.found_targets.FoundTarget.{FoundTarget}
 use Rattle.sd_routes.specs.declared.job_row.JobRow.{JobRow}
@@ -37,7 +37,7 @@ use Rattle.sd_routes.specs.declared.notice.Notice.TheVariants.{Healthy, Broken, 
 use Rattle.sd_routes.specs.declared.request_error.RequestError.{RequestError}
 use Rattle.sd_routes.specs.declared.request_error.RequestError.TheVariants.{NoRoute, Shape, JournalFull, NotKept, Memory}
 use Rattle.sd_routes.specs.declared.responding.Said.{Said}
-use Rattle.sd_routes.specs.declared.responding.Said.TheVariants.{Answer as Answered, Page, List as ListOf, Refused, Misshapen, Notice as Noticed, Metrics, Document, Reloaded, NotReloaded}
+use Rattle.sd_routes.specs.declared.responding.Said.TheVariants.{Answer as Answered, Answers, Page, List as ListOf, Refused, Misshapen, Notice as Noticed, Metrics, Document, Reloaded, NotReloaded}
 use Rattle.service_state.specs.Jobs.{place_of}
 use Rattle.sd_server.specs.Keeping.{FindsKept}
 use Rattle.sd_server.specs.Looks.{HeadIs, IsLook}
@@ -66,11 +66,27 @@ SaysNot opening _ = ⊥
 abbrev pub IsAnswered : State → Event → Answer → Type 0
 IsAnswered opening event answer = ((receipt : Receipt) × IsEntered opening event receipt × (answer ≡ receipt.answer)) ⊎ OfSome opening (λ h. IsIdle h.state event (Some answer))
 
--- the machine's answer to an event
+-- the machine's answer to an event that was entered
+abbrev pub IsAnswerTo : State → Event → Answer → Type 0
+IsAnswerTo opening event answer = (receipt : Receipt) × IsEntered opening event receipt × (answer ≡ receipt.answer)
+
 abbrev pub SaysEvent : State → Event → Said → Type 0
-SaysEvent opening event (Answered answer) = (receipt : Receipt) × IsEntered opening event receipt × (answer ≡ receipt.answer)
+SaysEvent opening event (Answered answer) = IsAnswerTo opening event answer
 SaysEvent opening event (Refused error) = SaysNot opening error
 SaysEvent opening event _ = ⊥
+
+-- to each event its own answer, in order
+abbrev pub AreAnswers : State → List Event → List Answer → Type 0
+AreAnswers opening [] [] = Unit {0}
+AreAnswers opening [] (answer ∷ answers) = ⊥
+AreAnswers opening (event ∷ events) [] = ⊥
+AreAnswers opening (event ∷ events) (answer ∷ answers) = IsAnswerTo opening event answer × AreAnswers opening events answers
+
+-- the answers to all reports of a list, and a round that was open; or why there is none to one of them
+abbrev pub SaysReports : State → List Event → Said → Type 0
+SaysReports opening events (Answers answers round) = AreAnswers opening events answers × OfSome opening (λ h. h.state.round ≡ round)
+SaysReports opening events (Refused error) = SaysNot opening error
+SaysReports opening events _ = ⊥
 
 -- of a collector that left, the lists can be let go, where its number is known
 abbrev pub SaysOfLeft : State → Change → Said → Type 0
@@ -321,6 +337,7 @@ SaysRefused error said = (said ≡ Refused error) ⊎ ((error ≡ Shape) × IsMi
 abbrev pub SaysBy : State → ConfigPages → Ask → Result (Option Wanted) RequestError → Said → Type 0
 SaysBy opening pages asked (Ok (Some (AnEvent event))) said = SaysEvent opening event said
 SaysBy opening pages asked (Ok (Some (OfNamed name change))) said = SaysChange opening name change said
+SaysBy opening pages asked (Ok (Some (Reports events))) said = SaysReports opening events said
 SaysBy opening pages asked (Ok None) said = SaysPage opening pages asked said
 SaysBy opening pages asked (Err error) said = SaysRefused error said
 

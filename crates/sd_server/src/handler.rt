@@ -146,6 +146,7 @@ impl<R: Wait + Clock + Copy, L: Ledger, B: Ledger, N: DeskName> Handler<R, L, B,
         match event_of(self.alloc, ask, body, self.epoch) {
             Ok(Some(Wanted::Event(event))) => self.entered(event),
             Ok(Some(Wanted::OfNamed { name, change })) => self.changed(&name, change),
+            Ok(Some(Wanted::Reports(events))) => self.reported(events.as_slice()),
             Ok(None) => self.shown(ask),
             Err(error) => Entry::Now(self.refused(ask, body, error)),
         }

@@ -25,6 +25,7 @@ mod look;
 mod manner;
 mod one_by_one;
 mod reply;
+mod reported;
 mod service;
 mod shown;
 mod spoken;
