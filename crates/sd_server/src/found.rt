@@ -112,9 +112,10 @@ fn found_target(
 ) -> Result<FoundTarget, AllocError> {
     let job = job.copy()?;
     let collector = holder_of(core, number)?;
-    let since = match collector {
-        Some(_) => core.held_since(number),
-        None => None,
+    let since = if collector.is_some() {
+        core.held_since(number)
+    } else {
+        None
     };
     let target = target.copy()?;
     Ok(FoundTarget {

@@ -109,12 +109,13 @@ impl<R: Wait + Clock + Copy, L: Ledger, B: Ledger, N: DeskName> AllocatorService
     fn entry(&self, ask: &Ask, for_people: bool) -> Entry
         ensures { Leads (Says N.opening (arc_value self.now.handler.pages) ask.now []) result }
     {
-        if for_people {
-            if let Some(said) = self.handler.document(ask) {
-                return Entry::Now(said);
-            }
+        if !for_people {
+            return self.handler.entry(ask, b"");
         }
-        self.handler.entry(ask, b"")
+        match self.handler.document(ask) {
+            Some(said) => Entry::Now(said),
+            None => self.handler.entry(ask, b""),
+        }
     }
 }
 
