@@ -9,6 +9,6 @@ pub are_answers_more :
     (opening : State) (events : List Event) (answers : List Answer) (event : Event) (answer : Answer) → AreAnswers opening events answers → IsAnswerTo opening event answer
     → AreAnswers opening (events ++ event ∷ []) (answers ++ answer ∷ [])
 are_answers_more opening [] [] event answer are one = (one, tt)
-are_answers_more opening [] (a ∷ as) event answer are one = absurd are
+are_answers_more opening [] (a ∷ rest) event answer are one = absurd are
 are_answers_more opening (e ∷ es) [] event answer are one = absurd are
-are_answers_more opening (e ∷ es) (a ∷ as) event answer are one = (are.0, are_answers_more opening es as event answer are.1 one)
+are_answers_more opening (e ∷ es) (a ∷ rest) event answer are one = (are.0, are_answers_more opening es rest event answer are.1 one)
