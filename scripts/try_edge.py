@@ -3,7 +3,8 @@
 
 Where it listens and keeps its journal, each job's own rules, reloads with more sources, other orders and too many jobs, who is uncovered,
 names as text, the pages and their links, since when targets are held, what is counted, how long it took, what strangers send and don't send, answers to the byte, rounds over renewals and
-starts, sources that fall silent beside others, YAML, lists of reports, entity tags, lists that are acknowledged, loads that are made even. It needs Linux and the program (ALLOCD_PROGRAM, or dist/allocd)."""
+starts, sources that fall silent beside others, YAML, lists of reports, entity tags, lists that are acknowledged, loads that are made even, sources by name, files of targets. It needs
+Linux and the program (ALLOCD_PROGRAM, or dist/allocd)."""
 
 import html.parser
 import http.client
@@ -12,12 +13,13 @@ import json
 import os
 import re
 import socket
+import subprocess
 import sys
 import threading
 import time
 import urllib.parse
 
-from allocd_service import Service, comes, events_in, lines_of, replayed, run
+from allocd_service import ROOT, Service, comes, compiler, events_in, lines_of, replayed, run
 from parts import run_parts, tell
 
 ANY = [{"allow": True, "test": "any"}]
@@ -26,10 +28,11 @@ ANY = [{"allow": True, "test": "any"}]
 class Source(http.server.BaseHTTPRequestHandler):
     """Lists of targets by path, and when each was asked for."""
 
-    lists, asked = {}, {}
+    lists, asked, hosts = {}, {}, {}
 
     def do_GET(self):
         self.asked.setdefault(self.path, []).append(time.monotonic())
+        self.hosts[self.path] = self.headers["host"]
         body = json.dumps([{"targets": self.lists.get(self.path, [])}]).encode()
         self.send_response(200)
         self.send_header("content-type", "application/json")
@@ -1079,8 +1082,120 @@ def evens_in_turn(folder):
     ends(service)
 
 
+def hanging(folder):
+    """The environment in which the look-up of a name that begins with `hangs` does not come back, or None where there is no compiler."""
+    by, library = compiler(), f"{folder}/hang_lookups.so"
+    if by is None:
+        return None
+    subprocess.run([by, "-O2", "-shared", "-fPIC", "-nostdlib", "-o", library, f"{ROOT}/scripts/hang_lookups.c"], check=True)
+    return {"LD_PRELOAD": library}
+
+
+def fault_of(service, source):
+    """What the page says of why a source fails."""
+    rows = Page(service.ask("GET", "/")[1]).tables["Discovery sources"]
+    return next((" ".join(row) for row in rows if row[0] == source), "")
+
+
+def gap_of(path, since):
+    """How long at most a source was left alone since then."""
+    times = [since, *(at for at in Source.asked.get(path, []) if at > since), time.monotonic()]
+    return max(after - before for before, after in zip(times, times[1:]))
+
+
+def named(name, path, every="1s"):
+    return {"url": f"http://{name}:{SOURCE.server_port}{path}", "refresh_interval": every}
+
+
+def names(folder):
+    Source.lists.update({"/named": ["127.0.0.1:7401", "127.0.0.1:7402"], "/beside": ["127.0.0.1:7403"]})
+    # Names are told apart from addresses by letters, and `localhost` alone is an address: in capitals it is looked up.
+    lost = {"url": "http://no-such-host.invalid/sd", "refresh_interval": "1s"}
+    jobs = [{"job_name": "n", "http_sd_configs": [named("LOCALHOST", "/named"), lost]}, {"job_name": "p", "http_sd_configs": [url("/beside", "1s")]}]
+    service = started(folder, jobs, fetch_timeout="3s")
+    tell("a source by name is asked", has(service, 'allocd_targets_covered{job="n"}', 2))
+    tell("by the name that its URL has", Source.hosts["/named"] == f"LOCALHOST:{SOURCE.server_port}", Source.hosts["/named"])
+    tell("a name without an address fails, and says why", comes(lambda: "no such name" in fault_of(service, "n/2"), 10), fault_of(service, "n/2"))
+    tell("its log line too", "refresh failed: no such name" in open(f"{folder}/log").read())
+    Source.lists["/named"] = ["127.0.0.1:7401"]
+    tell("a source by name is asked again", has(service, 'allocd_targets{job="n"}', 1))
+    began = time.monotonic()
+    time.sleep(4)
+    tell("others keep their second", gap_of("/beside", began) < 1.6, f"{gap_of('/beside', began):.2f} seconds at most")
+    ends(service)
+    environment = hanging(folder)
+    if environment is None:
+        print("skipped: names whose look-up hangs (there is no C compiler)")
+        return
+    stuck = [{"url": f"http://hangs{i}.invalid/sd", "refresh_interval": "1s"} for i in range(6)]
+    jobs = [{"job_name": "n", "http_sd_configs": [*stuck, named("LOCALHOST", "/named"), url("/beside", "1s")]}]
+    service = Service(folder, config(jobs, fetch_timeout="1s"), f"{folder}/journal.hangs", environment)
+    service.is_up()
+    comes(lambda: service.ask("GET", "/-/ready")[0] == 200, 20)
+    began = time.monotonic()
+    time.sleep(4)
+    tell("beside names whose look-up hangs a source by address keeps its second", gap_of("/beside", began) < 1.6, f"{gap_of('/beside', began):.2f} seconds at most")
+    tell("such a source fails in time", "no answer in time" in fault_of(service, "n/1"), fault_of(service, "n/1"))
+    began = time.monotonic()
+    reloaded(service, config([*jobs, static("m", 2)], fetch_timeout="1s"))
+    tell("a reload waits for no look-up", has(service, 'allocd_targets{job="m"}', 2) and time.monotonic() - began < 5, f"after {time.monotonic() - began:.2f} seconds")
+    began = time.monotonic()
+    ends(service)
+    tell("nor does the end of the service", time.monotonic() - began < 5, f"after {time.monotonic() - began:.2f} seconds")
+
+
+def files(folder):
+    os.makedirs(f"{folder}/targets", exist_ok=True)
+    path = lambda name: f"{folder}/targets/{name}"
+
+    def put(name, text):
+        with open(path("part"), "w") as it:
+            it.write(text if isinstance(text, str) else json.dumps(text))
+        os.replace(path("part"), path(name))
+
+    group = lambda *ports, **labels: {"targets": [f"127.0.0.1:{port}" for port in ports], "labels": labels}
+    keeps = [{"source_labels": ["__meta_filepath"], "target_label": "from"}, {"source_labels": ["__meta_url"], "regex": ".+", "action": "drop"}]
+    found = [{"files": ["targets/*.json", f"{folder}/more.json"], "refresh_interval": "500ms"}]
+    jobs = [{"job_name": "f", "file_sd_configs": found, "relabel_configs": keeps}, static("n", 1)]
+    service = started(folder, jobs)
+    comes(lambda: service.ask("GET", "/-/ready")[0] == 200, 20)
+    tell("a pattern without a file is an empty list and no failure", service.figure('allocd_refresh_failures_total') == 0, service.figure('allocd_refresh_failures_total'))
+    put("a.json", [group(7501, zone="x"), group(7502)])
+    tell("a file that appears is read", has(service, 'allocd_targets_covered{job="f"}', 2))
+    listed = {g["targets"][0]: g["labels"].get("from") for g in json.loads(service.ask("GET", "/jobs/f/targets?collector_id=a")[1])}
+    tell("its targets have its path, and no URL", set(listed.values()) == {path("a.json")}, listed)
+    put("b.json", [group(7503)])
+    with open(f"{folder}/more.json", "w") as it:
+        json.dump([group(7504)], it)
+    tell("a star stands for each of several, beside a path of its own", has(service, 'allocd_targets_covered{job="f"}', 4))
+    put("a.json", [group(7501, zone="x")])
+    tell("a file that changes is read again", has(service, 'allocd_targets{job="f"}', 3))
+    put("b.json", "[{")
+    tell("a faulty one fails with its path", comes(lambda: f"{path('b.json')}: no JSON" in fault_of(service, "f/1"), 10), fault_of(service, "f/1"))
+    put("a.json", [group(7501), group(7505)])
+    time.sleep(1.5)
+    tell("and the whole list stays", service.figure('allocd_targets{job="f"}') == 3, service.figure('allocd_targets{job="f"}'))
+    put("b.json", [group(7503)])
+    tell("until it is mended", has(service, 'allocd_targets{job="f"}', 4))
+    os.remove(path("b.json"))
+    tell("a file that goes takes its targets with it", has(service, 'allocd_targets{job="f"}', 3))
+    os.mkdir(path("c.json"))
+    tell("a folder of such a name is a fault", comes(lambda: f"{path('c.json')}: no regular file" in fault_of(service, "f/1"), 10), fault_of(service, "f/1"))
+    os.rmdir(path("c.json"))
+    put("big.json", " " * 4_194_305)
+    tell("and files of more than 4 MiB together", comes(lambda: f"{path('big.json')}: " in fault_of(service, "f/1") and "too long" in fault_of(service, "f/1"), 10), fault_of(service, "f/1"))
+    os.remove(path("big.json"))
+    Source.lists["/beside"] = ["127.0.0.1:7506"]
+    jobs[0] = {**jobs[0], "http_sd_configs": [url("/beside")], "relabel_configs": keeps[:1]}
+    reloaded(service, config(jobs))
+    tell("sources over HTTP stand before those of files", has(service, 'allocd_targets{job="f"}', 4) and comes(lambda: fault_of(service, "f/2").startswith("f/2"), 5))
+    ends(service)
+    status, _, last = replayed(f"{folder}/journal")
+    tell("its journal is replayed", status == 0, last)
+
+
 SOURCE = http.server.ThreadingHTTPServer(("127.0.0.1", 0), Source)
 SOURCE.daemon_threads = True
 threading.Thread(target=SOURCE.serve_forever, daemon=True).start()
-PARTS = (settings, relabels, reloads, uncovered, texts, page, job_pages, collector_pages, since, series, figures, process, takes, talks, requests, lifecycles, held_rows, stalls, rounds, rounds_kept, silences, yaml, lists_of_reports, entity_tags, acknowledge, spreads, spreads_by_job, evens, evens_in_turn)
+PARTS = (settings, relabels, reloads, uncovered, texts, page, job_pages, collector_pages, since, series, figures, process, takes, talks, requests, lifecycles, held_rows, stalls, rounds, rounds_kept, silences, yaml, lists_of_reports, entity_tags, acknowledge, spreads, spreads_by_job, evens, evens_in_turn, names, files)
 run_parts(PARTS, sys.argv[1:])

@@ -37,11 +37,7 @@ fn entry_fault(alloc: Global, index: usize, entry: &Value) -> Result<Option<Stri
     }
 }
 
-fn paths_fault(
-    alloc: Global,
-    index: usize,
-    paths: &[Value],
-) -> Result<Option<String>, AllocError> {
+fn paths_fault(alloc: Global, index: usize, paths: &[Value]) -> Result<Option<String>, AllocError> {
     if paths.is_empty() {
         return Ok(Some(format!(in alloc; "file_sd_configs[{index}].files: no path")?));
     }

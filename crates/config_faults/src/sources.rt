@@ -1,5 +1,5 @@
 //! What is wrong with the sources of a job.
-use http_get::{address_of, get_of_url};
+use http_get::{address_of, get_of_url, name_of};
 use logfmt::Quoted;
 use sd_documents::Job;
 use serde_json::Value;
@@ -55,10 +55,11 @@ fn url_fault(alloc: Global, url: &str) -> Result<Option<&'static str>, AllocErro
         return Ok(Some("it does not begin with http://"));
     }
     let get = get_of_url(alloc, url)?;
-    match address_of(get.address.as_str()) {
-        Some(_) => Ok(None),
-        None => Ok(Some(
-            "no address; a dotted IPv4 address or localhost is one, with a port below 65536 or none, and no other name is looked up",
-        )),
+    let host = get.address.as_str();
+    if address_of(host).is_some() || name_of(host).is_some() {
+        return Ok(None);
     }
+    Ok(Some(
+        "no host; a dotted IPv4 address is one, or a name of letters, digits, hyphens and dots, with a port below 65536 or none",
+    ))
 }

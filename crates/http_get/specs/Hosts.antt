@@ -29,4 +29,4 @@ is_host_name name = nat_le (length name) LONGEST_NAME && (are_labels 0 46 name &
 pub record IsNamed (text name : List ℕ) (port : ℕ) : Type 0 where
   pub front : name ≡ before_first (λ b. b == 58) text
   pub host : IsTrue (is_host_name name)
-  pub port : IsPort (behind_colon text) port
+  pub numbered : IsPort (behind_colon text) port

@@ -4,6 +4,7 @@
 mod command;
 mod configuration;
 mod descriptors;
+mod devices;
 mod documents;
 mod doors;
 mod kernel_texts;

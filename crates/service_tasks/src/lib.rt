@@ -4,6 +4,7 @@
 //! Contracts say that the allocator to go on with is one that events and renewals of the machine lead to; of time and order they say nothing.
 #![tactic(auto)]
 
+mod answers;
 mod attendance;
 mod beginning;
 mod changing;
