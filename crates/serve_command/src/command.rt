@@ -77,7 +77,7 @@ where
             let lookups = &lookups;
             serve_by(queued, Machine { host, lookups }, options, queue.lost())
         }
-        Err(AllocError) => Err(AllocError.into()),
+        Err(error) => Err(Fault::from(error)),
     };
     let is_read = queue.close(rt, Duration::from_millis(LAST_LINES));
     match ended {
