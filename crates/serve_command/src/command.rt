@@ -72,12 +72,10 @@ where
         + Drop,
 {
     let _streams = hold_streams(rt, rt.alloc());
-    let ended = match start_lookups(rt) {
-        Ok(lookups) => {
-            let lookups = &lookups;
-            serve_by(queued, Machine { host, lookups }, options, queue.lost())
-        }
-        Err(error) => Err(Fault::from(error)),
+    let lookups = start_lookups(rt);
+    let ended = match &lookups {
+        Ok(lookups) => serve_by(queued, Machine { host, lookups }, options, queue.lost()),
+        Err(_) => Err(Fault::from(AllocError)),
     };
     let is_read = queue.close(rt, Duration::from_millis(LAST_LINES));
     match ended {

@@ -54,8 +54,14 @@ struct Refresher<'a, R, L: Ledger, B: Ledger, N: DeskName, D> {
     sources: Sources,
 }
 
-impl<R: Wait + Clock + Eprint + Copy, L: Ledger, B: Ledger, N: DeskName, D: ReadFiles> Asker
-    for Refresher<'_, R, L, B, N, D> {
+impl<R, L, B, N, D> Asker for Refresher<'_, R, L, B, N, D>
+where
+    R: Wait + Clock + Eprint + Copy,
+    L: Ledger,
+    B: Ledger,
+    N: DeskName,
+    D: ReadFiles,
+{
     /// The source that is due for longest is asked next. It is waited for answers, or, where none is to come, until a source is due.
     fn next(&mut self) -> Next {
         match self.sources.begin_due(&self.shared.rt) {
@@ -72,14 +78,14 @@ impl<R: Wait + Clock + Eprint + Copy, L: Ledger, B: Ledger, N: DeskName, D: Read
     }
 }
 
-impl<R: Wait + Clock + Eprint + Copy, L: Ledger, B: Ledger, N: DeskName, D: ReadFiles> Refresher<
-    '_,
-    R,
-    L,
-    B,
-    N,
-    D,
-> {
+impl<R, L, B, N, D> Refresher<'_, R, L, B, N, D>
+where
+    R: Wait + Clock + Eprint + Copy,
+    L: Ledger,
+    B: Ledger,
+    N: DeskName,
+    D: ReadFiles,
+{
     /// Asks the source at a place, or reads its files at once. Where it cannot be asked, that is what it comes to.
     fn ask(&mut self, place: usize) -> Next {
         match self.wanted_at(place) {
