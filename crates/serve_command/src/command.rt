@@ -37,7 +37,7 @@ const LAST_LINES: u64 = 1_000;
 
 /// Does what the options ask for, and gives the exit status: 0 where the service was told to end, 2 where it is not told what to do, 3 where
 /// the machine failed it. What is logged is written to `queued`, a handle whose standard error is the queue. The last fault is told past that, by
-/// `rt`, if somebody has read all before; by `rt` names are looked up too. The configuration is read again by `host`.
+/// `rt`, if somebody has read all before. By `host` the configuration is read again, and names are looked up.
 pub fn serve<R, Q>(
     rt: &R,
     queued: &Q,
@@ -46,17 +46,7 @@ pub fn serve<R, Q>(
     queue: &LogQueue,
 ) -> ExitCode
 where
-    R: Wait
-        + Threads
-        + Clock
-        + Net<Listener = TcpListener, Stream = TcpStream>
-        + Files<File = File>
-        + AllocGlobal
-        + Eprint
-        + Send
-        + Copy
-        + Drop
-        + 'static,
+    R: Wait + Clock + Files<File = File> + AllocGlobal + Eprint + Copy,
     Q: Wait
         + Threads
         + Clock
@@ -72,7 +62,7 @@ where
         + Drop,
 {
     let _streams = hold_streams(rt, rt.alloc());
-    let lookups = start_lookups(rt);
+    let lookups = start_lookups(&host);
     let ended = match &lookups {
         Ok(lookups) => serve_by(queued, Machine { host, lookups }, options, queue.lost()),
         Err(_) => Err(Fault::from(AllocError)),
