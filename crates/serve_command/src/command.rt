@@ -13,7 +13,6 @@ use journal_files::{Fault, is_same_file};
 use log::error;
 use log_queue::LogQueue;
 use logfmt::Logfmt;
-use scrape_client::start_lookups;
 use sd_documents::Job;
 use service_tasks::Service;
 use std::alloc::{AllocError, AllocGlobal, Global};
@@ -37,11 +36,11 @@ const LAST_LINES: u64 = 1_000;
 
 /// Does what the options ask for, and gives the exit status: 0 where the service was told to end, 2 where it is not told what to do, 3 where
 /// the machine failed it. What is logged is written to `queued`, a handle whose standard error is the queue. The last fault is told past that, by
-/// `rt`, if somebody has read all before. By `host` the configuration is read again, and names are looked up.
+/// `rt`, if somebody has read all before. By the machine's handle the configuration is read again.
 pub fn serve<R, Q>(
     rt: &R,
     queued: &Q,
-    host: HostRuntime,
+    machine: Machine<'_>,
     options: &ServeOptions<'_>,
     queue: &LogQueue,
 ) -> ExitCode
@@ -62,11 +61,7 @@ where
         + Drop,
 {
     let _streams = hold_streams(rt, rt.alloc());
-    let lookups = start_lookups(&host);
-    let ended = match &lookups {
-        Ok(lookups) => serve_by(queued, Machine { host, lookups }, options, queue.lost()),
-        Err(_) => Err(Fault::from(AllocError)),
-    };
+    let ended = serve_by(queued, machine, options, queue.lost());
     let is_read = queue.close(rt, Duration::from_millis(LAST_LINES));
     match ended {
         Ok(()) => ExitCode::from(0),

@@ -13,10 +13,10 @@ use std::time::{Clock, Duration};
 
 /// What a service has of the machine that it is on, beside its own handle.
 #[derive(Clone, Copy, Drop)]
-pub(crate) struct Machine<'a> {
-    pub(crate) host: HostRuntime,
+pub struct Machine<'a> {
+    pub host: HostRuntime,
     /// Where names are looked up.
-    pub(crate) lookups: &'a Arc<Lookups>,
+    pub lookups: &'a Arc<Lookups>,
 }
 
 /// A device over HTTP, and the files of this machine.

@@ -16,3 +16,4 @@ mod running;
 mod standard_streams;
 
 pub use command::serve;
+pub use devices::Machine;
