@@ -64,7 +64,7 @@ class Refusals:
 class Row:
     """What came of a call, one count a verdict."""
 
-    heads = ("Call", "Allocations met", "Tried", "As without", "Want of memory", "Closed or ended", "Other")
+    heads = ("Call", "Allocations met", "Tried", "As without", "Out of memory", "Closed or ended", "Other")
 
     def __init__(self, name):
         self.name, self.met, self.tried = name, 0, 0
@@ -245,7 +245,7 @@ def session(text, environment):
 
 def sessions(folder, refusals):
     """Turns, rounds and refreshes on threads, as a session runs them."""
-    print("| Session | Allocations met | Tried | As without | Less booked, and so much in all | Want of memory | Other |")
+    print("| Session | Allocations met | Tried | As without | Less booked, and so much in all | Out of memory | Other |")
     print("|---|---|---|---|---|---|---|")
     with open(f"{ROOT}/examples/session.json", "rb") as it:
         example = it.read()

@@ -7,9 +7,10 @@ picture=$(realpath -m "${1:-$root/docs/operate/page.png}")
 python3 "$root/examples/targets.py" &
 targets=$!
 until curl -sf http://127.0.0.1:9100/targets > /dev/null; do sleep 0.1; done
-"${ALLOCD_PROGRAM:-$root/allocd}" serve --config "$root/examples/serve.json" &
+folder=$(mktemp -d)
+"${ALLOCD_PROGRAM:-$root/allocd}" serve --config "$root/examples/serve.json" --journal "$folder/allocator.journal" &
 service=$!
-trap 'kill $targets $service 2> /dev/null || true' EXIT
+trap 'kill $targets $service 2> /dev/null || true; rm -rf "$folder"' EXIT
 for _ in $(seq 100); do
     curl -sf http://127.0.0.1:8080/metrics | grep -q 'allocd_targets_covered{job="web"} [1-9]' && break
     sleep 0.2

@@ -2,8 +2,9 @@
 """Runs `allocd serve` over settings, sources and figures that scripts/try_serve.py does not look at, and tells of each thing whether it holds: try_edge.py [PART ..]
 
 Where it listens and keeps its journal, each job's own rules, reloads with more sources, other orders and too many jobs, who is uncovered,
-names as text, the page and its links, what is counted, how long it took, what strangers send and don't send, answers to the byte, rounds over renewals and
-starts, sources that fall silent beside others, YAML, lists that are acknowledged, loads that are made even. It needs Linux and the program (ALLOCD_PROGRAM, or dist/allocd)."""
+names as text, the pages and their links, since when targets are held, what is counted, how long it took, what strangers send and don't send, answers to the byte, rounds over renewals and
+starts, sources that fall silent beside others, YAML, lists of reports, entity tags, lists that are acknowledged, loads that are made even, sources by name, files of targets. It needs
+Linux and the program (ALLOCD_PROGRAM, or dist/allocd)."""
 
 import html.parser
 import http.client
@@ -12,12 +13,13 @@ import json
 import os
 import re
 import socket
+import subprocess
 import sys
 import threading
 import time
 import urllib.parse
 
-from allocd_service import Service, comes, events_in, lines_of, replayed, run
+from allocd_service import ROOT, Service, comes, compiler, events_in, lines_of, replayed, run
 from parts import run_parts, tell
 
 ANY = [{"allow": True, "test": "any"}]
@@ -26,10 +28,11 @@ ANY = [{"allow": True, "test": "any"}]
 class Source(http.server.BaseHTTPRequestHandler):
     """Lists of targets by path, and when each was asked for."""
 
-    lists, asked = {}, {}
+    lists, asked, hosts = {}, {}, {}
 
     def do_GET(self):
         self.asked.setdefault(self.path, []).append(time.monotonic())
+        self.hosts[self.path] = self.headers["host"]
         body = json.dumps([{"targets": self.lists.get(self.path, [])}]).encode()
         self.send_response(200)
         self.send_header("content-type", "application/json")
@@ -101,6 +104,13 @@ def relabels(folder):
     labels = lambda job: {group["labels"].get("by") for group in json.loads(service.ask("GET", f"/jobs/{job}/targets?collector_id=a")[1])}
     tell("static targets and discovered ones have the labels of their own job's rules", (labels("one"), labels("two")) == ({"first"}, {"second"}))
     tell("what a rule drops is not there", held(service, "three") == ["127.0.0.1:7002"])
+    of = lambda job: tuple(service.figure(f'allocd_source_targets{what}{{job="{job}",source="{job}/1"}}') for what in ("", "_dropped", "_without_address"))
+    tell("the figures say how many a source lists, and how many rules leave out", (of("two"), of("three")) == ((2, 0, 0), (1, 1, 0)), (of("two"), of("three")))
+    Source.lists["/rules"] = ["127.0.0.1:7001", "127.0.0.1:7003"]
+    bare = {"target_label": "__address__", "source_labels": ["__address__"], "regex": ".*:7003", "replacement": ""}
+    reloaded(service, config([*jobs, {"job_name": "three", **found, "relabel_configs": [*drops, bare]}, {"job_name": "four", "http_sd_configs": [url("/none", port=1)]}]))
+    tell("and how many have no address then", comes(lambda: of("three") == (0, 1, 1), 20), of("three"))
+    tell("nothing where a source gave no list", of("four") == (0, 0, 0), of("four"))
     ends(service)
 
 
@@ -216,7 +226,8 @@ def page(folder):
     answers = {way: service.ask("GET", way)[0] for way in ways}
     tell("each of its links is answered 200", set(answers.values()) == {200}, {way: status for way, status in answers.items() if status != 200})
     of_jobs = [link for link in ways if link.startswith("/jobs/")]
-    tell("those of a job have its name in one segment", "/jobs/a%2Fb%20%3Ci%3E%26amp%3B%3F%23%25/targets" in of_jobs, of_jobs)
+    tell("those of a job have its name in one segment", "/jobs/a%2Fb%20%3Ci%3E%26amp%3B%3F%23%25" in of_jobs, of_jobs)
+    tell("each job and each collector has a page", {"/jobs/n", "/jobs/found", "/collectors/1"} <= set(ways), ways)
     tell("a link to a list takes nothing", service.figure('allocd_collector_taken_allocation{collector="a"}') == 0)
     sources = [row[0] for row in first.tables["Discovery sources"]]
     tell("sources that fail stand first", sources == ["found/2", "found/1"], sources)
@@ -240,6 +251,143 @@ def page(folder):
     tell("where nothing is live that needs attention", comes(lambda: "No target is live: no source lists one" in look().bad(), 10), look().bad())
     text = service.ask("GET", "/")[1]
     tell("version and journal stand at the foot", "<footer><p>allocd 0.1.0, up for " in text and "; no journal is written" in text, text.rpartition("<footer>")[2])
+    ends(service)
+
+
+BROWSER = "text/html,application/xhtml+xml,application/xml;q=0.9,*/*;q=0.8"
+
+
+def seen(service, path):
+    """What a browser is shown, and its text."""
+    status, headers, text = answer_of(service, path, {"accept": BROWSER})
+    assert status == 200 and headers["content-type"] == "text/html; charset=utf-8", (path, status, headers.items())
+    return Page(text), text
+
+
+def goes_on(service, page, path):
+    """The links of a page that lead nowhere."""
+    ways = sorted({link for link in page.links if link.startswith("/")})
+    return len(ways) < 5 or [(way, path) for way in ways if service.ask("GET", way)[0] != 200]
+
+
+def job_pages(folder):
+    Source.lists["/found"] = ["127.0.0.1:7001"]
+    odd = "a/b <i>&amp;?#%"
+    reach = [{"allow": True, "test": "equals", "label": "job", "value": job} for job in ("n", odd)]
+    labels = {"team": "<b>x</b>", "__hidden": "no"}
+    sources = [url("/found"), url("/", port=1)]
+    jobs = [static("n", 3, target_limit=3, http_sd_configs=sources), {"job_name": odd, "static_configs": [{"targets": ["127.0.0.1:9300"], "labels": labels}]}, static("lone", 2, 9500)]
+    service = started(folder, jobs, collectors=[{"name": "a", "reach": reach}])
+    has(service, 'allocd_targets_covered{job="n"}', 3)
+    comes(lambda: service.ask("GET", "/-/ready")[0] == 200, 20)
+    of = lambda job: json.loads(service.ask("GET", f"/jobs/{urllib.parse.quote(job, safe='')}")[1])
+    counts = lambda job: {name: of(job)[name] for name in ("job_name", "live", "covered", "uncovered", "unreached", "handing_over", "collectors")}
+    tell("a job says how many targets it has, and who holds how many", counts("n") == {
+        "job_name": "n", "live": 4, "covered": 3, "uncovered": 1, "unreached": 0, "handing_over": 0, "collectors": {"a": 3}}, counts("n"))
+    tell("one that nobody reaches, too", counts("lone") == {
+        "job_name": "lone", "live": 2, "covered": 0, "uncovered": 2, "unreached": 2, "handing_over": 0, "collectors": {}}, counts("lone"))
+    told = of("n")["sources"]
+    tell("its sources are told by their URLs, with their faults", [it["url"] for it in told] == [it["url"] for it in sources] and told[0]["fault"] is None
+         and abs(told[0]["last_success"] - time.time()) < 30 and told[1]["last_success"] is None and "connect" in told[1]["fault"].lower(), told)
+    tell("its links lead to its lists", [service.ask("GET", way)[0] for way in of(odd)["links"].values()] == [200, 200], of(odd)["links"])
+    tell("there is no other job", (service.ask("GET", "/jobs/k"), answer_of(service, "/jobs/k", {"accept": BROWSER})[::2]) == ((404, '{"refused":"UnknownJob"}'), (404, '{"refused":"UnknownJob"}')))
+    page, text = seen(service, "/jobs/n")
+    tell("a browser has a page of it, with its name in the title", page.title == "allocd: job n", page.title)
+    tell("it has no script, and each table a caption", "script" not in page.tags and list(page.tables) == ["How many targets", "Collectors", "Discovery sources", "Targets"], list(page.tables))
+    tell("the counts", page.tables["How many targets"] == [["4", "3", "1", "0", "0"]] and page.tables["Collectors"] == [["a", "3"]], page.tables)
+    tell("the sources, by their URLs", [row[0] for row in page.tables["Discovery sources"]] == [it["url"] for it in sources], page.tables["Discovery sources"])
+    rows = page.tables["Targets"]
+    tell("its targets, first those that nobody holds", len(rows) == 4 and rows[0][1] == "none: who reaches it is full" and {row[1] for row in rows[1:]} == {"a"}, rows)
+    tell("a link of the page leads somewhere", not (lost := goes_on(service, page, "/jobs/n")), lost)
+    page, text = seen(service, f"/jobs/{urllib.parse.quote(odd, safe='')}")
+    row = page.tables["Targets"][0]
+    tell("names and values of labels are text, and those with two underscores are left out", f"<h1>Job a/b &lt;i&gt;&amp;amp;?#%</h1>" in text and row[4].split() == [
+        'instance="127.0.0.1:9300"', 'job="a/b', "<i>&amp;?#%\"", 'team="<b>x</b>"'], row)
+    tell("of one that nobody reaches it is said", [row[1] for row in seen(service, "/jobs/lone")[0].tables["Targets"]] == ["none reaches it"] * 2)
+    media = lambda accept, path="/jobs/n": headers_of(service, path, accept)[0]["content-type"]
+    found = [media(it) for it in (None, "*/*", "application/json, text/html", "application/yaml, text/html", "Text/HTML;q=0.1, application/json", "text/html,application/yaml")]
+    tell("the first of the media types decides", found == ["application/json"] * 3 + ["application/yaml"] + ["text/html; charset=utf-8"] * 2, found)
+    tell("what has no page is told as before", (media(BROWSER, "/jobs"), media(BROWSER, "/collectors")) == ("application/json",) * 2)
+    length = len(seen(service, "/jobs/lone")[1].encode())
+    tell("HEAD has the head of the same", head_of(service, "/jobs/lone", BROWSER) == (200, "text/html; charset=utf-8", str(length)), head_of(service, "/jobs/lone", BROWSER))
+    reloaded(service, config([static("many", 1500)]))
+    comes(lambda: service.ask("GET", "/jobs/many")[0] == 200 and of("many")["covered"] == 1500, 20)
+    page, text = seen(service, "/jobs/many")
+    tell("a page has 1,000 targets at most, and says how many more there are", len(page.tables["Targets"]) == 1000 and "<p>And 500 more. <code>/targets?search=TEXT</code>" in text, len(page.tables["Targets"]))
+    ends(service)
+
+
+def head_of(service, path, accept):
+    """The status, the media type and the length that a HEAD tells."""
+    it = http.client.HTTPConnection("127.0.0.1", service.port, timeout=30)
+    it.request("HEAD", path, headers={"accept": accept})
+    answer = it.getresponse()
+    it.close()
+    return answer.status, answer.headers["content-type"], answer.headers["content-length"]
+
+
+def collector_pages(folder):
+    odd = "<i>a/b"
+    service = started(folder, [static("n", 3), static("m", 1, 9300)], collectors=[{"name": odd, "reach": [{"allow": True, "test": "equals", "label": "x", "value": "<x>"}, *ANY]}])
+    has(service, 'allocd_targets_covered{job="n"}', 3)
+    has(service, 'allocd_targets_covered{job="m"}', 1)
+    comes(lambda: service.ask("GET", "/-/ready")[0] == 200, 20)
+    page, text = seen(service, "/collectors/1")
+    tell("a browser has a page of a collector, with its name as text", page.title == f"allocd: collector {odd}" and "<h1>Collector &lt;i&gt;a/b</h1>" in text, page.title)
+    tell("it has no script, and each table a caption", not {"script", "form"} & page.tags and list(page.tables) == ["State", "By job", "Targets"], list(page.tables))
+    tell("its state", page.tables["State"] == [["1", "live", "4", "nothing", "not yet"]], page.tables["State"])
+    tell("whom it reaches", "[{&quot;allow&quot;:true,&quot;label&quot;:&quot;x&quot;,&quot;test&quot;:&quot;equals&quot;,&quot;value&quot;:&quot;&lt;x&gt;&quot;},{&quot;allow&quot;:true,&quot;test&quot;:&quot;any&quot;}]" in text, text)
+    tell("what it holds by job", page.tables["By job"] == [["n", "3"], ["m", "1"]], page.tables["By job"])
+    tell("its targets", sorted(row[:2] for row in page.tables["Targets"]) == [["127.0.0.1:9000", "n"], ["127.0.0.1:9001", "n"], ["127.0.0.1:9002", "n"], ["127.0.0.1:9300", "m"]], page.tables["Targets"])
+    tell("lines for a shell change it", "curl -X POST $ALLOCD/collectors/1/drain  # it is to be emptied\n" in text and "curl -X DELETE $ALLOCD/collectors/1  # it leaves\n" in text)
+    tell("a link of the page leads somewhere", not (lost := goes_on(service, page, "/collectors/1")), lost)
+    tell("a look takes nothing", service.figure(f'allocd_collector_taken_allocation{{collector="{odd}"}}') == 0)
+    tell("it is found by its name as well", seen(service, f"/collectors/{urllib.parse.quote(odd, safe='')}")[0].title == page.title)
+    for job in "nm":
+        service.ask("GET", f"/jobs/{job}/targets?collector_id={urllib.parse.quote(odd)}")
+    service.ask("PUT", "/collectors/1/limits", {"limits": {"n": 2}})
+    comes(lambda: seen(service, "/collectors/1")[0].tables["State"][0][2] == "3", 20)
+    page = seen(service, "/collectors/1")[0]
+    tell("its limits, and what it took", page.tables["Limits of its own"] == [["n", "2"]] and page.tables["State"][0][3] == "1" and page.tables["State"][0][4].endswith(" s ago"), page.tables)
+    service.ask("POST", "/collectors/1/drain", {})
+    tell("and that it is emptied", seen(service, "/collectors/1")[0].tables["State"][0][1] == "draining")
+    tell("there is no other", answer_of(service, "/collectors/9", {"accept": BROWSER})[::2] == (404, '{"refused":"UnknownCollector"}'))
+    tell("who asks for no page has the object", json.loads(service.ask("GET", "/collectors/1")[1])["limits"] == {"n": 2})
+    ends(service)
+
+
+def since(folder):
+    """Since when each target is held, and when it was reported last: by search and on the pages."""
+    service = started(folder, [static("n", 4)])
+    has(service, 'allocd_targets_covered{job="n"}', 4)
+    of = lambda what: [it[what] for it in json.loads(service.ask("GET", "/targets?search=127.0.0.1")[1])["targets"]]
+    first = int(service.figure("allocd_allocation"))
+    tell("what was given out is held since then, and nothing is reported", (of("since"), of("last_round")) == ([first] * 4, [None] * 4), (of("since"), of("last_round")))
+    groups = json.loads(service.ask("GET", "/jobs/n/targets?collector_id=a")[1])
+    number = int(groups[1]["labels"]["__meta_allocator_target"])
+    service.ask("POST", "/reports", {"collector": 1, "number": first, "target": number, "round": 1, "up": True, "samples": 8})
+    tell("a report is told by its round", [of("last_round")[i] for i in (0, 1)] == [None, 1], of("last_round"))
+    service.ask("POST", "/collectors", {"name": "b", "reach": ANY})
+    service.ask("PUT", "/collectors/1/limits", {"limits": {"n": 2}})
+    comes(lambda: sorted(of("collector")) == ["a", "a", "b", "b"], 20)
+    second = int(service.figure("allocd_allocation"))
+    wanted = [first if name == "a" else second for name in of("collector")]
+    tell("what moved is held since then by another, what stayed as before", second > first and of("since") == wanted, (of("since"), of("collector"), second))
+    service.ask("PUT", "/collectors/1/limits", {"limits": {"n": 3}})
+    service.ask("POST", "/collectors/2/drain", {})
+    comes(lambda: sorted(of("collector")) == ["a", "a", "a", "b"], 20)
+    third = int(service.figure("allocd_allocation"))
+    kept = [it for it, name, was in zip(of("since"), of("collector"), wanted) if name == "a" and was == second]
+    tell("what comes back is held since it came back", kept == [third] and of("since").count(first) == 2, (of("since"), third))
+    rows = {row[0]: row[2] for row in seen(service, "/jobs/n")[0].tables["Targets"]}
+    found = {it["target"]: str(it["since"]) for it in json.loads(service.ask("GET", "/targets?search=127.0.0.1")[1])["targets"]}
+    tell("the page of the job tells the same", rows == found, (rows, found))
+    rows = {row[0]: row[2:4] for row in seen(service, "/collectors/a")[0].tables["Targets"]}
+    reported = f"127.0.0.1:{9000 + number}"
+    tell("that of the collector, too", all(found[target] == row[0] for target, row in rows.items()) and (reported not in rows or rows[reported][1] == "1"), (rows, found))
+    service.ask("DELETE", "/collectors/2")
+    service.ask("DELETE", "/collectors/1")
+    tell("what nobody holds is held since nothing", comes(lambda: of("since") == [None] * 4, 10), of("since"))
     ends(service)
 
 
@@ -302,6 +450,7 @@ COUNTED = {
     'allocd_http_requests_total{route="POST /reports",status="409"}': 1,
     'allocd_http_requests_total{route="none",status="404"}': 1,
     "allocd_samples_booked_total": 7,
+    'allocd_targets_taken{job="n"}': 4,
     'allocd_collector_targets{collector="a"}': 4,
     'allocd_collector_targets{collector="b"}': 0,
     'allocd_collector_draining{collector="a"}': 0,
@@ -309,7 +458,78 @@ COUNTED = {
     'allocd_collector_taken_allocation{collector="b"}': 0,
     "allocd_journal_broken": 0,
 }
+PROCESS = ("resident_memory_bytes", "virtual_memory_bytes", "cpu_seconds_total", "open_fds", "max_fds")
 READ_ONLY = ("/", "/jobs", "/scrape_configs", "/jobs/n/targets", "/jobs/n/uncovered", "/certificate", "/-/healthy", "/-/ready", "/metrics", "/nothing")
+
+
+def kernel_says(pid):
+    """What Linux says of a process, in the order of PROCESS."""
+    with open(f"/proc/{pid}/status") as it:
+        status = dict(line.split(":", 1) for line in it)
+    with open(f"/proc/{pid}/stat") as it:
+        fields = it.read().rpartition(")")[2].split()
+    with open(f"/proc/{pid}/limits") as it:
+        most = next(int(line.split()[3]) for line in it if line.startswith("Max open files"))
+    kilobytes = lambda name: 1024 * int(status[name].split()[0])
+    ticks = (int(fields[11]) + int(fields[12])) / os.sysconf("SC_CLK_TCK")
+    return kilobytes("VmRSS"), kilobytes("VmSize"), ticks, len(os.listdir(f"/proc/{pid}/fd")), most
+
+
+def process(folder):
+    service = started(folder, [static("n", 4)])
+    text = service.ask("GET", "/metrics")[1]
+    tell("a histogram of the journal's writes is there from the start", durations_in(text, "allocd_journal_write_duration_seconds")[0][:-1] == OWN_BOUNDS)
+    has(service, "allocd_allocation", 1)
+    written = lambda: durations_in(service.ask("GET", "/metrics")[1], "allocd_journal_write_duration_seconds")
+    _, counts, total, count = written()
+    tell("it counts the writes, and how long they took", count == counts[-1] > 0 and 0 < total < 60, (counts, total))
+    service.ask("POST", "/collectors", {"name": "c", "reach": ANY})
+    tell("one more where something is entered", comes(lambda: written()[3] > count, 5))
+    time.sleep(6)
+    told = [re.search(rf"^process_{name} (\S+)$", service.ask("GET", "/metrics")[1], re.M) for name in PROCESS]
+    told, says = [one and float(one[1]) for one in told], kernel_says(service.it.pid)
+    near = lambda a, b: a is not None and abs(a - b) <= max(a, b) / 4
+    tell("memory is what Linux says", near(told[0], says[0]) and near(told[1], says[1]), (told, says))
+    tell("so are the time of processors and the descriptors", 0 < told[2] <= says[2] and abs(told[3] - says[3]) <= 8 and told[4] == says[4], (told, says))
+    ends(service)
+    inner = f"{folder}/none"
+    os.mkdir(inner)
+    service = Service(inner, config([static("n", 4)]))
+    service.is_up()
+    has(service, "allocd_allocation", 1)
+    _, counts, total, count = durations_in(service.ask("GET", "/metrics")[1], "allocd_journal_write_duration_seconds")
+    tell("nothing is written where there is no journal", (set(counts), total, count) == ({0}, 0, 0), (counts, total, count))
+    ends(service)
+
+
+def takes(folder):
+    collectors = [{"name": "a", "reach": ANY, "limits": {"n": 3}}, {"name": "b", "reach": ANY}]
+    for handover in ("ordered", "free"):
+        inner = f"{folder}/{handover}"
+        os.mkdir(inner)
+        service = started(inner, [static("n", 4), static("m", 2, 9500)], collectors=collectors, handover=handover)
+        has(service, "allocd_allocation", 1)
+        taken = lambda: tuple(service.figure(f'allocd_targets_taken{{job="{job}"}}') for job in "nm")
+        given = lambda: tuple(service.figure(f'allocd_targets_covered{{job="{job}"}}') for job in "nm")
+        tell(f"{handover}: what is given is not taken before lists are asked for", (given(), taken()) == ((4, 2), (0, 0)), (given(), taken()))
+        ask_both = lambda jobs: [held(service, job, name) for job in jobs for name in "ab"]
+        ask_both("n")
+        tell(f"{handover}: then it is, job by job where lists are served in order", taken() == ((4, 0) if handover == "ordered" else (4, 2)), taken())
+        ask_both("m")
+        tell(f"{handover}: and all of it once all lists are", taken() == (4, 2), taken())
+        reloaded(service, config([static("n", 5), static("m", 2, 9500)], collectors=collectors, handover=handover))
+        has(service, 'allocd_targets_covered{job="n"}', 5)
+        tell(f"{handover}: what came since is not", (given(), taken()) == ((5, 2), (4, 2)), (given(), taken()))
+        ask_both("nm")
+        tell(f"{handover}: until lists are asked for again", taken() == (5, 2), taken())
+        had = [len(held(service, job)) for job in "nm"]
+        service.ask("POST", "/collectors/1/drain", {})
+        has(service, 'allocd_collector_targets{collector="a"}', 0)
+        tell(f"{handover}: what moved is not", (given(), taken()) == ((5, 2), (5 - had[0], 2 - had[1])) and 0 < sum(had) < 7, (had, taken()))
+        ask_both("nm")
+        ask_both("nm")
+        tell(f"{handover}: until its new collector has it", taken() == (5, 2), taken())
+        ends(service)
 
 
 def figures(folder):
@@ -465,6 +685,21 @@ def requests(folder):
     service.it.wait(20)
 
 
+LIFECYCLES = ((True, 200, 200), (False, 403, 403), ({"reload": True, "quit": False}, 200, 403), ({"quit": True}, 403, 200), ({}, 403, 403))
+
+
+def lifecycles(folder):
+    for index, (lifecycle, reload, quit) in enumerate(LIFECYCLES):
+        inner = f"{folder}/{index}"
+        os.mkdir(inner)
+        service = started(inner, [static("n", 1)], lifecycle=lifecycle)
+        answered = [service.ask("POST", path)[0] for path in ("/-/reload", "/-/quit")]
+        tell(f"lifecycle {json.dumps(lifecycle)}: reload {reload}, quit {quit}", answered == [reload, quit], answered)
+        if quit != 200:
+            service.it.kill()
+        service.it.wait(20)
+
+
 def held_rows(folder):
     job = {"job_name": "j", "target_limit": 1, "static_configs": [{"targets": ["e1:9100"], "labels": {"zone": "east"}}]}
     service = started(folder, [job], collectors=[{"name": "h", "reach": ANY}], rejoin=False)
@@ -508,14 +743,19 @@ def opens_after(service, journal):
     return changes_from(service, service.figure("allocd_round"))
 
 
-def headers_of(service, path, accept=None):
-    """The headers and the text of an answer."""
+def answer_of(service, path, headers):
+    """The status, the headers and the text of an answer."""
     it = http.client.HTTPConnection("127.0.0.1", service.port, timeout=30)
-    it.request("GET", path, headers={"accept": accept} if accept else {})
+    it.request("GET", path, headers=headers)
     answer = it.getresponse()
     text = answer.read().decode()
     it.close()
-    return answer.headers, text
+    return answer.status, answer.headers, text
+
+
+def headers_of(service, path, accept=None):
+    """The headers and the text of an answer."""
+    return answer_of(service, path, {"accept": accept} if accept else {})[1:]
 
 
 ROUND = 6
@@ -624,6 +864,55 @@ def own_of(groups):
     [own] = [group for group in groups if group["labels"]["__metrics_path__"] == "/acknowledged"]
     parameters = {label[len("__param_") :]: value for label, value in own["labels"].items() if label.startswith("__param_")}
     return own["targets"][0], parameters, own["labels"]["__scheme__"]
+
+
+def lists_of_reports(folder):
+    """Reports in a list are booked one after the other, each as if it had come alone."""
+    journal = f"{folder}/journal"
+    service = started(folder, [static("node", 6)])
+    has(service, "allocd_allocation", 1)
+    head = headers_of(service, "/jobs/node/targets?collector_id=a")[0]
+    shared = {"collector": 1, "number": 1, "round": 1, "epoch": int(head["x-allocator-epoch"])}
+    up = lambda target, samples: {"target": target, "up": True, "samples": samples}
+    report = lambda reports, **other: service.ask("POST", "/reports", {**shared, "reports": reports, **other})
+    status, text = report([up(0, 5), {"target": 1, "up": False}, up(0, 6), up(9, 1), up(2, 7)])
+    tell("each has its answer, in order", (status, json.loads(text)) == (200, {"answers": ["Booked", "Booked", "AlreadyBooked", "NotTaken 0", "Booked"], "open": 1}), (status, text))
+    tell("who reports all again is told which were booked", json.loads(report([up(0, 5), up(3, 2)])[1])["answers"] == ["AlreadyBooked", "Booked"])
+    tell("an empty list is one", report([]) == (200, '{"answers":[],"open":1}'))
+    tell("a list of another epoch is refused", report([up(4, 1)], epoch=shared["epoch"] + 1)[0] == 409)
+    tell("a list with a fault is refused whole, with where", report([up(4, 1), {"target": 5, "up": True}]) == (400, '{"member":"reports[1].samples","refused":"Shape"}'))
+    tell("of one that is too long nothing is entered", (report([up(4, 1)] * 4097)[0], json.loads(report([up(4, 1)])[1])["answers"]) == (413, ["Booked"]))
+    status, text = report([up(5, 1)] * 4096)
+    tell("4,096 are not too many", (status, json.loads(text)["answers"].count("AlreadyBooked")) == (200, 4095), status)
+    tell("they are counted one by one", service.figure("allocd_samples_booked_total") == 5 + 7 + 2 + 1 + 1, service.figure("allocd_samples_booked_total"))
+    ends(service)
+    status, told, last = replayed(journal)
+    booked = [event["target"] for event, answer in told if event["event"] == "report" and answer == "Booked"]
+    tell("a replay answers as the service did", (status, booked) == (0, [0, 1, 2, 3, 4, 5]), booked)
+
+
+def entity_tags(folder):
+    """A list that is the same is not sent again to who shows its tag."""
+    service = started(folder, [static("node", 4)])
+    has(service, "allocd_allocation", 1)
+    path = "/jobs/node/targets?collector_id=a"
+    shows = lambda tags: answer_of(service, path, {"if-none-match": tags})
+    tag = headers_of(service, f"{path}&take=false")[0]["etag"]
+    tell("a list has an entity tag", re.fullmatch('"[0-9a-f]{32}"', tag or "") is not None, tag)
+    status, headers, text = shows(tag)
+    tell("who shows it is told that the list is the same", (status, text, headers["etag"], headers["x-allocation-number"]) == (304, "", tag, "1"), (status, text, headers.items()))
+    tell("and has taken it", service.figure('allocd_collector_taken_allocation{collector="a"}') == 1)
+    tell("it may stand among others, and be weak", [shows(f'"x", W/{tag}')[0], shows(f'{tag},"y"')[0]] == [304, 304])
+    tell("another one is none", [shows(f'"x{tag[1:]}')[0], shows(tag.strip('"'))[0], shows('"x", "y"')[0]] == [200, 200, 200])
+    tell("as YAML it has none", (headers_of(service, path, "application/yaml")[0]["etag"], answer_of(service, path, {"accept": "application/yaml", "if-none-match": tag})[0]) == (None, 200))
+    reloaded(service, config([static("node", 4), static("other", 2, 9100)]))
+    has(service, 'allocd_targets_covered{job="other"}', 2)
+    tell("a change that is not of the list leaves its tag", shows(tag)[0] == 304 or shows(tag)[1]["etag"])
+    reloaded(service, config([static("node", 5), static("other", 2, 9100)]))
+    has(service, 'allocd_targets_covered{job="node"}', 5)
+    status, headers, text = shows(tag)
+    tell("another list has another one", (status, len(json.loads(text)), headers["etag"] != tag) == (200, 5, True), (status, headers["etag"], text))
+    ends(service)
 
 
 def acknowledge(folder):
@@ -794,8 +1083,120 @@ def evens_in_turn(folder):
     ends(service)
 
 
+def hanging(folder):
+    """The environment in which the look-up of a name that begins with `hangs` does not come back, or None where there is no compiler."""
+    by, library = compiler(), f"{folder}/hang_lookups.so"
+    if by is None:
+        return None
+    subprocess.run([by, "-O2", "-shared", "-fPIC", "-nostdlib", "-o", library, f"{ROOT}/scripts/hang_lookups.c"], check=True)
+    return {"LD_PRELOAD": library}
+
+
+def fault_of(service, source):
+    """What the page says of why a source fails."""
+    rows = Page(service.ask("GET", "/")[1]).tables["Discovery sources"]
+    return next((" ".join(row) for row in rows if row[0] == source), "")
+
+
+def gap_of(path, since):
+    """How long at most a source was left alone since then."""
+    times = [since, *(at for at in Source.asked.get(path, []) if at > since), time.monotonic()]
+    return max(after - before for before, after in zip(times, times[1:]))
+
+
+def named(name, path, every="1s"):
+    return {"url": f"http://{name}:{SOURCE.server_port}{path}", "refresh_interval": every}
+
+
+def names(folder):
+    Source.lists.update({"/named": ["127.0.0.1:7401", "127.0.0.1:7402"], "/beside": ["127.0.0.1:7403"]})
+    # Names are told apart from addresses by letters, and `localhost` alone is an address: in capitals it is looked up.
+    lost = {"url": "http://no-such-host.invalid/sd", "refresh_interval": "1s"}
+    jobs = [{"job_name": "n", "http_sd_configs": [named("LOCALHOST", "/named"), lost]}, {"job_name": "p", "http_sd_configs": [url("/beside", "1s")]}]
+    service = started(folder, jobs, fetch_timeout="3s")
+    tell("a source by name is asked", has(service, 'allocd_targets_covered{job="n"}', 2))
+    tell("by the name that its URL has", Source.hosts["/named"] == f"LOCALHOST:{SOURCE.server_port}", Source.hosts["/named"])
+    tell("a name without an address fails, and says why", comes(lambda: "no such name" in fault_of(service, "n/2"), 10), fault_of(service, "n/2"))
+    tell("its log line too", "refresh failed: no such name" in open(f"{folder}/log").read())
+    Source.lists["/named"] = ["127.0.0.1:7401"]
+    tell("a source by name is asked again", has(service, 'allocd_targets{job="n"}', 1))
+    began = time.monotonic()
+    time.sleep(4)
+    tell("others keep their second", gap_of("/beside", began) < 1.6, f"{gap_of('/beside', began):.2f} seconds at most")
+    ends(service)
+    environment = hanging(folder)
+    if environment is None:
+        print("skipped: names whose look-up hangs (there is no C compiler)")
+        return
+    stuck = [{"url": f"http://hangs{i}.invalid/sd", "refresh_interval": "1s"} for i in range(6)]
+    jobs = [{"job_name": "n", "http_sd_configs": [*stuck, named("LOCALHOST", "/named"), url("/beside", "1s")]}]
+    service = Service(folder, config(jobs, fetch_timeout="1s"), f"{folder}/journal.hangs", environment)
+    service.is_up()
+    comes(lambda: service.ask("GET", "/-/ready")[0] == 200, 20)
+    began = time.monotonic()
+    time.sleep(4)
+    tell("beside names whose look-up hangs a source by address keeps its second", gap_of("/beside", began) < 1.6, f"{gap_of('/beside', began):.2f} seconds at most")
+    tell("such a source fails in time", "no answer in time" in fault_of(service, "n/1"), fault_of(service, "n/1"))
+    began = time.monotonic()
+    reloaded(service, config([*jobs, static("m", 2)], fetch_timeout="1s"))
+    tell("a reload waits for no look-up", has(service, 'allocd_targets{job="m"}', 2) and time.monotonic() - began < 5, f"after {time.monotonic() - began:.2f} seconds")
+    began = time.monotonic()
+    ends(service)
+    tell("nor does the end of the service", time.monotonic() - began < 5, f"after {time.monotonic() - began:.2f} seconds")
+
+
+def files(folder):
+    os.makedirs(f"{folder}/targets", exist_ok=True)
+    path = lambda name: f"{folder}/targets/{name}"
+
+    def put(name, text):
+        with open(path("part"), "w") as it:
+            it.write(text if isinstance(text, str) else json.dumps(text))
+        os.replace(path("part"), path(name))
+
+    group = lambda *ports, **labels: {"targets": [f"127.0.0.1:{port}" for port in ports], "labels": labels}
+    keeps = [{"source_labels": ["__meta_filepath"], "target_label": "from"}, {"source_labels": ["__meta_url"], "regex": ".+", "action": "drop"}]
+    found = [{"files": ["targets/*.json", f"{folder}/more.json"], "refresh_interval": "500ms"}]
+    jobs = [{"job_name": "f", "file_sd_configs": found, "relabel_configs": keeps}, static("n", 1)]
+    service = started(folder, jobs)
+    comes(lambda: service.ask("GET", "/-/ready")[0] == 200, 20)
+    tell("a pattern without a file is an empty list and no failure", service.figure('allocd_refresh_failures_total{source="f/1"}') == 0, service.figure('allocd_refresh_failures_total{source="f/1"}'))
+    put("a.json", [group(7501, zone="x"), group(7502)])
+    tell("a file that appears is read", has(service, 'allocd_targets_covered{job="f"}', 2))
+    listed = {g["targets"][0]: g["labels"].get("from") for g in json.loads(service.ask("GET", "/jobs/f/targets?collector_id=a")[1])}
+    tell("its targets have its path, and no URL", set(listed.values()) == {path("a.json")}, listed)
+    put("b.json", [group(7503)])
+    with open(f"{folder}/more.json", "w") as it:
+        json.dump([group(7504)], it)
+    tell("a star stands for each of several, beside a path of its own", has(service, 'allocd_targets_covered{job="f"}', 4))
+    put("a.json", [group(7501, zone="x")])
+    tell("a file that changes is read again", has(service, 'allocd_targets{job="f"}', 3))
+    put("b.json", "[{")
+    tell("a faulty one fails with its path", comes(lambda: f"{path('b.json')}: no JSON" in fault_of(service, "f/1"), 10), fault_of(service, "f/1"))
+    put("a.json", [group(7501), group(7505)])
+    time.sleep(1.5)
+    tell("and the whole list stays", service.figure('allocd_targets{job="f"}') == 3, service.figure('allocd_targets{job="f"}'))
+    put("b.json", [group(7503)])
+    tell("until it is mended", has(service, 'allocd_targets{job="f"}', 4))
+    os.remove(path("b.json"))
+    tell("a file that goes takes its targets with it", has(service, 'allocd_targets{job="f"}', 3))
+    os.mkdir(path("c.json"))
+    tell("a folder of such a name is a fault", comes(lambda: f"{path('c.json')}: no regular file" in fault_of(service, "f/1"), 10), fault_of(service, "f/1"))
+    os.rmdir(path("c.json"))
+    put("big.json", " " * 4_194_305)
+    tell("and files of more than 4 MiB together", comes(lambda: f"{path('big.json')}: " in fault_of(service, "f/1") and "too long" in fault_of(service, "f/1"), 10), fault_of(service, "f/1"))
+    os.remove(path("big.json"))
+    Source.lists["/beside"] = ["127.0.0.1:7506"]
+    jobs[0] = {**jobs[0], "http_sd_configs": [url("/beside")], "relabel_configs": keeps[:1]}
+    reloaded(service, config(jobs))
+    tell("sources over HTTP stand before those of files", has(service, 'allocd_targets{job="f"}', 4) and comes(lambda: fault_of(service, "f/2").startswith("f/2"), 5))
+    ends(service)
+    status, _, last = replayed(f"{folder}/journal")
+    tell("its journal is replayed", status == 0, last)
+
+
 SOURCE = http.server.ThreadingHTTPServer(("127.0.0.1", 0), Source)
 SOURCE.daemon_threads = True
 threading.Thread(target=SOURCE.serve_forever, daemon=True).start()
-PARTS = (settings, relabels, reloads, uncovered, texts, page, series, figures, talks, requests, held_rows, stalls, rounds, rounds_kept, silences, yaml, acknowledge, spreads, spreads_by_job, evens, evens_in_turn)
+PARTS = (settings, relabels, reloads, uncovered, texts, page, job_pages, collector_pages, since, series, figures, process, takes, talks, requests, lifecycles, held_rows, stalls, rounds, rounds_kept, silences, yaml, lists_of_reports, entity_tags, acknowledge, spreads, spreads_by_job, evens, evens_in_turn, names, files)
 run_parts(PARTS, sys.argv[1:])

@@ -1,8 +1,9 @@
 #!/usr/bin/env python3
 """Compares docs/operate/RUNBOOK.md with what the sources say: try_runbook.py
 
-Each text of a log line of the service's crates, each line by which it refuses to start, each line of the supervisor and each exit status is to have a
-row, with its level, and each row is to be one of them; and the table of log lines in docs/operate/SERVE.md is to have the same lines."""
+Each text of a log line of the service's crates, each line by which it refuses to start, each reason of a failed refresh, each line of the supervisor and
+each exit status is to have a row, with its level, and each row is to be one of them; and the table of log lines in docs/operate/SERVE.md is to have the
+same lines."""
 
 import os
 import re
@@ -98,6 +99,24 @@ def texts_of(cell):
     return re.findall(r"`([^`]*)`", cell)
 
 
+def causes():
+    """Why a source gave no list, as a log line says it behind `refresh failed:`, but for what a body or a file is at fault in."""
+    with open(f"{ROOT}/crates/http_get/src/cause.rt") as it:
+        found = re.findall(r'Cause::\w+ => "([^"]*)"', it.read())
+    for name in ("http_get/src/error.rt", "file_configs/src/fault.rt"):
+        with open(f"{ROOT}/crates/{name}") as it:
+            # What has a hole alone is another text, and these two are said of no source of the service.
+            found += [text for text in re.findall(r'#\[error\("([^"]*)"', it.read()) if not re.fullmatch(r"(\{[^}]*\}(: )?)+|no such source|no answer", text)]
+    return [re.sub(r"\{[^}]*\}", HOLE, text) for text in found]
+
+
+def cause_rows():
+    """The reasons that the runbook has; one that begins with a path has any path."""
+    rows = tables("docs/operate/RUNBOOK.md")["Sources and targets"]
+    at = next(place for place, row in enumerate(rows) if row[0].startswith("Behind"))
+    return [re.sub(r"PATH|\b503\b", HOLE, texts_of(row[0])[0]) for row in rows[at + 1 :] if texts_of(row[0])]
+
+
 LOG_SECTIONS = ("The journal", "The configuration", "Sources and targets", "Allocations", "Renewals", "Collectors", "The service itself")
 
 
@@ -141,10 +160,10 @@ def row(name, found, least):
 def rows():
     lines, told, said = log_lines(), told_lines(), said_lines()
     runbook, serve = list(runbook_lines()), list(serve_lines())
-    # `.. over HTTP` stands for four lines in SERVE.
-    serve_as_told = [(level, re.sub(r"^(leave|drain|limits) \.\.$", r"\1 over HTTP", text)) for level, text in serve]
+    # `.. over HTTP` stands for five lines in SERVE.
+    serve_as_told = [(level, re.sub(r"^(leave|drain|release|limits) \.\.$", r"\1 over HTTP", text)) for level, text in serve]
     refusals = [texts_of(one[0])[0] for one in tables("docs/operate/RUNBOOK.md")["It refuses to start"][1:]]
-    supervisor = [texts_of(one[0])[0] for one in tables("docs/operate/RUNBOOK.md")["The supervisor"][1:]]
+    supervisor = [text for one in tables("docs/operate/RUNBOOK.md")["The supervisor"][1:] for text in texts_of(one[0])]
     yield row("each log line of the sources has a row in the runbook, with its level", unmatched(lines, runbook), len(lines) > 40)
     yield row("each row of the runbook is a log line of the sources", unmatched(runbook, lines), len(runbook) > 40)
     yield row("each log line of the sources has a row in docs/operate/SERVE.md", unmatched(lines, serve_as_told), len(serve) > 30)
@@ -152,6 +171,9 @@ def rows():
     yield row("each line by which a start is refused has a row", unmatched(without(told), without(refusals)), len(told) > 10)
     yield row("each line of the supervisor has a row", unmatched(without(said), without(supervisor)), len(said) > 10)
     yield row("each row of the supervisor is a line of it", unmatched(without(supervisor), without(said)), len(supervisor) > 10)
+    reasons, told_reasons = causes(), cause_rows()
+    yield row("each reason of a failed refresh has a row", [one for one in reasons if one not in told_reasons and not one.startswith(HOLE)], len(reasons) > 10)
+    yield row("each such row is a reason", [one for one in told_reasons if one not in reasons and not one.startswith(HOLE)], len(told_reasons) > 10)
     statuses = {status for one in tables("docs/operate/SERVE.md")["Ending it"] for status in re.findall(r"^\d+$", one[0])}
     written = {status for one in tables("docs/operate/RUNBOOK.md")["Exit statuses"] if one[1] == "`serve`" for status in re.findall(r"\d+", one[0])}
     yield row("the exit statuses are those of docs/operate/SERVE.md", sorted(statuses ^ written), statuses)

@@ -262,15 +262,26 @@ def without_lifecycle(folder, shell, first):
     it.is_up()
     yield "without lifecycle: it says so at the start", it.said("allocator.lifecycle is not true in .*config.json: a HUP will be answered 403")
     it.send(signal.SIGHUP)
-    yield "HUP: 403 by name", it.said("HUP: POST /-/reload: 403, allocator.lifecycle is not true")
+    yield "HUP: 403 by name", it.said("HUP: POST /-/reload: 403, allocator.lifecycle does not let it")
     yield "and it goes on", it.is_up()
     it.send(signal.SIGTERM)
     yield "TERM: ended by SIGTERM, status 143", it.ended() == 143
-    yield "and said so", it.said("TERM: POST /-/quit: 403, allocator.lifecycle is not true, so the program is ended by SIGTERM")
+    yield "and said so", it.said("TERM: POST /-/quit: 403, allocator.lifecycle does not let it, so the program is ended by SIGTERM")
     yield "nothing is left", not it.clear()
 
 
-CASES = [reloads, interrupts, hangs, twice, early, statuses, without_lifecycle]
+def with_reload_alone(folder, shell, first):
+    it = Supervised(folder, shell, first, config("one", lifecycle={"reload": True}))
+    it.is_up()
+    yield "reload alone: it says so at the start", it.said("allocator.lifecycle.quit is not true in .*config.json: TERM ends the program at once")
+    it.send(signal.SIGHUP)
+    yield "HUP: answered", it.said("HUP: POST /-/reload: The configuration is read again")
+    it.send(signal.SIGTERM)
+    yield "TERM: ended by SIGTERM, status 143", it.ended() == 143
+    yield "nothing is left", not it.clear()
+
+
+CASES = [reloads, interrupts, hangs, twice, early, statuses, without_lifecycle, with_reload_alone]
 NEEDED = ["awk", "sleep", "grep", "cat"]
 TOOLS = {
     "curl": {"curl": "curl"},

@@ -1,5 +1,5 @@
 #!/usr/bin/env python3
-"""Uses the program wrongly in each of 63 ways, and tells whether it says what is wrong, where, and what to do, and loses nothing: try_wrong_uses.py [WORD ..]
+"""Uses the program wrongly in each of 65 ways, and tells whether it says what is wrong, where, and what to do, and loses nothing: try_wrong_uses.py [WORD ..]
 
 A row has what is done, the text that is to be told (a regular expression), the status, and `later` where that is open. Whatever is in the folder of a
 row stays as it was, byte for byte; over HTTP the fleet stays. With words, only rows whose names have one of them. Free ports alone, on loopback but for the row of 0.0.0.0."""
@@ -212,7 +212,10 @@ ROWS = [
     config("a target that is no text", job(static_configs=[{"targets": ["h:1"]}, {"targets": ["h:2", 5]}]), "static_configs\\[1\\]\\.targets\\[1\\]"),
     config("a URL with https", source(url="https://127.0.0.1/sd"), "http_sd_configs\\[0\\]\\.url: .*http"),
     config("a URL whose port is out of range", source(url="http://127.0.0.1:99999/sd"), "http_sd_configs\\[0\\]\\.url: .*port"),
-    config("a URL with a name", source(url="http://sd.example/sd"), "http_sd_configs\\[0\\]\\.url: .*sd\\.example"),
+    config("a URL with a name that no host has", source(url="http://sd_1.example/sd"), "http_sd_configs\\[0\\]\\.url: .*sd_1\\.example.*no host"),
+    config("files by a pattern that is not followed", job(file_sd_configs=[{"files": ["targets/[ab].json"]}]),
+           "scrape_configs\\[0\\].*file_sd_configs\\[0\\]\\.files\\[0\\]: .*no sign of a pattern but \\* is followed"),
+    config("files of YAML", job(file_sd_configs=[{"files": ["targets/*.yml"]}]), "file_sd_configs\\[0\\]\\.files\\[0\\]: .*YAML files are not read"),
     config("a source's interval that is none", source(refresh_interval="5"), "http_sd_configs\\[0\\]\\.refresh_interval: no duration above 0"),
     config("a pattern that is none", job(relabel_configs=[{"regex": "(a", "target_label": "b"}]), "relabel_configs.*(rule 1|\\[0\\])[\\s\\S]*unclosed group"),
     config("an action that is none", job(relabel_configs=[{"action": "kep"}]), "relabel_configs.*(rule 1|\\[0\\]).*unknown action"),
@@ -221,7 +224,8 @@ ROWS = [
     config("a limit of a job that is not there", collector(limits={"web": 1}), "allocator\\.collectors\\[0\\]\\.limits.*web"),
     config("a collector of an earlier one's name", settings(collectors=[{"name": "a", "reach": ANY}] * 2),
            "allocator\\.collectors\\[1\\]\\.name: the name of an earlier collector"),
-    config("a text where true or false belongs", settings(lifecycle="true"), "allocator\\.lifecycle: neither true nor false"),
+    config("a text where true or false belongs", settings(lifecycle="true"), "allocator\\.lifecycle: neither true nor false nor an object"),
+    config("a misspelt part of the lifecycle", settings(lifecycle={"relaod": True}), "allocator\\.lifecycle\\.relaod: unknown member"),
     said_at_start("no journal", GOOD, "level=warn.*journal"),
     # The journal's path; what is lost there is in try_losses.py.
     command("a journal in a folder that is not there", [*SERVE, "--listen", f"127.0.0.1:{free_port()}", "--journal", "none/journal"], 'journal="none/journal"', status=3),

@@ -4,7 +4,7 @@ use Rattle.std.specs.List.{list_any}
 use Rattle.http_header.specs.FieldValue.{FieldValue}
 use Rattle.http_header.specs.HeaderMap.{Entries, get}
 use Rattle.sd_routes.specs.declared.ask.Ask.{Ask}
-use Rattle.sd_routes.specs.declared.ask.Ask.TheVariants.{Status, ScrapeConfigs, Jobs, JobTargets, CollectorTargets, Uncovered, FindTargets, Acknowledged, Certificate, Collectors, Collector, Join, Leave, Drain, Release, SetLimits, Report, Healthy, Live, Ready, Metrics, Reload, Quit}
+use Rattle.sd_routes.specs.declared.ask.Ask.TheVariants.{Status, ScrapeConfigs, Jobs, Job, JobTargets, CollectorTargets, Uncovered, FindTargets, Acknowledged, Certificate, Collectors, Collector, Join, Leave, Drain, Release, SetLimits, Report, Healthy, Live, Ready, Metrics, Reload, Quit}
 use Rattle.admission.specs.declared.key.Key.{Key}
 use Rattle.admission.specs.Sites.{same_letters}
 
@@ -53,6 +53,7 @@ abbrev pub may_ask : Option (List Key) → Option (List Key) → Ask → Option 
 may_ask admin collectors Status shown = true
 may_ask admin collectors (ScrapeConfigs rules) shown = true
 may_ask admin collectors Jobs shown = true
+may_ask admin collectors (Job job) shown = true
 may_ask admin collectors (JobTargets job) shown = true
 may_ask admin collectors (CollectorTargets job name takes) shown = holds collectors (Some name) shown || is_admin admin shown
 may_ask admin collectors (Uncovered job) shown = true

@@ -24,6 +24,7 @@ pub(crate) fn is_allowed(
         Ask::Status
         | Ask::ScrapeConfigs { rules: _ }
         | Ask::Jobs
+        | Ask::Job(_)
         | Ask::JobTargets(_)
         | Ask::Uncovered(_)
         | Ask::FindTargets(_)

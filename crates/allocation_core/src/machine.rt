@@ -2,7 +2,7 @@
 ghost use Rattle.std.specs.Prelude.{◌≡◌, ◌↔◌, ◌+◌, Some, None, Ok, Err, true, false, slice_get, MatchOption, IfOk, IsOk, OnOk, OnErr, length};
 ghost use Rattle.scrape_books.specs.Books.{total_of};
 ghost use Rattle.allocation_core.specs.State.{current_of, first_state, held_by};
-ghost use Rattle.handover.specs.Handover.{holder_in, taken_by};
+ghost use Rattle.handover.specs.Handover.{held_since, holder_in, taken_by};
 ghost use Rattle.fleet.specs.Fleet.{id_named};
 ghost use Rattle.fleet.specs.Jobs.{are_jobs};
 ghost use Rattle.allocation_core.specs.Steps.{answer_of, refusal_of, state_after, gained};
@@ -185,6 +185,14 @@ impl Core {
         ensures { result ≡ holder_in self.now.published number target }
     {
         self.holders.holder(number, target)
+    }
+
+    /// From which allocation on the holder of a target in the current one has held it without a break. `None` where nobody holds it. Numbers begin
+    /// anew with each renewal.
+    pub fn held_since(&self, target: TargetId) -> Option<u32>
+        ensures { result ≡ held_since self.now.published target }
+    {
+        self.holders.held_since(target)
     }
 
     /// What was booked.

@@ -8,7 +8,8 @@ use command_words::{Asked, read_words};
 use fleet_session::run_session;
 use log_queue::{Queued, start_log};
 use offline_commands::{Ending, Status, Stop, audit_files, run, seal_file, write_last, write_stop};
-use serve_command::serve;
+use scrape_client::start_lookups;
+use serve_command::{Machine, serve};
 use std::alloc::{AllocGlobal, Global};
 use std::env::Args;
 use std::fs::File;
@@ -33,7 +34,16 @@ fn main(rt: HostRuntime) -> ExitCode {
     match words_of(rt.alloc(), env::args(&rt)) {
         Ok(words) => match read_words(rt.alloc(), words.as_slice()) {
             Ok(Asked::Serve(options)) => match start_log(&rt) {
-                Ok(queue) => serve(&rt, &Queued::new(rt, &queue), rt, &options, &queue),
+                Ok(queue) => match start_lookups(&rt) {
+                    Ok(lookups) => {
+                        let machine = Machine {
+                            host: rt,
+                            lookups: &lookups,
+                        };
+                        serve(&rt, &Queued::new(rt, &queue), machine, &options, &queue)
+                    }
+                    Err(_) => stopped_without_memory(&rt),
+                },
                 Err(_) => stopped_without_memory(&rt),
             },
             Ok(asked) => run_asked(&rt, &asked),

@@ -1,7 +1,9 @@
 //! What is wrong with a job.
+use crate::files::files_fault;
 use crate::rules::rules_fault;
 use crate::shapes::shape_fault;
 use crate::sources::asking_fault;
+use file_configs::with_sources_of_job;
 use json_values::text_of;
 use sd_documents::{Job, SdError, read_config};
 use serde_json::Value;
@@ -13,7 +15,7 @@ const DURATIONS: [&str; 2] = ["scrape_interval", "scrape_timeout"];
 
 /// What is wrong with the entry of a job, if something is.
 pub(crate) fn fault_of(alloc: Global, job: &Value) -> Result<Option<String>, AllocError> {
-    let text = text_of(alloc, job)?;
+    let text = text_of(alloc, &with_sources_of_job(alloc, job)?)?;
     let text = text.as_str();
     let document = format!(in alloc; "{{\"scrape_configs\":[{text}]}}")?;
     match read_config(alloc, document.as_bytes()) {
@@ -22,7 +24,19 @@ pub(crate) fn fault_of(alloc: Global, job: &Value) -> Result<Option<String>, All
             [] => Ok(None),
         },
         Err(SdError::Memory) => Err(AllocError),
-        Err(error) => Ok(Some(shape_fault(alloc, job, &error)?)),
+        Err(error) => fault_of_unread(alloc, job, &error),
+    }
+}
+
+/// What is wrong with a job that is not read.
+fn fault_of_unread(
+    alloc: Global,
+    job: &Value,
+    error: &SdError,
+) -> Result<Option<String>, AllocError> {
+    match files_fault(alloc, job)? {
+        Some(why) => Ok(Some(why)),
+        None => Ok(Some(shape_fault(alloc, job, error)?)),
     }
 }
 
@@ -38,7 +52,10 @@ pub(crate) fn fault_of_read(
     if let Some(why) = duration_fault(alloc, job)? {
         return Ok(Some(why));
     }
-    asking_fault(alloc, read)
+    if let Some(why) = files_fault(alloc, job)? {
+        return Ok(Some(why));
+    }
+    asking_fault(alloc, read, job)
 }
 
 fn duration_fault(alloc: Global, job: &Value) -> Result<Option<String>, AllocError> {

@@ -1,7 +1,8 @@
 //! What is wrong with the jobs.
 use crate::job::{fault_of, fault_of_read};
 use crate::lines::Lines;
-use json_values::member;
+use file_configs::with_sources;
+use json_values::{member, text_of};
 use lists::Text;
 use logfmt::Quoted;
 use sd_documents::{Config, Limit, SdError, read_config};
@@ -15,16 +16,26 @@ const MOST_FAULTS: usize = 16;
 pub(crate) fn tell_jobs(
     alloc: Global,
     lines: &mut Lines<'_>,
-    document: &[u8],
     value: &Value,
 ) -> Result<(), AllocError> {
     let Some(found) = value.get("scrape_configs") else {
         return Ok(());
     };
     match found.as_array() {
-        Some(entries) => tell_entries(alloc, lines, document, entries.as_slice()),
+        Some(entries) => tell_document(alloc, lines, value, entries.as_slice()),
         None => lines.tell("scrape_configs: no list"),
     }
+}
+
+/// Tells what is wrong with the entries of a document, whose sources of files are read as sources with a URL.
+fn tell_document(
+    alloc: Global,
+    lines: &mut Lines<'_>,
+    value: &Value,
+    entries: &[Value],
+) -> Result<(), AllocError> {
+    let document = text_of(alloc, &with_sources(alloc, value)?)?;
+    tell_entries(alloc, lines, document.as_str().as_bytes(), entries)
 }
 
 fn tell_entries(

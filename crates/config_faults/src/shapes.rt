@@ -15,7 +15,7 @@ pub(crate) fn shape_fault(
         SdError::Shape(_, member) => member_fault(alloc, job, *member),
         SdError::BadLabelName => groups_fault(alloc, job),
         SdError::UnsupportedDiscovery(_) => {
-            format!(in alloc; "{error}; static_configs and http_sd_configs are")
+            format!(in alloc; "{error}; static_configs, http_sd_configs and file_sd_configs are")
         }
         _ => format!(in alloc; "{error}"),
     }

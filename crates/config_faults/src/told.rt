@@ -42,7 +42,7 @@ fn tell_document(
         return lines.tell("document: no object");
     }
     tell_unknown(alloc, lines, value)?;
-    tell_jobs(alloc, lines, document, value)?;
+    tell_jobs(alloc, lines, value)?;
     tell_settings(alloc, lines, document, value)?;
     tell_limits(alloc, lines, value)
 }

@@ -6,7 +6,7 @@ use Rattle.serde_json.specs.Find.{get, as_array, as_object}
 use Rattle.config_members.specs.declared.place.Place.{Place}
 use Rattle.config_members.specs.declared.place.Place.TheVariants.{Document, Global, Job, Entry}
 use Rattle.config_members.specs.declared.place.Part.{Part}
-use Rattle.config_members.specs.declared.place.Part.TheVariants.{StaticConfigs, HttpSdConfigs, RelabelConfigs}
+use Rattle.config_members.specs.declared.place.Part.TheVariants.{StaticConfigs, HttpSdConfigs, FileSdConfigs, RelabelConfigs}
 use Rattle.config_members.specs.declared.unread.Unread.{Unread}
 use Rattle.config_members.specs.declared.unread.Standing.{Standing}
 use Rattle.config_members.specs.declared.unread.Standing.TheVariants.{Unknown, NotFollowed}
@@ -44,7 +44,7 @@ unread_in_part job part d = each_entry job part 0 (entry_items (get (part_name p
 -- of a job: its own, and then those of its lists
 abbrev pub unread_in_job : ℕ → Data → List Unread
 unread_in_job job d =
-    unread_at (Job job) d ++ (unread_in_part job StaticConfigs d ++ (unread_in_part job HttpSdConfigs d ++ unread_in_part job RelabelConfigs d))
+    unread_at (Job job) d ++ (unread_in_part job StaticConfigs d ++ (unread_in_part job HttpSdConfigs d ++ (unread_in_part job FileSdConfigs d ++ unread_in_part job RelabelConfigs d)))
 
 -- of the jobs, the first of which has this index
 abbrev pub each_job : ℕ → Items → List Unread

@@ -3,8 +3,8 @@ ghost use Rattle.std.specs.Prelude.{◌≡◌, map, IfOk, string_bytes};
 ghost use Rattle.config_members.specs.Names.{names_read, other_names, part_name, member_way};
 
 use crate::tables::{
-    DOCUMENT_OTHERS, DOCUMENT_READ, GLOBAL_OTHERS, GLOBAL_READ, GROUP_READ, JOB_OTHERS, JOB_READ,
-    NO_OTHERS, RULE_READ, SOURCE_OTHERS, SOURCE_READ,
+    DOCUMENT_OTHERS, DOCUMENT_READ, FILES_READ, GLOBAL_OTHERS, GLOBAL_READ, GROUP_READ, JOB_OTHERS,
+    JOB_READ, NO_OTHERS, RULE_READ, SOURCE_OTHERS, SOURCE_READ,
 };
 use std::alloc::{AllocError, Global};
 
@@ -22,6 +22,7 @@ pub enum Place {
 pub enum Part {
     StaticConfigs,
     HttpSdConfigs,
+    FileSdConfigs,
     RelabelConfigs,
 }
 
@@ -33,6 +34,7 @@ impl Part {
         match self {
             Part::StaticConfigs => "static_configs",
             Part::HttpSdConfigs => "http_sd_configs",
+            Part::FileSdConfigs => "file_sd_configs",
             Part::RelabelConfigs => "relabel_configs",
         }
     }
@@ -49,6 +51,7 @@ impl Place {
             Place::Job(_) => JOB_READ.as_slice(),
             Place::Entry(_, Part::StaticConfigs, _) => GROUP_READ.as_slice(),
             Place::Entry(_, Part::HttpSdConfigs, _) => SOURCE_READ.as_slice(),
+            Place::Entry(_, Part::FileSdConfigs, _) => FILES_READ.as_slice(),
             Place::Entry(_, Part::RelabelConfigs, _) => RULE_READ.as_slice(),
         }
     }

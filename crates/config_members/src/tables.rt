@@ -44,7 +44,7 @@ pub(crate) static GLOBAL_OTHERS: [&str; 19] = [
 ];
 
 /// Of a scrape config.
-pub(crate) static JOB_READ: [&str; 9] = [
+pub(crate) static JOB_READ: [&str; 10] = [
     "job_name",
     "metrics_path",
     "scheme",
@@ -53,10 +53,11 @@ pub(crate) static JOB_READ: [&str; 9] = [
     "params",
     "static_configs",
     "http_sd_configs",
+    "file_sd_configs",
     "relabel_configs",
 ];
 
-pub(crate) static JOB_OTHERS: [&str; 63] = [
+pub(crate) static JOB_OTHERS: [&str; 62] = [
     "scrape_interval",
     "scrape_timeout",
     "scrape_protocols",
@@ -100,7 +101,6 @@ pub(crate) static JOB_OTHERS: [&str; 63] = [
     "dockerswarm_sd_configs",
     "ec2_sd_configs",
     "eureka_sd_configs",
-    "file_sd_configs",
     "gce_sd_configs",
     "hetzner_sd_configs",
     "ionos_sd_configs",
@@ -141,6 +141,9 @@ pub(crate) static SOURCE_OTHERS: [&str; 11] = [
     "proxy_connect_header",
     "http_headers",
 ];
+
+/// Of a source of discovery by files.
+pub(crate) static FILES_READ: [&str; 2] = ["files", "refresh_interval"];
 
 /// Of a relabelling rule.
 pub(crate) static RULE_READ: [&str; 7] = [

@@ -27,8 +27,8 @@ pub enum Standing {
 }
 
 /// The members of a document that are not read here, in this order: those of the document, of `global`, and of each job in turn; of a
-/// job its own, then those of its static groups, of its sources and of its rules. Of an object they come in byte order. What is of
-/// another shape has none; `allocator` is not looked at.
+/// job its own, then those of its static groups, of its sources over HTTP, of its sources of files and of its rules. Of an object they come
+/// in byte order. What is of another shape has none; `allocator` is not looked at.
 pub fn unread_members(alloc: Global, document: &Value) -> Result<List<Unread>, AllocError>
     ensures { IfOk result (λ l. l ≡ unread_in (view document.now)) }
 {
@@ -71,6 +71,7 @@ fn add_job(
     add_members(alloc, found, Place::Job(job), value)?;
     add_part(alloc, found, job, Part::StaticConfigs, value)?;
     add_part(alloc, found, job, Part::HttpSdConfigs, value)?;
+    add_part(alloc, found, job, Part::FileSdConfigs, value)?;
     add_part(alloc, found, job, Part::RelabelConfigs, value)
 }
 

@@ -6,6 +6,7 @@ use crate::running::Served;
 use alloc_desk::{Desk, DeskName, Pass};
 use allocation_core::Core;
 use event_loops::{Gate, Times};
+use file_configs::ReadFiles;
 use http_get::FetchSeveral;
 use sd_server::{Handler, ListTexts};
 use service_state::Kept;
@@ -49,7 +50,7 @@ where
     L: Ledger + Send + Sync,
     B: Ledger + Send + Sync,
     N: DeskName + Send + Sync,
-    S: FetchSeveral + Send + Drop,
+    S: FetchSeveral + ReadFiles + Send + Drop,
     F: Write + OpenFile + Send,
     C: Configuration + Send + Drop,
     requires core { (core ≡ N.opening) × (N.seats ≡ SEATS) }
@@ -87,7 +88,7 @@ where
     L: Ledger + Send + Sync,
     B: Ledger + Send + Sync,
     N: DeskName + Send + Sync,
-    S: FetchSeveral + Send + Drop,
+    S: FetchSeveral + ReadFiles + Send + Drop,
     F: Write + OpenFile + Send,
     C: Configuration + Send + Drop,
     ensures { IfOk result (λ r. IsLater N.opening r.0) }
@@ -127,7 +128,7 @@ where
     L: Ledger + Send + Sync,
     B: Ledger + Send + Sync,
     N: DeskName + Send + Sync,
-    S: FetchSeveral + Send + Drop,
+    S: FetchSeveral + ReadFiles + Send + Drop,
     F: Write + OpenFile + Send,
     C: Configuration + Send + Drop,
     ensures { IfOk result (λ r. IsLater N.opening r.0) }
@@ -202,7 +203,7 @@ where
     L: Ledger + Send + Sync,
     B: Ledger + Send + Sync,
     N: DeskName + Send + Sync,
-    S: FetchSeveral + Send + Drop,
+    S: FetchSeveral + ReadFiles + Send + Drop,
     F: Write + OpenFile + Send,
     C: Configuration + Send + Drop,
 {

@@ -3,6 +3,7 @@ ghost use Rattle.std.specs.Thread.{IsSend};
 
 use alloc_desk::{DeskName, Pass};
 use event_loops::Gate;
+use file_configs::ReadFiles;
 use http_get::FetchSeveral;
 use sd_server::{DEFAULT_LOOPS, Handler, serve_by_loops};
 use service_tasks::{Configuration, Crew, JournalFile, Office, Schedule, Shared, Watch};
@@ -47,7 +48,7 @@ where
 {
     /// Runs the threads: that which keeps the journal ends once all others have.
     pub(crate) fn run<
-        S: FetchSeveral + Send + Drop,
+        S: FetchSeveral + ReadFiles + Send + Drop,
         F: Write + OpenFile + Send,
         C: Configuration + Send + Drop,
     >(&self, office: &mut Office<S, F, C>, crew: &mut Crew<L, B, N>) -> io::Result<()> {
@@ -80,7 +81,7 @@ where
     }
 
     /// Runs the threads but that which keeps the journal. Where another desk follows, requests are answered until all others have ended.
-    fn run_others<S: FetchSeveral + Send + Drop, C: Configuration + Send>(
+    fn run_others<S: FetchSeveral + ReadFiles + Send + Drop, C: Configuration + Send>(
         &self,
         listener: &TcpListener,
         scheduler: &mut Pass<L, B, N>,

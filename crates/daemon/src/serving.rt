@@ -5,8 +5,8 @@ ghost use Rattle.service_tasks.specs.Later.{IsLater};
 use crate::one_desk::{SEATS, serve_desk};
 use allocation_core::Core;
 use durable_journal::Archive;
+use file_configs::ReadFiles;
 use http_get::FetchSeveral;
-use scrape_client::HyperFetches;
 use service_tasks::{Configuration, Ending, Journal, Office, Service, continued};
 use std::alloc::{AllocGlobal, Global};
 use std::fs::OpenFile;
@@ -21,12 +21,13 @@ use std::thread::Threads;
 use std::time::Clock;
 
 /// Serves over an allocator with its journal until the service is to end, and gives the allocator back as it is then. The archive
-/// begins the journals after it. The configuration is read again when a request asks for it.
-pub fn serve<R, F, A, C>(
+/// begins the journals after it. The configuration is read again when a request asks for it. The device asks the sources, and reads their files.
+pub fn serve<R, S, F, A, C>(
     rt: &R,
     alloc: Global,
     service: Service,
     listener: TcpListener,
+    device: S,
     journal: Journal<F>,
     archive: &mut A,
     configuration: C,
@@ -44,36 +45,27 @@ where
         + Send
         + Copy
         + Drop,
+    S: FetchSeveral + ReadFiles + Send + Drop,
     F: Write + OpenFile + Send + Drop,
     A: Archive<F>,
     C: Configuration + Send + Drop,
     ensures { IfOk result (IsLater core) }
 {
-    match office_of(rt, alloc, &service, listener, journal, configuration) {
+    match Office::open(
+        rt,
+        alloc,
+        &service,
+        listener,
+        journal,
+        device,
+        configuration,
+    ) {
         Ok(mut office) => {
             let mut service = service;
             serve_desks(rt, alloc, &mut service, &mut office, archive, core)
         }
         Err(error) => Err(error),
     }
-}
-
-/// The office of a service that begins, whose sources are asked over HTTP.
-fn office_of<R, F, C>(
-    rt: &R,
-    alloc: Global,
-    service: &Service,
-    listener: TcpListener,
-    journal: Journal<F>,
-    configuration: C,
-) -> io::Result<Office<HyperFetches<R>, F, C>>
-where
-    R: Wait + Clock + Net + RandomSource + AllocGlobal + Copy + Drop,
-    F: Drop,
-    C: Configuration + Drop,
-{
-    let device = HyperFetches::new(*rt, service.fetch_timeout());
-    Office::open(rt, alloc, service, listener, journal, device, configuration)
 }
 
 /// Serves over a desk after the other until the service is to end. It fails where that is since its journal is broken.
@@ -98,7 +90,7 @@ where
         + Send
         + Copy
         + Drop,
-    S: FetchSeveral + Send + Drop,
+    S: FetchSeveral + ReadFiles + Send + Drop,
     F: Write + OpenFile + Send + Drop,
     A: Archive<F>,
     C: Configuration + Send + Drop,
@@ -136,7 +128,7 @@ where
         + Send
         + Copy
         + Drop,
-    S: FetchSeveral + Send + Drop,
+    S: FetchSeveral + ReadFiles + Send + Drop,
     F: Write + OpenFile + Send,
     C: Configuration + Send + Drop,
     ensures { IfOk result (λ r. IsLater core r.0) }

@@ -120,12 +120,13 @@ fn add_rest(alloc: Global, text: &mut String, settings: &Settings) -> Result<(),
 fn rest_outline(alloc: Global, settings: &Settings) -> Result<String, AllocError> {
     let [a, b, c, d] = settings.listen.octets;
     let port = settings.listen.port;
-    let lifecycle = settings.lifecycle;
+    let reload = settings.lifecycle.reload;
+    let quit = settings.lifecycle.quit;
     let keep = settings.keep;
     let settle = settings.settle;
     let timeout = timeout_outline(alloc, settings.collector_timeout)?;
     let fetch = settings.fetch_timeout;
-    format!(in alloc; " {a}.{b}.{c}.{d}:{port} {lifecycle} {keep} {settle} {timeout} {fetch}")
+    format!(in alloc; " {a}.{b}.{c}.{d}:{port} {reload} {quit} {keep} {settle} {timeout} {fetch}")
 }
 
 /// Who may ask, and what is taken.

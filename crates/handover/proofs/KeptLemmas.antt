@@ -1,10 +1,11 @@
 -- What is kept, and the lists that it stands for.
-use Rattle.std.proofs.Common.{◌≡◌, ℕ, zero, suc, ◌+◌, ◌<◌, ◌≤◌, List, [], ◌∷◌, ◌++◌, Option, None, length, get_or, refl, sym, ap, subst, ◌∙◌, inl, inr, AllPairs, Result, Ok, Err, OnErr, arith, add-one, length-append}
+use Rattle.std.proofs.Common.{◌≡◌, ℕ, zero, suc, ◌+◌, ◌-◌, ◌<◌, ◌≤◌, List, [], ◌∷◌, ◌++◌, Bool, true, false, Option, Some, None, length, get_or, refl, sym, ap, subst, ◌∙◌, inl, inr, AllPairs, Result, Ok, Err, OnErr, arith, add-one, length-append}
 use Rattle.std.proofs.Math.Seq.{get_or-append_seam}
 use Rattle.std.proofs.lemmas.List.{get_or_append_left, get_or_past}
-use Rattle.std.proofs.lemmas.Bool.{cases_eq}
-use Rattle.handover.specs.Handover.{Handover, beside, allocation_at, last_of, holder_in, held_in, targets_of}
-use Rattle.handover.specs.Spans.{Row, holder_at, spans_of, pairs_from, lists_of, closed, opened, changed, without, AreSpans, IsKept}
+use Rattle.std.specs.Prelude.{if◌then◌else◌, MatchOption, option_map}
+use Rattle.std.proofs.lemmas.Bool.{cases_eq, eq-eqb}
+use Rattle.handover.specs.Handover.{Handover, beside, allocation_at, last_of, holder_in, held_in, held_since, holds, since_of, targets_of}
+use Rattle.handover.specs.Spans.{Row, holder_at, spans_of, pairs_from, lists_of, closed, opened, changed, without, AreSpans, IsKept, IsSince}
 use Rattle.handover.specs.declared.spans.Span.{Span}
 use Rattle.handover.proofs.SpanLemmas.{newly, change_by, after_change, follows, Follows, above, none_yet}
 use Rattle.handover.proofs.PairLemmas.{Ascends, ascends, ascends_without, beside-without, changed-beside, from_ascends, beside-pairs_from, pairs_from-by, pairs_from-same}
@@ -57,6 +58,40 @@ holder_in-past m rows number target l = ap (λ (ps : List (ℕ × ℕ)). beside 
 
 pub held_in-kept : (m : ℕ) (pairs : List (ℕ × ℕ)) (rows : List Row) (number collector : ℕ) → IsKept m pairs rows → number ≤ m → targets_of (pairs_from rows 0 number) collector ≡ held_in (lists_of rows m) number collector
 held_in-kept m pairs rows number collector kept l = ap (λ (ps : List (ℕ × ℕ)). targets_of ps collector) (sym (allocation_at-lists_of m rows m number kept.spans l))
+
+-- the start of a run is what is counted back to
+pub since_of-run :
+    (published : List (List (ℕ × ℕ))) (target collector number first : ℕ) → 0 < first → first ≤ number → ((k : ℕ) → first ≤ k → k < number → holder_in published k target ≡ Some collector) → holds (holder_in published (first - 1) target) collector ≡ false
+    → since_of published target collector number ≡ first
+since_of-run published target collector zero first some begun held fresh = absurd (omega arith)
+since_of-run published target collector (suc before) first some begun held fresh = elim (cases_eq first (suc before)) [
+  | inl e ↦
+      let last : first - 1 ≡ before = omega (arith, e) in
+      let none : holds (holder_in published before target) collector ≡ false = ap (λ (n : ℕ). holds (holder_in published n target) collector) (sym last) ∙ fresh in
+      ap (λ (b : Bool). if b then since_of published target collector before else suc before) none ∙ sym e
+  | inr n ↦
+      let same : holds (holder_in published before target) collector ≡ true = ap (λ (o : Option ℕ). holds o collector) (held before (omega arith) (omega arith)) ∙ eq-eqb collector collector refl in
+      ap (λ (b : Bool). if b then since_of published target collector before else suc before) same ∙ since_of-run published target collector before first some (omega arith) (λ k from to. held k from (omega arith)) fresh
+]
+
+-- what the spans say of the current number
+pub held_since-kept :
+    (m : ℕ) (pairs : List (ℕ × ℕ)) (rows : List Row) (target : ℕ) (found : Option ℕ) → IsKept m pairs rows → MatchOption found (holder_at (spans_of rows target) m ≡ None) (λ first. IsSince (spans_of rows target) m first)
+    → found ≡ held_since (lists_of rows m) target
+held_since-kept m pairs rows target found kept is = sym (ap (λ (n : ℕ). option_map (λ c. since_of lists target c n) (holder_in lists n target)) (length-lists_of rows m) ∙ by found is)
+  where
+    lists : List (List (ℕ × ℕ))
+    lists = lists_of rows m
+
+    at : (k : ℕ) → k ≤ m → holder_in lists k target ≡ holder_at (spans_of rows target) k
+    at k l = sym (holder_in-kept m pairs rows k target kept l)
+
+    by : (found : Option ℕ) → MatchOption found (holder_at (spans_of rows target) m ≡ None) (λ first. IsSince (spans_of rows target) m first) → option_map (λ c. since_of lists target c m) (holder_in lists m target) ≡ found
+    by None none = ap (option_map (λ c. since_of lists target c m)) (at m (omega arith) ∙ none)
+    by (Some first) (collector, run) =
+        ap (option_map (λ c. since_of lists target c m)) (at m (omega arith) ∙ run.held m run.begun (omega arith))
+        ∙ ap (λ (n : ℕ). Some n) (since_of-run lists target collector m first run.some run.begun (λ k from to. at k (omega arith) ∙ run.held k from (omega arith))
+        (ap (λ (o : Option ℕ). holds o collector) (at (first - 1) (omega (arith, run.begun))) ∙ run.fresh))
 
 -- rows that got room, and no span
 pub kept-same : (m : ℕ) (pairs : List (ℕ × ℕ)) (rows others : List Row) → IsKept m pairs rows → ((k : ℕ) → spans_of others k ≡ spans_of rows k) → length others ≤ 4294967296 → IsKept m pairs others

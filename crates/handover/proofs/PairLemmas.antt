@@ -4,8 +4,8 @@ use Rattle.std.specs.Prelude.{◌==◌, ◌&&◌, if◌then◌else◌, not}
 use Rattle.std.proofs.lemmas.List.{take_more}
 use Rattle.std.proofs.lemmas.Bool.{cases_eq, eq-eqb, ne_eqb}
 use Rattle.std.proofs.lemmas.Bool.Decides.{nat_tests}
-use Rattle.handover.specs.Handover.{beside}
-use Rattle.handover.specs.Spans.{Row, holder_at, spans_of, with_pair, pairs_from, changed, holds, is_beside, without}
+use Rattle.handover.specs.Handover.{beside, holds}
+use Rattle.handover.specs.Spans.{Row, holder_at, spans_of, with_pair, pairs_from, changed, is_beside, without}
 use Rattle.handover.specs.declared.spans.Span.{Span}
 use Rattle.handover.proofs.SpanLemmas.{newly, change_by}
 

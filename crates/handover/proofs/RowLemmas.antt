@@ -4,8 +4,8 @@ use Rattle.std.proofs.Math.ListN.{set}
 use Rattle.std.specs.Prelude.{◌==◌, if◌then◌else◌, map, filter}
 use Rattle.std.proofs.lemmas.Bool.{cases_eq, eq-eqb, ne_eqb}
 use Rattle.std.proofs.lemmas.Bool.Decides.{nat_tests}
-use Rattle.handover.specs.Handover.{targets_of}
-use Rattle.handover.specs.Spans.{Row, holder_at, spans_of, room_of, with_pair, pairs_from, closed, changed, holds, AreSpans}
+use Rattle.handover.specs.Handover.{targets_of, holds}
+use Rattle.handover.specs.Spans.{Row, holder_at, spans_of, room_of, with_pair, pairs_from, closed, changed, AreSpans}
 use Rattle.handover.specs.declared.spans.Span.{Span}
 
 pub spans_of-get_or : (rows : List Row) (k : ℕ) (d : Row) → k < length rows → spans_of rows k ≡ (get_or rows k d).spans

@@ -4,7 +4,8 @@ use Rattle.std.proofs.Math.ListN.{set}
 use Rattle.std.specs.Prelude.{◌==◌, if◌then◌else◌, nat_le}
 use Rattle.std.specs.List.Sorted.{IsPartitionPoint, IsPartitionedBy}
 use Rattle.std.proofs.lemmas.Bool.Decides.{nat_tests}
-use Rattle.handover.specs.Spans.{covers, holder_at, ended, closed, opened, holds, HasEnd, AreSpans}
+use Rattle.handover.specs.Handover.{holds}
+use Rattle.handover.specs.Spans.{covers, holder_at, ended, closed, opened, HasEnd, AreSpans, IsHeldBy}
 use Rattle.handover.specs.declared.spans.Span.{Span}
 
 -- the last span is written
@@ -249,3 +250,22 @@ found_none m n spans i d are parts bound some l =
 
 pub found_nothing : (n : ℕ) (spans : List Span) (i : ℕ) → IsPartitionPoint (λ (s : Span). nat_le s.first n ≡ true) (λ (s : Span). nat_le s.first n ≡ false) spans i → i ≡ 0 → None ≡ holder_at spans n
 found_nothing n spans i parts z = sym (none_yet n spans (λ k d l. grind (arith, nat_tests, parts.1 k d (omega arith) l)))
+
+-- the span found has its collector for holder from its first number on
+pub found_run :
+    (m n : ℕ) (spans : List Span) (i : ℕ) (d : Span) → AreSpans m 0 spans → IsPartitionPoint (λ (s : Span). nat_le s.first n ≡ true) (λ (s : Span). nat_le s.first n ≡ false) spans i → i ≤ length spans → 0 < i → n ≤ (get_or spans (i - 1) d).last
+    → IsHeldBy spans n (get_or spans (i - 1) d)
+found_run m n spans i d are parts bound some l =
+    let first : nat_le (get_or spans (i - 1) d).first n ≡ true = parts.0 (i - 1) d (omega arith) (omega arith) in
+    let begun : (get_or spans (i - 1) d).first ≤ n = grind (arith, nat_tests, first) in
+    record {
+      some = above m 0 spans are (i - 1) d (omega arith);
+      begun = begun;
+      held = λ k from to.
+          last_begun m 0 k spans (i - 1) d are (omega arith) (λ j o. let order = rising m 0 spans are j (i - 1) d o (omega arith) in omega (arith, order, from))
+          (λ j e o w. let later : n < (get_or spans j e).first = grind (arith, nat_tests, parts.1 j e (omega arith) w) in omega (arith, later, to))
+          ∙ one (get_or spans (i - 1) d) k from (omega (arith, to, l));
+    }
+  where
+    one : (s : Span) (k : ℕ) → s.first ≤ k → k ≤ s.last → holder_at (s ∷ []) k ≡ Some s.collector
+    one s k f l = grind (arith, nat_tests, f, l)

@@ -1,5 +1,5 @@
 -- Published allocations, and who took which.
-use Rattle.std.specs.Prelude.{ℕ, zero, suc, ◌==◌, List, [], ◌∷◌, if◌then◌else◌, length, slice_index_or, filter, map, Option, Some, None}
+use Rattle.std.specs.Prelude.{ℕ, zero, suc, ◌==◌, Bool, false, List, [], ◌∷◌, if◌then◌else◌, length, slice_index_or, filter, map, Option, Some, None, option_map}
 
 pub record Handover : Type 0 where
   -- the allocations from number 1 on, each a list of (target, collector), strictly ascending by target. Number 0 is empty
@@ -37,6 +37,20 @@ beside (q ∷ pairs) number = if q.0 == number then Some q.1 else beside pairs n
 -- the holder of a target in the allocation of a number
 abbrev pub holder_in : List (List (ℕ × ℕ)) → ℕ → ℕ → Option ℕ
 holder_in published number target = beside (allocation_at published number) target
+
+-- whether it is the collector
+abbrev pub holds : Option ℕ → ℕ → Bool
+holds None collector = false
+holds (Some holder) collector = holder == collector
+
+-- the least number from which on, up to one that a collector holds a target at, it holds it at each
+abbrev pub since_of : List (List (ℕ × ℕ)) → ℕ → ℕ → ℕ → ℕ
+since_of published target collector zero = 0
+since_of published target collector (suc before) = if holds (holder_in published before target) collector then since_of published target collector before else suc before
+
+-- from which allocation on its holder in the current one has held a target without a break, if somebody holds it
+abbrev pub held_since : List (List (ℕ × ℕ)) → ℕ → Option ℕ
+held_since published target = option_map (λ collector. since_of published target collector (length published)) (holder_in published (length published) target)
 
 -- the targets beside a collector
 abbrev pub targets_of : List (ℕ × ℕ) → ℕ → List ℕ

@@ -1,6 +1,6 @@
 -- Allocations as spans: a target's holder from one number to another.
-use Rattle.std.specs.Prelude.{◌≡◌, ℕ, zero, suc, ◌<◌, ◌≤◌, ◌==◌, ◌&&◌, Bool, false, not, ◌⊎◌, List, [], ◌∷◌, ◌++◌, if◌then◌else◌, length, nat_le, filter, Option, Some, None}
-use Rattle.handover.specs.Handover.{beside}
+use Rattle.std.specs.Prelude.{◌≡◌, ℕ, zero, suc, ◌<◌, ◌≤◌, ◌-◌, ◌==◌, ◌&&◌, Bool, false, not, ◌⊎◌, List, [], ◌∷◌, ◌++◌, if◌then◌else◌, length, nat_le, filter, Option, Some, None}
+use Rattle.handover.specs.Handover.{beside, holds}
 use Rattle.handover.specs.declared.spans.Span.{Span}
 use Rattle.handover.specs.declared.spans.TheConstants.{OPEN}
 
@@ -64,11 +64,6 @@ abbrev pub changed : (ℕ → List Span → List Span) → List (ℕ × ℕ) →
 changed change [] target spans = spans
 changed change (q ∷ pairs) target spans = changed change pairs target (if q.0 == target then change q.1 spans else spans)
 
--- whether it is the collector
-abbrev pub holds : Option ℕ → ℕ → Bool
-holds None collector = false
-holds (Some holder) collector = holder == collector
-
 -- the first pair of the target is the collector's
 abbrev pub is_beside : List (ℕ × ℕ) → ℕ → ℕ → Bool
 is_beside pairs target collector = holds (beside pairs target) collector
@@ -95,3 +90,20 @@ pub record IsKept (number : ℕ) (pairs : List (ℕ × ℕ)) (rows : List Row) :
   pub current : pairs ≡ pairs_from rows 0 number
   pub spans : AreRows number rows
   pub most : length rows ≤ 4294967296
+
+-- from the first number of a span to this one its collector is the holder
+pub record IsHeldBy (spans : List Span) (number : ℕ) (span : Span) : Type 0 where
+  pub some : 0 < span.first
+  pub begun : span.first ≤ number
+  pub held : (k : ℕ) → span.first ≤ k → k ≤ number → holder_at spans k ≡ Some span.collector
+
+-- a collector is the holder from one number to another, and not before
+pub record IsRun (spans : List Span) (number collector first : ℕ) : Type 0 where
+  pub some : 0 < first
+  pub begun : first ≤ number
+  pub held : (k : ℕ) → first ≤ k → k ≤ number → holder_at spans k ≡ Some collector
+  pub fresh : holds (holder_at spans (first - 1)) collector ≡ false
+
+-- the holder of a number is it from the first number on
+abbrev pub IsSince : List Span → ℕ → ℕ → Type 0
+IsSince spans number first = (collector : ℕ) × IsRun spans number collector first

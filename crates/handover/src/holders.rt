@@ -1,9 +1,9 @@
 //! The published allocations, and who took which.
 ghost use Rattle.std.specs.Prelude.{◌≡◌, ◌↔◌, ◌+◌, ◌<◌, ◌≤◌, ◌≢◌, ℕ, [], ◌∷◌, ◌++◌, Ok, Err, length, AllPairs, IfOk, OnOk, OnErr, nat_eq};
-ghost use Rattle.handover.specs.Handover.{carried_over, nothing_published, last_of, holder_in, held_in, taken_by, with_taken};
+ghost use Rattle.handover.specs.Handover.{carried_over, nothing_published, last_of, holder_in, held_in, held_since, taken_by, with_taken};
 
 use crate::error::HoldersError;
-use crate::rows::{follow, held_at, holder_at, targets_of};
+use crate::rows::{follow, held_at, holder_at, since_at, targets_of};
 use crate::spans::Spans;
 use crate::{CollectorId, TargetId};
 use indexmap::IndexMap;
@@ -114,6 +114,13 @@ impl Holders {
             return None;
         }
         holder_at(self.rows.as_slice(), number, target)
+    }
+
+    /// From which allocation on the holder of a target in the current one has held it without a break. `None` where nobody holds it.
+    pub fn held_since(&self, target: TargetId) -> Option<u32>
+        ensures { result ≡ held_since self.now.published target }
+    {
+        since_at(self.rows.as_slice(), self.current, target)
     }
 
     /// The targets that a collector held in the allocation of a number, in order of target.

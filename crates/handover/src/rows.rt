@@ -1,7 +1,7 @@
 //! Searching in rows that ascend by target.
-ghost use Rattle.std.specs.Prelude.{◌≡◌, ◌==◌, if◌then◌else◌, ◌<◌, ◌≤◌, ◌+◌, ◌++◌, ◌∷◌, [], ℕ, All, AllPairs, IfOk, OnOk, OnErr, length, max, slice_index_or};
+ghost use Rattle.std.specs.Prelude.{◌≡◌, ◌==◌, if◌then◌else◌, ◌<◌, ◌≤◌, ◌+◌, ◌++◌, ◌∷◌, [], ℕ, All, AllPairs, IfOk, MatchOption, None, OnOk, OnErr, length, max, slice_index_or};
 ghost use Rattle.handover.specs.Handover.{targets_of};
-ghost use Rattle.handover.specs.Spans.{holder_at, spans_of, room_of, pairs_from, lists_of, closed, opened, changed, is_beside, without, AreRows, IsKept};
+ghost use Rattle.handover.specs.Spans.{holder_at, spans_of, room_of, pairs_from, lists_of, closed, opened, changed, is_beside, without, AreRows, IsKept, IsSince};
 
 use crate::holders::LAST_NUMBER;
 use crate::spans::Spans;
@@ -162,6 +162,17 @@ pub(crate) fn holder_at(rows: &[Spans], number: u32, target: u32) -> Option<u32>
 {
     match rows.get(target as usize) {
         Some(row) => row.holder(number),
+        None => None,
+    }
+}
+
+/// From which number on the holder of a target at a number has been it without a break.
+pub(crate) fn since_at(rows: &[Spans], number: u32, target: u32) -> Option<u32>
+    requires { (current : ℕ) × AreRows current rows.now }
+    ensures { MatchOption result (holder_at (spans_of rows.now target) number ≡ None) (λ first. IsSince (spans_of rows.now target) number first) }
+{
+    match rows.get(target as usize) {
+        Some(row) => row.since(number),
         None => None,
     }
 }

@@ -1,7 +1,7 @@
 //! Spans: from which allocation to which a collector held a target.
-ghost use Rattle.std.specs.Prelude.{◌≡◌, ◌<◌, ◌≤◌, ◌++◌, ◌∷◌, [], OnOk, ℕ, nat_le, true, false, length};
+ghost use Rattle.std.specs.Prelude.{◌≡◌, ◌<◌, ◌≤◌, ◌++◌, ◌∷◌, [], MatchOption, None, OnOk, ℕ, nat_le, true, false, length};
 ghost use Rattle.std.specs.List.Sorted.{IsPartitionPoint};
-ghost use Rattle.handover.specs.Spans.{holder_at, closed, opened, AreSpans};
+ghost use Rattle.handover.specs.Spans.{holder_at, closed, opened, AreSpans, IsHeldBy, IsRun, IsSince};
 
 use std::alloc::{AllocError, Global};
 use std::marker::Model;
@@ -79,6 +79,14 @@ impl Spans {
     {
         holder_at(self.spans.as_slice(), number)
     }
+
+    /// From which number on the holder of a number has been it without a break.
+    pub(crate) fn since(&self, number: u32) -> Option<u32>
+        requires { (current : ℕ) × AreSpans current 0 self.now.spans }
+        ensures { MatchOption result (holder_at self.now.spans number ≡ None) (λ first. IsSince self.now.spans number first) }
+    {
+        since_at(self.spans.as_slice(), number)
+    }
 }
 
 fn close_last(spans: &mut [Span], number: u32)
@@ -100,10 +108,10 @@ fn begun(spans: &[Span], number: u32) -> usize
     spans.partition_point(|span| span.first <= number)
 }
 
-/// The holder of a number.
-fn holder_at(spans: &[Span], number: u32) -> Option<u32>
+/// The span that has a number.
+fn span_at(spans: &[Span], number: u32) -> Option<Span>
     requires { (current : ℕ) × AreSpans current 0 spans.now }
-    ensures { result ≡ holder_at spans.now number }
+    ensures { MatchOption result (holder_at spans.now number ≡ None) (λ span. IsHeldBy spans.now number span) }
 {
     let count = begun(spans, number);
     if count == 0 {
@@ -111,8 +119,46 @@ fn holder_at(spans: &[Span], number: u32) -> Option<u32>
     }
     let span = spans[count - 1];
     if number <= span.last {
-        Some(span.collector)
+        Some(span)
     } else {
         None
     }
+}
+
+/// The holder of a number.
+fn holder_at(spans: &[Span], number: u32) -> Option<u32>
+    requires { (current : ℕ) × AreSpans current 0 spans.now }
+    ensures { result ≡ holder_at spans.now number }
+{
+    match span_at(spans, number) {
+        Some(span) => Some(span.collector),
+        None => None,
+    }
+}
+
+/// From which number on the holder of a number has been it without a break.
+fn since_at(spans: &[Span], number: u32) -> Option<u32>
+    requires { (current : ℕ) × AreSpans current 0 spans.now }
+    ensures { MatchOption result (holder_at spans.now number ≡ None) (λ first. IsSince spans.now number first) }
+{
+    match span_at(spans, number) {
+        Some(span) => Some(run_start(spans, number, span)),
+        None => None,
+    }
+}
+
+/// The first number of a span that has a number, or of the spans before it that its collector has without a gap.
+fn run_start(spans: &[Span], number: u32, span: Span) -> u32
+    requires spans { (current : ℕ) × AreSpans current 0 spans.now }
+    requires held { IsHeldBy spans.now number span }
+    ensures { IsRun spans.now number span.collector result }
+{
+    let mut first = span.first;
+    while let Some(before) = span_at(spans, first - 1) {
+        if before.collector != span.collector {
+            return first;
+        }
+        first = before.first;
+    }
+    first
 }

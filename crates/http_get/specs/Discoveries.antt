@@ -12,6 +12,7 @@ use Rattle.relabel.specs.declared.rule.RuleSettings.{RuleSettings}
 use Rattle.relabel.specs.Discovering.{discovered}
 use Rattle.fleet_events.specs.declared.event.Event.{Event}
 use Rattle.fleet_events.specs.declared.event.Event.TheVariants.{Discover}
+use Rattle.http_get.specs.declared.discovery.Listing.{Listing}
 use Rattle.http_get.specs.declared.reply.Reply.{Reply}
 use Rattle.http_get.specs.declared.reply.FetchFault.{FetchFault}
 use Rattle.http_get.specs.declared.reply.FetchFault.TheVariants as fault
@@ -41,17 +42,38 @@ or_document (Err fault) = Err (Document fault)
 abbrev pub groups_said : List ℕ → Result (List Group) RefreshError
 groups_said body = or_document (groups_read body)
 
+-- the groups of an answer: the status is looked at first, then the media type, then the body
+abbrev pub groups_answered : Reply → Result (List Group) RefreshError
+groups_answered reply =
+    if reply.status == 200 then (if is_json reply.media then groups_said reply.body else Err Media)
+    else Err (Status reply.status)
+
+-- a source lists the final targets of groups, in order, which have the labels of groups of some source; with how many targets of the groups a rule
+-- drops, and how many have no address after the rules
+abbrev pub listing_from : Job → List RuleSettings → ℕ → ℕ → List Group → Listing
+listing_from job rules from source groups = record {
+  event = Discover job.name source (discovered rules job from groups).targets;
+  dropped = (discovered rules job from groups).dropped;
+  no_address = (discovered rules job from groups).no_address;
+}
+
 module _ (job : Job) (rules : List RuleSettings) (source : ℕ) where
   -- the source lists the final targets of the groups, in order
   abbrev pub discover_event : List Group → Event
   discover_event groups = Discover job.name source (discovered rules job source groups).targets
 
-  -- the status is looked at first, then the media type, then the body
   abbrev pub found_said : Reply → Result Event RefreshError
-  found_said reply =
-      if reply.status == 200
-      then (if is_json reply.media then (groups_said reply.body >>= λ groups. Ok (discover_event groups)) else Err Media)
-      else Err (Status reply.status)
+  found_said reply = groups_answered reply >>= λ groups. Ok (discover_event groups)
+
+  abbrev pub listing : List Group → Listing
+  listing groups = listing_from job rules source source groups
+
+  abbrev pub listed_said : Reply → Result Listing RefreshError
+  listed_said reply = groups_answered reply >>= λ groups. Ok (listing groups)
+
+  -- those of files have no label of a URL, as those of static groups have none
+  abbrev pub files_listing : List Group → Listing
+  files_listing groups = listing_from job rules 0 source groups
 
 -- a fetch that brought no answer
 abbrev pub unanswered : FetchFault → RefreshError

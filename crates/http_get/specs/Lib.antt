@@ -3,6 +3,7 @@ pub mod Paths
 pub mod Queries
 pub mod Gets
 pub mod Addresses
+pub mod Hosts
 pub mod Urls
 pub mod Discoveries
 pub mod Scripts

@@ -4,13 +4,14 @@ use Rattle.std.specs.Option.{option_map}
 use Rattle.sd_documents.specs.declared.config.Job.{Job}
 use Rattle.relabel.specs.declared.rule.RuleSettings.{RuleSettings}
 use Rattle.fleet_events.specs.declared.event.Event.{Event}
+use Rattle.http_get.specs.declared.discovery.Listing.{Listing}
 use Rattle.http_get.specs.declared.get.Get.{Get}
 use Rattle.http_get.specs.declared.reply.Reply.{Reply}
 use Rattle.http_get.specs.declared.reply.FetchFault.{FetchFault}
 use Rattle.http_get.specs.declared.error.RefreshError.{RefreshError}
 use Rattle.http_get.specs.declared.error.RefreshError.TheVariants.{NoSource, Memory}
 use Rattle.http_get.specs.Urls.{url_get}
-use Rattle.http_get.specs.Discoveries.{Gives, found_said, unanswered}
+use Rattle.http_get.specs.Discoveries.{Gives, found_said, listed_said, unanswered}
 
 -- source 1 + i is asked at the i-th URL. Source 0, the static groups, is not asked
 abbrev pub source_get : Job → ℕ → Option Get
@@ -23,8 +24,9 @@ IsRefresh job rules source (Ok reply) result = Gives result (found_said job rule
 IsRefresh job rules source (Err fault) result = result ≡ Err (unanswered fault)
 
 -- what asking a source came to says what it lists, where there is such a source
-abbrev pub IsHeard : Job → List RuleSettings → ℕ → Result Reply FetchFault → Option Get → Result Event RefreshError → Type 0
-IsHeard job rules source came (Some get) result = IsRefresh job rules source came result
+abbrev pub IsHeard : Job → List RuleSettings → ℕ → Result Reply FetchFault → Option Get → Result Listing RefreshError → Type 0
+IsHeard job rules source (Ok reply) (Some get) result = Gives result (listed_said job rules source reply)
+IsHeard job rules source (Err fault) (Some get) result = result ≡ Err (unanswered fault)
 IsHeard job rules source came None result = result ≡ Err NoSource
 
 -- no fetch is made of a source that is not asked

@@ -21,7 +21,7 @@ pub fn address_of(text: &str) -> Option<SocketAddrV4>
 }
 
 /// What stands before the first colon, and what behind it.
-fn parts_of(text: &str) -> (&str, Option<&str>)
+pub(crate) fn parts_of(text: &str) -> (&str, Option<&str>)
     ensures host { result.0.now ≡ before_first (λ b. b == 58) text.now }
     ensures digits { option_map (λ s. s.now) result.1 ≡ behind_colon text.now }
 {
@@ -44,7 +44,7 @@ fn host_of(text: &str) -> Option<Ipv4Addr>
 }
 
 /// The port of these digits, or the default one.
-fn port_of(digits: Option<&str>) -> Option<u16>
+pub(crate) fn port_of(digits: Option<&str>) -> Option<u16>
     ensures { MatchOption result ((port : ℕ) → ¬ (IsPort (option_map (λ s. s.now) digits.entry) port)) (IsPort (option_map (λ s. s.now) digits.entry)) }
 {
     match digits {

@@ -9,6 +9,8 @@ use crate::reply::FetchFault;
 pub enum Cause {
     /// The address is none that can be reached.
     NoAddress,
+    /// The name is none that has an address.
+    NoName,
     /// Nobody listens at the address.
     Refused,
     /// The answer was not there in time.
@@ -28,8 +30,12 @@ impl Cause {
         ensures { result ≡ fault_of self }
     {
         match self {
-            Cause::NoAddress | Cause::Refused | Cause::TimedOut | Cause::Broken | Cause::Encoded =>
-                FetchFault::Device,
+            Cause::NoAddress
+            | Cause::NoName
+            | Cause::Refused
+            | Cause::TimedOut
+            | Cause::Broken
+            | Cause::Encoded => FetchFault::Device,
             Cause::TooLong => FetchFault::TooLong,
             Cause::Memory => FetchFault::Memory,
         }
@@ -39,6 +45,7 @@ impl Cause {
     pub fn text(self) -> &'static str {
         match self {
             Cause::NoAddress => "no address that can be reached",
+            Cause::NoName => "no such name",
             Cause::Refused => "connection refused",
             Cause::TimedOut => "no answer in time",
             Cause::Broken => "the connection failed",

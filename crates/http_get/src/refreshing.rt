@@ -4,7 +4,7 @@ ghost use Rattle.std.specs.Option.{option_map};
 ghost use Rattle.http_get.specs.Urls.{url_get};
 ghost use Rattle.http_get.specs.Refreshing.{source_get, IsHeard, Refreshed};
 
-use crate::discovery::found;
+use crate::discovery::{Listing, found, listed};
 use crate::error::RefreshError;
 use crate::get::Get;
 use crate::reply::{FetchFault, Reply};
@@ -27,28 +27,31 @@ pub fn refresh<S: Scrape>(
 ) -> Result<Event, RefreshError>
     ensures { Refreshed S.may_fetch scrape.old scrape.new job.now rules.now source result }
 {
-    let Some(get) = get_of_source(alloc, job, source)? else {
+    let Some(url) = url_of(job, source) else {
         return Err(RefreshError::NoSource);
     };
-    let fetched = scrape.fetch(&get);
-    heard(alloc, job, rules, source, &fetched)
+    let get = get_of_url(alloc, url.as_str())?;
+    match scrape.fetch(&get) {
+        Ok(reply) => found(alloc, job, rules, source, &reply),
+        Err(fault) => Err(RefreshError::from(fault)),
+    }
 }
 
-/// What a job's source lists, by what asking it once came to.
+/// What a job's source lists, by what asking it once came to, and how many targets of it are left out.
 pub fn heard(
     alloc: Global,
     job: &Job,
     rules: &Rules,
     source: u32,
     fetched: &Result<Reply, FetchFault>,
-) -> Result<Event, RefreshError>
+) -> Result<Listing, RefreshError>
     ensures { IsHeard job.now rules.now source fetched.now (source_get job.now source) result }
 {
     if url_of(job, source).is_none() {
         return Err(RefreshError::NoSource);
     }
     match fetched {
-        Ok(reply) => found(alloc, job, rules, source, reply),
+        Ok(reply) => listed(alloc, job, rules, source, reply),
         Err(fault) => Err(RefreshError::from(*fault)),
     }
 }

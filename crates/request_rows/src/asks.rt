@@ -88,7 +88,19 @@ fn spelled_wanted(alloc: Global, wanted: Wanted) -> Result<String, AllocError> {
     match wanted {
         Wanted::Event(event) => spelled_event(alloc, &event),
         Wanted::OfNamed { name, change } => spelled_change(alloc, &name, change),
+        Wanted::Reports(events) => spelled_events(alloc, events.as_slice()),
     }
+}
+
+/// Each event behind a blank.
+fn spelled_events(alloc: Global, events: &[Event]) -> Result<String, AllocError> {
+    let count = events.len();
+    let mut text = format!(in alloc; "{count} of")?;
+    for event in events {
+        text.push_str(" ")?;
+        text.push_str(spelled_event(alloc, event)?.as_str())?;
+    }
+    Ok(text)
 }
 
 fn spelled_change(
@@ -119,6 +131,7 @@ fn spelled(alloc: Global, ask: &Ask) -> Result<String, AllocError> {
         Ask::ScrapeConfigs { rules: false } => String::from_str(alloc, "scrape configs"),
         Ask::ScrapeConfigs { rules: true } => String::from_str(alloc, "scrape configs with rules"),
         Ask::Jobs => String::from_str(alloc, "jobs"),
+        Ask::Job(job) => format!(in alloc; "job <{}>", job.as_str()),
         Ask::JobTargets(job) => format!(in alloc; "targets of <{}>", job.as_str()),
         Ask::CollectorTargets { job, name, takes } => {
             let at = if *takes { "at" } else { "as shown at" };

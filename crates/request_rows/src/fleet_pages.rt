@@ -75,7 +75,7 @@ fn joined(
 }
 
 /// The page of targets of a job that were searched for, numbered from 7 on, as `ALL JOB HOLDER GROUPS`. Without a holder, which is `-`, none is
-/// handed over.
+/// handed over, held or reported. Else each is held from allocation 2 on, and was reported in round 3.
 pub(crate) fn found(alloc: Global, text: &str) -> Result<String, AllocError> {
     let (all, rest) = first_word(text);
     let (job, rest) = first_word(rest);
@@ -107,5 +107,7 @@ fn found_target(
         target,
         collector,
         handing_over,
+        since: if handing_over { Some(2) } else { None },
+        last_round: if handing_over { Some(3) } else { None },
     })
 }

@@ -14,7 +14,7 @@ use std::time::{Clock, Duration, Instant};
 use tokio::runtime::Handle;
 use tokio::time::Timeout;
 
-/// An exchange that begins now.
+/// An exchange with an address that begins now.
 pub(crate) fn timed<R>(rt: &R, handle: &Handle, limit: Duration, get: &Get) -> Result<Timed, Cause>
 where
     R: Clock + Net + RandomSource + AllocGlobal,
@@ -22,6 +22,21 @@ where
 {
     let address = address_in(get)?;
     let deadline = deadline_of(rt, limit)?;
+    timed_at(rt, handle, deadline, address, get)
+}
+
+/// An exchange with the host at an address, which is given up at a deadline.
+pub(crate) fn timed_at<R>(
+    rt: &R,
+    handle: &Handle,
+    deadline: Instant,
+    address: SocketAddr,
+    get: &Get,
+) -> Result<Timed, Cause>
+where
+    R: Clock + Net + RandomSource + AllocGlobal,
+    ensures { IfOk result ⟦<WhileMemory<Timeout<Exchange>> as Future>⟧.can_poll }
+{
     let exchange = Exchange::begin(rt, handle.reactor(), address, get)?;
     match handle.time().timeout_at(deadline, exchange) {
         Ok(timed) => Ok(WhileMemory::new(rt.alloc(), timed)),
@@ -38,7 +53,7 @@ fn address_in(get: &Get) -> Result<SocketAddr, Cause> {
 }
 
 /// When a fetch that begins now is given up.
-fn deadline_of(rt: &impl Clock, limit: Duration) -> Result<Instant, Cause> {
+pub(crate) fn deadline_of(rt: &impl Clock, limit: Duration) -> Result<Instant, Cause> {
     match Instant::now(rt) {
         Ok(now) => now.checked_add(limit).ok_or(Cause::Broken),
         Err(e) => Err(io_cause(&e)),

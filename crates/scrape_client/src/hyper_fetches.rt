@@ -1,29 +1,32 @@
 //! Fetches over HTTP that are under way at once, all on the calling thread.
-ghost use Rattle.std.specs.Prelude.{OnOk};
+ghost use Rattle.std.specs.Prelude.{◌≡◌};
 ghost use Rattle.futures.specs.Queued.{AllPollable, set_places};
 ghost use Rattle.futures.specs.Task.{IsArmed, Keeps};
 ghost use Rattle.futures.specs.Poll.{OnPending};
 
-use crate::beginning::timed;
+use crate::beginning::{deadline_of, timed_at};
+use crate::looking::{Looked, Looking};
+use crate::lookups::Lookups;
 use crate::marked::Marked;
 use futures::stream::FuturesUnordered;
 use futures::task::{Context, Poll};
 use futures::{Future, Stream};
-use http_get::{Asker, FetchSeveral, Get, Next};
+use http_get::{Asker, Cause, FetchSeveral, Get, Next, address_of};
 use std::alloc::AllocGlobal;
 use std::io;
-use std::net::Net;
+use std::net::{Net, SocketAddr};
 use std::random::RandomSource;
-use std::sync::Wait;
-use std::time::{Clock, Duration};
+use std::sync::{Arc, Wait};
+use std::time::{Clock, Duration, Instant};
 use tokio::runtime::{Handle, LocalRuntime};
 use tokio::time::Sleep;
 
-/// A device over HTTP/1.1 that has several fetches under way, each over a new connection. No redirect is followed.
-#[derive(Clone, Copy, Drop)]
+/// A device over HTTP/1.1 that has several fetches under way, each over a new connection. A name is looked up first. No redirect is followed.
+#[derive(Drop)]
 pub struct HyperFetches<R> {
     rt: R,
     limit: Duration,
+    lookups: Arc<Lookups>,
 }
 
 /// The fetches that are under way for an asker.
@@ -33,14 +36,15 @@ struct UnderWay<'a, R, A> {
     limit: Duration,
     handle: Handle,
     asker: &'a mut A,
+    looking: Looking<'a>,
     fetches: FuturesUnordered<Marked>,
     pause: Option<Sleep>,
 }
 
 impl<R> HyperFetches<R> {
-    /// A device that gives each fetch so much time, from the connecting to the end of the body.
-    pub fn new(rt: R, limit: Duration) -> HyperFetches<R> {
-        HyperFetches { rt, limit }
+    /// A device that gives each fetch so much time, from the looking up of its name to the end of the body.
+    pub fn new(rt: R, limit: Duration, lookups: Arc<Lookups>) -> HyperFetches<R> {
+        HyperFetches { rt, limit, lookups }
     }
 }
 
@@ -55,6 +59,7 @@ where
             limit: self.limit,
             handle: runtime.handle().clone()?,
             asker,
+            looking: Looking::begin(&self.rt, self.rt.alloc(), &self.lookups),
             fetches: FuturesUnordered::new(self.rt.alloc())?,
             pause: None,
         };
@@ -64,24 +69,71 @@ where
 
 impl<R, A> UnderWay<'_, R, A>
 where
-    R: Clock + Net + RandomSource + AllocGlobal,
+    R: Wait + Clock + Net + RandomSource + AllocGlobal,
     A: Asker,
 {
     /// Begins a fetch. One that cannot begin has come to that.
-    fn begin(&mut self, mark: usize, get: &Get) -> io::Result<()>
+    fn begin(&mut self, mark: usize, get: Get) -> io::Result<()>
         requires { AllPollable ⟦<Marked as Future>⟧.can_poll (set_places self.old.fetches) }
         ensures { AllPollable ⟦<Marked as Future>⟧.can_poll (set_places self.new.fetches) }
     {
-        match timed(self.rt, &self.handle, self.limit, get) {
+        let deadline = match deadline_of(self.rt, self.limit) {
+            Ok(deadline) => deadline,
+            Err(cause) => return self.tell(mark, cause),
+        };
+        match address_of(get.address.as_str()) {
+            Some(address) => self.connect(mark, &get, deadline, SocketAddr::V4(address)),
+            None => self.look_up(mark, get, deadline),
+        }
+    }
+
+    /// Has the name of a fetch looked up.
+    fn look_up(&mut self, mark: usize, get: Get, deadline: Instant) -> io::Result<()>
+        ensures { self.new.fetches ≡ self.old.fetches }
+    {
+        match self.looking.ask(self.rt, mark, get, deadline) {
+            Ok(()) => Ok(()),
+            Err(cause) => self.tell(mark, cause),
+        }
+    }
+
+    /// Goes on with a fetch whose name was looked up.
+    fn go_on(&mut self, looked: Looked) -> io::Result<()>
+        requires { AllPollable ⟦<Marked as Future>⟧.can_poll (set_places self.old.fetches) }
+        ensures { AllPollable ⟦<Marked as Future>⟧.can_poll (set_places self.new.fetches) }
+    {
+        match looked.came {
+            Ok(address) => self.connect(looked.mark, &looked.get, looked.deadline, address),
+            Err(cause) => self.tell(looked.mark, cause),
+        }
+    }
+
+    /// Begins a fetch of the host at an address.
+    fn connect(
+        &mut self,
+        mark: usize,
+        get: &Get,
+        deadline: Instant,
+        address: SocketAddr,
+    ) -> io::Result<()>
+        requires { AllPollable ⟦<Marked as Future>⟧.can_poll (set_places self.old.fetches) }
+        ensures { AllPollable ⟦<Marked as Future>⟧.can_poll (set_places self.new.fetches) }
+    {
+        match timed_at(self.rt, &self.handle, deadline, address, get) {
             Ok(timed) => match self.fetches.push(Marked { mark, timed }) {
                 Ok(()) => Ok(()),
                 Err(_) => Err(io::ErrorKind::OutOfMemory.into()),
             },
-            Err(cause) => {
-                self.asker.hear(mark, Err(cause));
-                Ok(())
-            }
+            Err(cause) => self.tell(mark, cause),
         }
+    }
+
+    /// A fetch has come to this.
+    fn tell(&mut self, mark: usize, cause: Cause) -> io::Result<()>
+        ensures { self.new.fetches ≡ self.old.fetches }
+    {
+        self.asker.hear(mark, Err(cause));
+        Ok(())
     }
 
     /// Waits for the next end, at most so long.
@@ -127,7 +179,7 @@ where
 
 impl<R, A> Future for UnderWay<'_, R, A>
 where
-    R: Clock + Net + RandomSource + AllocGlobal,
+    R: Wait + Clock + Net + RandomSource + AllocGlobal,
     A: Asker,
 {
     ghost use Rattle.futures.specs.Queued.{AllPollable, set_places};
@@ -137,8 +189,14 @@ where
     ghost can_poll = { λ u. AllPollable ⟦<Marked as Future>⟧.can_poll (set_places u.fetches) };
 
     fn poll(&mut self, cx: &mut Context<'_>) -> Poll<io::Result<()>> {
+        if let Some(looked) = self.looking.next(self.rt) {
+            return match self.go_on(looked) {
+                Ok(()) => cx.yield_now(),
+                Err(e) => Poll::Ready(Err(e)),
+            };
+        }
         match self.asker.next() {
-            Next::Ask { mark, get } => match self.begin(mark, &get) {
+            Next::Ask { mark, get } => match self.begin(mark, get) {
                 Ok(()) => cx.yield_now(),
                 Err(e) => Poll::Ready(Err(e)),
             },

@@ -1,5 +1,5 @@
 //! The devices that fetch over HTTP: a new connection for each request, with a limit of time and of size. One waits for each fetch, the
-//! other has several under way.
+//! other has several under way, and looks names up on threads of their own.
 #![tactic(auto)]
 
 mod beginning;
@@ -8,9 +8,12 @@ mod exchange;
 mod faults;
 mod hyper_fetches;
 mod hyper_scrape;
+mod looking;
+mod lookups;
 mod marked;
 mod while_memory;
 
 pub use exchange::LONGEST_BODY;
 pub use hyper_fetches::HyperFetches;
 pub use hyper_scrape::HyperScrape;
+pub use lookups::{LOOKERS, Lookups, start_lookups};

@@ -14,11 +14,11 @@ use Rattle.sd_routes.specs.CollectorPages.{collector_data, number_or_null, with_
 use Rattle.sd_routes.specs.declared.collector_row.CollectorRow.{CollectorRow}
 use Rattle.sd_routes.proofs.Floats.{put_no_float}
 
-with_held_no_float : (ms : Members) (shares : List (List ℕ × ℕ)) → members_have_float ms ≡ false → members_have_float (with_held ms shares) ≡ false
+pub with_held_no_float : (ms : Members) (shares : List (List ℕ × ℕ)) → members_have_float ms ≡ false → members_have_float (with_held ms shares) ≡ false
 with_held_no_float ms [] h = h
 with_held_no_float ms (share ∷ shares) h = with_held_no_float (put share.0 (number_data share.1) ms) shares (put_no_float share.0 (number_data share.1) ms refl h)
 
-number_no_float : (number : Option ℕ) → has_float (number_or_null number) ≡ false
+pub number_no_float : (number : Option ℕ) → has_float (number_or_null number) ≡ false
 number_no_float None = refl
 number_no_float (Some n) = refl
 

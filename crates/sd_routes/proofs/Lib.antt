@@ -3,6 +3,7 @@ pub mod Lookup
 pub mod Places
 pub mod Reaches
 pub mod Floats
+pub mod JobFloats
 pub mod Acknowledged
 pub mod Escapes
 pub mod CollectorFloats

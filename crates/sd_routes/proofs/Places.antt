@@ -9,7 +9,7 @@ use Rattle.matchit.specs.Seek.{first}
 use Rattle.matchit.proofs.OnLiterals.{matchit_on_literals}
 use Rattle.matchit.proofs.RenameLemmas.{first-rename}
 use Rattle.sd_routes.proofs.Lookup.{Agrees, agrees-prefix, agrees-end, agrees-or, agrees-segment, after}
-use Rattle.sd_routes.specs.Rows.{desk_rows, route_rows}
+use Rattle.sd_routes.specs.Rows.{desk_rows, job_rows, route_rows}
 use Rattle.sd_routes.specs.Table.{fits, first_fit, table, place_of}
 use Rattle.sd_routes.specs.declared.place.Place.{Place}
 use Rattle.sd_routes.specs.declared.place.Place.TheVariants.{Jobs}
@@ -46,10 +46,10 @@ abbrev lists : Rows
 lists = prepend (codes "targets") (ends (Some 11)) ++ prepend (codes "uncovered") (ends (Some 12))
 
 abbrev of_job : Rows
-of_job = prepend (256 ∷ []) (after lists None)
+of_job = prepend (256 ∷ []) (after lists (Some 13))
 
 abbrev jobs : Rows
-jobs = prepend (codes "/") of_job ++ ends (Some 13)
+jobs = prepend (codes "/") of_job ++ ends (Some 14)
 
 abbrev with_c : Rows
 with_c = prepend (codes "ertificate") (ends (Some 5)) ++ prepend (codes "ollectors") collectors
@@ -64,22 +64,22 @@ abbrev with_hqr : Rows
 with_hqr = prepend (codes "healthy") (ends (Some 0)) ++ with_qr
 
 abbrev with_re : Rows
-with_re = prepend (codes "adyz") (ends (Some 16)) ++ prepend (codes "ports") (ends (Some 17))
+with_re = prepend (codes "adyz") (ends (Some 17)) ++ prepend (codes "ports") (ends (Some 18))
 
 abbrev with_t : Rows
-with_t = prepend (codes "targets") (ends (Some 19)) ++ ends (Some 20)
+with_t = prepend (codes "targets") (ends (Some 20)) ++ ends (Some 21)
 
 abbrev with_st : Rows
-with_st = prepend (codes "scrape_configs") (ends (Some 18)) ++ with_t
+with_st = prepend (codes "scrape_configs") (ends (Some 19)) ++ with_t
 
 abbrev with_rst : Rows
 with_rst = prepend (codes "re") with_re ++ with_st
 
 abbrev with_mrst : Rows
-with_mrst = prepend (codes "metrics") (ends (Some 15)) ++ with_rst
+with_mrst = prepend (codes "metrics") (ends (Some 16)) ++ with_rst
 
 abbrev with_lmrst : Rows
-with_lmrst = prepend (codes "livez") (ends (Some 14)) ++ with_mrst
+with_lmrst = prepend (codes "livez") (ends (Some 15)) ++ with_mrst
 
 abbrev with_jlmrst : Rows
 with_jlmrst = prepend (codes "jobs") jobs ++ with_lmrst
@@ -117,9 +117,9 @@ agrees-lists =
 
 agrees-jobs : Agrees jobs
 agrees-jobs =
-    agrees-or 47 [] of_job (ends (Some 13)) (omega arith) refl
-    (agrees-text (codes "/") of_job refl (agrees-segment lists None (omega arith) (agrees-text (codes "/") lists refl agrees-lists)))
-    (agrees-end 13)
+    agrees-or 47 [] of_job (ends (Some 14)) (omega arith) refl
+    (agrees-text (codes "/") of_job refl (agrees-segment lists (Some 13) (omega arith) (agrees-text (codes "/") lists refl agrees-lists)))
+    (agrees-end 14)
 
 agrees-with_c : Agrees with_c
 agrees-with_c =
@@ -141,16 +141,16 @@ agrees-with_hqr = agrees-or 104 (codes "ealthy") (ends (Some 0)) with_qr (omega 
 
 agrees-with_re : Agrees with_re
 agrees-with_re =
-    agrees-or 97 (codes "dyz") (ends (Some 16)) (prepend (codes "ports") (ends (Some 17))) (omega arith) refl
-    (agrees-word (codes "adyz") 16 refl) (agrees-word (codes "ports") 17 refl)
+    agrees-or 97 (codes "dyz") (ends (Some 17)) (prepend (codes "ports") (ends (Some 18))) (omega arith) refl
+    (agrees-word (codes "adyz") 17 refl) (agrees-word (codes "ports") 18 refl)
 
 agrees-with_t : Agrees with_t
 agrees-with_t =
-    agrees-or 116 (codes "argets") (ends (Some 19)) (ends (Some 20)) (omega arith) refl
-    (agrees-word (codes "targets") 19 refl) (agrees-end 20)
+    agrees-or 116 (codes "argets") (ends (Some 20)) (ends (Some 21)) (omega arith) refl
+    (agrees-word (codes "targets") 20 refl) (agrees-end 21)
 
 agrees-with_st : Agrees with_st
-agrees-with_st = agrees-or 115 (codes "crape_configs") (ends (Some 18)) with_t (omega arith) refl (agrees-word (codes "scrape_configs") 18 refl) agrees-with_t
+agrees-with_st = agrees-or 115 (codes "crape_configs") (ends (Some 19)) with_t (omega arith) refl (agrees-word (codes "scrape_configs") 19 refl) agrees-with_t
 
 agrees-with_rst : Agrees with_rst
 agrees-with_rst =
@@ -158,10 +158,10 @@ agrees-with_rst =
     (agrees-text (codes "re") with_re refl agrees-with_re) agrees-with_st
 
 agrees-with_mrst : Agrees with_mrst
-agrees-with_mrst = agrees-or 109 (codes "etrics") (ends (Some 15)) with_rst (omega arith) refl (agrees-word (codes "metrics") 15 refl) agrees-with_rst
+agrees-with_mrst = agrees-or 109 (codes "etrics") (ends (Some 16)) with_rst (omega arith) refl (agrees-word (codes "metrics") 16 refl) agrees-with_rst
 
 agrees-with_lmrst : Agrees with_lmrst
-agrees-with_lmrst = agrees-or 108 (codes "ivez") (ends (Some 14)) with_mrst (omega arith) refl (agrees-word (codes "livez") 14 refl) agrees-with_mrst
+agrees-with_lmrst = agrees-or 108 (codes "ivez") (ends (Some 15)) with_mrst (omega arith) refl (agrees-word (codes "livez") 15 refl) agrees-with_mrst
 
 agrees-with_jlmrst : Agrees with_jlmrst
 agrees-with_jlmrst = agrees-or 106 (codes "obs") jobs with_lmrst (omega arith) refl (agrees-text (codes "jobs") jobs refl agrees-jobs) agrees-with_lmrst
@@ -190,11 +190,11 @@ unfoldable route_at : ℕ → RouteOf Place
 route_at n = get_or (routes_of route_rows) n no_route
 
 rows-tree : route_rows ≡ rename route_at tree
-unfolding matchit_on_literals route_rows desk_rows route_at
+unfolding matchit_on_literals route_rows desk_rows job_rows route_at
 rows-tree = refl
 
 table-tree : table ≡ rename (λ n. (route_at n).value) tree
-unfolding matchit_on_literals route_rows desk_rows route_at
+unfolding matchit_on_literals route_rows desk_rows job_rows route_at
 table-tree = refl
 
 fit-rename : (f : ℕ → Place) (r : Rows) (p : List ℕ) → first_fit (rename f r) p ≡ map_key f (first_fit r p)

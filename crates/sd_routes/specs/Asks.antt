@@ -11,7 +11,7 @@ use Rattle.sd_routes.specs.Table.{place_of}
 use Rattle.sd_routes.specs.declared.decimal.TheConstants.{MOST_OF_32_BITS, MOST_OF_64_BITS}
 use Rattle.sd_routes.specs.declared.acknowledgement.Acknowledgement.{Acknowledgement}
 use Rattle.sd_routes.specs.declared.ask.Ask.{Ask}
-use Rattle.sd_routes.specs.declared.ask.Ask.TheVariants.{Status, ScrapeConfigs, Jobs, JobTargets, CollectorTargets, Uncovered, FindTargets, Acknowledged, Certificate, Collectors, Collector, Join, Leave, Drain, Release, SetLimits, Report, Healthy, Live, Ready, Metrics, Reload, Quit}
+use Rattle.sd_routes.specs.declared.ask.Ask.TheVariants.{Status, ScrapeConfigs, Jobs, Job, JobTargets, CollectorTargets, Uncovered, FindTargets, Acknowledged, Certificate, Collectors, Collector, Join, Leave, Drain, Release, SetLimits, Report, Healthy, Live, Ready, Metrics, Reload, Quit}
 use Rattle.sd_routes.specs.declared.place.Place.{Place}
 use Rattle.sd_routes.specs.declared.place.Place.TheVariants as place
 use Rattle.sd_routes.specs.declared.purpose.Purpose.{Purpose}
@@ -59,6 +59,14 @@ configs_by (Ok rules) = Ok (ScrapeConfigs rules)
 
 abbrev pub scrape_configs_asked : Option (List ℕ) → Result Ask RequestError
 scrape_configs_asked query = configs_by (flag_of (codes "rules") false query)
+
+-- a job
+abbrev pub job_of : Option (List ℕ) → Result Ask RequestError
+job_of None = Err Shape
+job_of (Some job) = Ok (Job job)
+
+abbrev pub job_asked : List ℕ → Result Ask RequestError
+job_asked path = job_of (text_in (second_segment path))
 
 -- the targets of a job that nobody holds
 abbrev pub uncovered_of : Option (List ℕ) → Result Ask RequestError
@@ -138,6 +146,7 @@ abbrev pub asked_at : Place → Purpose → List ℕ → Option (List ℕ) → R
 asked_at place.Status purpose path query = Ok Status
 asked_at place.ScrapeConfigs purpose path query = scrape_configs_asked query
 asked_at place.Jobs purpose path query = Ok Jobs
+asked_at place.Job purpose path query = job_asked path
 asked_at place.JobTargets purpose path query = job_targets_asked purpose path query
 asked_at place.Uncovered purpose path query = uncovered_asked path
 asked_at place.Targets purpose path query = targets_asked query

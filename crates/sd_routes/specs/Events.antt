@@ -1,4 +1,4 @@
--- The event that a request's body spells, or the first refusal: Shape, then BadName, then TooManyRules; and for a report Shape, then OtherEpoch.
+-- The event that a request's body spells, or the first refusal: Shape, then BadName, then TooManyRules; and for a report Shape, then OtherEpoch (ReportLists has lists of them).
 use Rattle.std.specs.Prelude.{ℕ, ◌==◌, List, [], length, nat_le, codes, Bool, true, false, Option, Some, None, Result, Ok, Err, option_map, option_and_then, if◌then◌else◌}
 use Rattle.serde_json.specs.Data.{Data}
 use Rattle.serde_json.specs.Find.{as_array, as_number, as_str, as_u64, get}
@@ -13,12 +13,14 @@ use Rattle.reach_rules.specs.declared.reach.TheConstants.{MOST_RULES}
 use Rattle.reach_rules.specs.declared.rule.ReachRule.{ReachRule}
 use Rattle.sd_routes.specs.Asks.{name_said}
 use Rattle.sd_routes.specs.Changes.{wanted_of}
+use Rattle.sd_routes.specs.Epochs.{is_epoch}
 use Rattle.sd_routes.specs.JoinMembers.{is_join_object}
+use Rattle.sd_routes.specs.ReportLists.{reports_said}
 use Rattle.sd_routes.specs.declared.ask.Ask.{Ask}
 use Rattle.sd_routes.specs.declared.ask.Ask.TheVariants as ask
 use Rattle.sd_routes.specs.declared.change.Change.TheVariants.{Leave, Drain, Release, SetLimits}
 use Rattle.sd_routes.specs.declared.change.Wanted.{Wanted}
-use Rattle.sd_routes.specs.declared.change.Wanted.TheVariants.{Event as AnEvent}
+use Rattle.sd_routes.specs.declared.change.Wanted.TheVariants.{Event as AnEvent, Reports}
 use Rattle.sd_routes.specs.declared.request_error.RequestError.{RequestError}
 use Rattle.sd_routes.specs.declared.request_error.RequestError.TheVariants.{Shape, TooManyRules, OtherEpoch}
 use Rattle.sd_routes.specs.declared.which_collector.WhichCollector.{WhichCollector}
@@ -79,11 +81,6 @@ limits_set collector (Ok limits) = Ok (Some (wanted_of collector (SetLimits limi
 abbrev pub set_limits_said : WhichCollector → Data → Result (Option Wanted) RequestError
 set_limits_said collector d = limits_set collector (or_shape (member_in limits_in (codes "limits") d))
 
--- whether an epoch that is named is this one; nothing where what is named is no whole number of at most 64 bits. None needs to be named
-abbrev pub is_epoch : ℕ → Option Data → Option Bool
-is_epoch epoch None = Some true
-is_epoch epoch (Some d) = option_map (λ named. named == epoch) (option_and_then as_u64 (as_number d))
-
 -- Shape before OtherEpoch
 abbrev pub reported : Option Event → Option Bool → Result Event RequestError
 reported None is_current = Err Shape
@@ -97,19 +94,28 @@ report_said epoch d = reported (report_in d) (is_epoch epoch (get (codes "epoch"
 
 -- ---- all of them
 
-abbrev pub event_in : Ask → ℕ → Data → Result Event RequestError
-event_in ask.Join epoch d = join_said d
-event_in ask.Report epoch d = report_said epoch d
-event_in _ epoch d = Err Shape
-
 abbrev pub an_event : Result Event RequestError → Result (Option Wanted) RequestError
 an_event (Err e) = Err e
 an_event (Ok event) = Ok (Some (AnEvent event))
 
--- the event of a body that is JSON
-abbrev pub posted : Ask → ℕ → Option Data → Result (Option Wanted) RequestError
-posted asked epoch None = Err Shape
-posted asked epoch (Some d) = an_event (event_in asked epoch d)
+abbrev pub the_reports : Result (List Event) RequestError → Result (Option Wanted) RequestError
+the_reports (Err e) = Err e
+the_reports (Ok events) = Ok (Some (Reports events))
+
+-- the join of a body that is JSON
+abbrev pub join_posted : Option Data → Result (Option Wanted) RequestError
+join_posted None = Err Shape
+join_posted (Some d) = an_event (join_said d)
+
+-- one report, or a list of them where the body has a member `reports`
+abbrev pub reports_by : ℕ → Data → Option Data → Result (Option Wanted) RequestError
+reports_by epoch d None = an_event (report_said epoch d)
+reports_by epoch d (Some list) = the_reports (reports_said epoch d)
+
+-- the reports of a body that is JSON
+abbrev pub reports_posted : ℕ → Option Data → Result (Option Wanted) RequestError
+reports_posted epoch None = Err Shape
+reports_posted epoch (Some d) = reports_by epoch d (get (codes "reports") d)
 
 -- the limits of a body that is JSON
 abbrev pub limits_put : WhichCollector → Option Data → Result (Option Wanted) RequestError
@@ -121,7 +127,7 @@ abbrev pub event_said : Ask → ℕ → List ℕ → Result (Option Wanted) Requ
 event_said (ask.Leave collector) epoch body = Ok (Some (wanted_of collector Leave))
 event_said (ask.Drain collector) epoch body = Ok (Some (wanted_of collector Drain))
 event_said (ask.Release collector) epoch body = Ok (Some (wanted_of collector Release))
-event_said ask.Join epoch body = posted ask.Join epoch (json_of body)
+event_said ask.Join epoch body = join_posted (json_of body)
 event_said (ask.SetLimits collector) epoch body = limits_put collector (json_of body)
-event_said ask.Report epoch body = posted ask.Report epoch (json_of body)
+event_said ask.Report epoch body = reports_posted epoch (json_of body)
 event_said _ epoch body = Ok None

@@ -2,6 +2,7 @@
 use Rattle.std.specs.Prelude.{ℕ, List, codes, Option, Some, None}
 use Rattle.serde_json.specs.Data.{Data, null, boolean, string, object, no_members, member}
 use Rattle.json_values.specs.Spelling.{list_data, number_data}
+use Rattle.sd_routes.specs.CollectorPages.{number_or_null}
 use Rattle.sd_routes.specs.Pages.{labels_data}
 use Rattle.sd_routes.specs.declared.found_targets.FoundTarget.{FoundTarget}
 
@@ -17,7 +18,9 @@ target_data found =
     (member (codes "handing_over") (boolean found.handing_over)
     (member (codes "job") (string found.job)
     (member (codes "labels") (labels_data found.target.target.labels found.target.number)
-    (member (codes "target") (string found.target.target.address) no_members)))))
+    (member (codes "last_round") (number_or_null found.last_round)
+    (member (codes "since") (number_or_null found.since)
+    (member (codes "target") (string found.target.target.address) no_members)))))))
 
 -- how many there are, and the first of them
 abbrev pub found_data : ℕ → List FoundTarget → Data

@@ -7,9 +7,13 @@ pub mod Queries
 pub mod Errors
 pub mod Gives
 pub mod Asks
+pub mod JobPages
 pub mod JoinMembers
 pub mod Changes
+pub mod Epochs
 pub mod Events
+pub mod ReportLists
+pub mod AnswerTexts
 pub mod Responses
 pub mod Links
 pub mod Notices

@@ -20,6 +20,10 @@ escaped bytes = flat_map escaped_byte bytes
 abbrev pub job_link : List ℕ → List ℕ
 job_link job = codes "/jobs/" ++ escaped job ++ codes "/targets"
 
+-- the link of a job's targets that no list has
+abbrev pub uncovered_link : List ℕ → List ℕ
+uncovered_link job = codes "/jobs/" ++ escaped job ++ codes "/uncovered"
+
 -- the link of what a collector holds of a job, its name written as in a form
 abbrev pub collector_link : List ℕ → List ℕ → List ℕ
 collector_link job name = job_link job ++ codes "?" ++ append_pair [] (codes "collector_id") name

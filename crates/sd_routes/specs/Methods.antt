@@ -2,7 +2,7 @@
 use Rattle.std.specs.Prelude.{ℕ, ◌&&◌, ◌++◌, List, [], Bool, true, false, codes, bytes_eq, Option, Some, None, if◌then◌else◌}
 use Rattle.std.specs.Option.{option_map_or}
 use Rattle.sd_routes.specs.declared.place.Place.{Place}
-use Rattle.sd_routes.specs.declared.place.Place.TheVariants.{Status, ScrapeConfigs, Jobs, JobTargets, Uncovered, Targets, Acknowledged, Certificate, Collectors, Collector, Drain, Release, Limits, Reports, Healthy, Live, Ready, Metrics, Reload, Quit}
+use Rattle.sd_routes.specs.declared.place.Place.TheVariants.{Status, ScrapeConfigs, Jobs, Job, JobTargets, Uncovered, Targets, Acknowledged, Certificate, Collectors, Collector, Drain, Release, Limits, Reports, Healthy, Live, Ready, Metrics, Reload, Quit}
 use Rattle.sd_routes.specs.declared.purpose.Purpose.{Purpose}
 use Rattle.sd_routes.specs.declared.purpose.Purpose.TheVariants.{Show, ShowHead, Change}
 
@@ -11,6 +11,7 @@ abbrev pub is_shown : Place → Bool
 is_shown Status = true
 is_shown ScrapeConfigs = true
 is_shown Jobs = true
+is_shown Job = true
 is_shown JobTargets = true
 is_shown Uncovered = true
 is_shown Targets = true
@@ -34,6 +35,7 @@ abbrev pub changed_by : Place → Option (List ℕ)
 changed_by Status = None
 changed_by ScrapeConfigs = None
 changed_by Jobs = None
+changed_by Job = None
 changed_by JobTargets = None
 changed_by Uncovered = None
 changed_by Targets = None

@@ -9,11 +9,11 @@ use Rattle.http.specs.Response.{head_of, body_of}
 use Rattle.http_body_util.specs.declared.full.Full.{Full}
 use Rattle.serde_json.specs.Data.{Data, object, string, member, no_members}
 use Rattle.serde_json.specs.Written.{compact_text}
-use Rattle.fleet_events.specs.Lines.{answer_line}
 use Rattle.fleet_events.specs.declared.answer.Answer.{Answer}
 use Rattle.fleet_events.specs.declared.answer.Answer.TheVariants.{Not}
 use Rattle.fleet_events.specs.declared.refusal.Refusal.{Refusal}
 use Rattle.fleet_events.specs.declared.refusal.Refusal.TheVariants.{UnknownJob, UnknownCollector}
+use Rattle.sd_routes.specs.AnswerTexts.{answer_text, answers_text}
 use Rattle.sd_routes.specs.Errors.{status_of, name_of}
 use Rattle.sd_routes.specs.Notices.{status_noticed, text_noticed}
 use Rattle.sd_routes.specs.Methods.{allowed_at}
@@ -21,7 +21,7 @@ use Rattle.sd_routes.specs.declared.list_head.ListHead.{ListHead}
 use Rattle.sd_routes.specs.declared.request_error.RequestError.{RequestError}
 use Rattle.sd_routes.specs.declared.request_error.RequestError.TheVariants.{Method, Token}
 use Rattle.sd_routes.specs.declared.responding.Said.{Said}
-use Rattle.sd_routes.specs.declared.responding.Said.TheVariants.{Answer as Answered, Page, List as ListOf, Refused, Misshapen, Notice as Noticed, Metrics, Document, Reloaded, NotReloaded}
+use Rattle.sd_routes.specs.declared.responding.Said.TheVariants.{Answer as Answered, Answers, Page, List as ListOf, Refused, Misshapen, Notice as Noticed, Metrics, Document, Reloaded, NotReloaded}
 
 -- a head with this status code and these headers
 pub record IsHead (code : ℕ) (fields : Entries FieldValue) (head : Parts) : Type 0 where
@@ -101,14 +101,6 @@ status_answered _ = 200
 abbrev pub refused_text : List ℕ → List ℕ
 refused_text name = codes "{\"refused\":\"" ++ name ++ codes "\"}"
 
-abbrev pub front_of : Answer → List ℕ
-front_of (Not refusal) = codes "{\"refused\":\""
-front_of _ = codes "{\"answer\":\""
-
--- the object that tells an answer by its line
-abbrev pub answer_text : Answer → List ℕ
-answer_text answer = front_of answer ++ answer_line answer ++ codes "\"}"
-
 -- the object that tells the member at which a body is not of the documented shape
 abbrev pub misshapen_data : List ℕ → Data
 misshapen_data name = object (member (codes "member") (string name) (member (codes "refused") (string (codes "Shape")) no_members))
@@ -117,6 +109,7 @@ misshapen_data name = object (member (codes "member") (string name) (member (cod
 
 abbrev pub status_said : Said → ℕ
 status_said (Answered answer) = status_answered answer
+status_said (Answers answers round) = 200
 status_said (Page text) = 200
 status_said (ListOf head groups) = 200
 status_said (Refused error) = status_of error
@@ -139,6 +132,7 @@ headers_said _ = json_headers
 
 abbrev pub body_said : Said → List ℕ
 body_said (Answered answer) = answer_text answer
+body_said (Answers answers round) = answers_text answers round
 body_said (Page text) = text
 body_said (ListOf head groups) = groups
 body_said (Refused error) = refused_text (name_of error)

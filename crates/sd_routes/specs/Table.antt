@@ -1,7 +1,7 @@
 -- The table of paths: which place each names.
 use Rattle.std.specs.Prelude.{ℕ, ◌==◌, ◌&&◌, ◌++◌, List, [], ◌∷◌, Bool, true, false, not, codes, Option, Some, None, if◌then◌else◌}
 use Rattle.sd_routes.specs.declared.place.Place.{Place}
-use Rattle.sd_routes.specs.declared.place.Place.TheVariants.{Status, ScrapeConfigs, Jobs, JobTargets, Uncovered, Targets, Acknowledged, Certificate, Collectors, Collector, Drain, Release, Limits, Reports, Healthy, Live, Ready, Metrics, Reload, Quit}
+use Rattle.sd_routes.specs.declared.place.Place.TheVariants.{Status, ScrapeConfigs, Jobs, Job, JobTargets, Uncovered, Targets, Acknowledged, Certificate, Collectors, Collector, Drain, Release, Limits, Reports, Healthy, Live, Ready, Metrics, Reload, Quit}
 
 -- in a route, what stands for one segment of a path. It is no byte
 abbrev pub segment : ℕ
@@ -26,6 +26,7 @@ table =
     ∷ (codes "/collectors", Collectors)
     ∷ (codes "/jobs/" ++ segment ∷ codes "/targets", JobTargets)
     ∷ (codes "/jobs/" ++ segment ∷ codes "/uncovered", Uncovered)
+    ∷ (codes "/jobs/" ++ segment ∷ [], Job)
     ∷ (codes "/jobs", Jobs)
     ∷ (codes "/livez", Live)
     ∷ (codes "/metrics", Metrics)

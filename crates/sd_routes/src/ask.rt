@@ -15,6 +15,8 @@ pub enum Ask {
     },
     /// The jobs with their links.
     Jobs,
+    /// A job: how many targets it has, its sources, and who holds how many.
+    Job(Text),
     /// What each live collector holds of a job.
     JobTargets(Text),
     /// What one collector has of a job: it takes its list, or somebody only looks at it.

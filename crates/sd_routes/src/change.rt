@@ -3,6 +3,7 @@ ghost use Rattle.std.specs.Prelude.{◌≡◌};
 ghost use Rattle.sd_routes.specs.Changes.{change_event};
 
 use fleet_events::{CollectorId, Event};
+use lists::List;
 use reach_rules::{CollectorName, OwnLimits};
 
 /// What is to happen to a collector.
@@ -39,4 +40,6 @@ pub enum Wanted {
     Event(Event),
     /// This, to the collector that has a name when it happens.
     OfNamed { name: CollectorName, change: Change },
+    /// These reports, one after the other.
+    Reports(List<Event>),
 }

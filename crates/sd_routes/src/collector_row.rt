@@ -71,7 +71,7 @@ fn collector_value(alloc: Global, row: &CollectorRow) -> Result<Value, AllocErro
     let last_take = number_or_null(row.last_take);
     let limits = row.limits.write(alloc)?;
     let reach = row.reach.write(alloc)?;
-    let taken = taken_value(row.taken);
+    let taken = small_or_null(row.taken);
     let (draining, id, name) = (row.draining, row.id, row.name.as_str());
     json!(in alloc; {
         "draining": draining,
@@ -85,7 +85,7 @@ fn collector_value(alloc: Global, row: &CollectorRow) -> Result<Value, AllocErro
     })
 }
 
-fn held_value(alloc: Global, held: &[(Text, u32)]) -> Result<Value, AllocError>
+pub(crate) fn held_value(alloc: Global, held: &[(Text, u32)]) -> Result<Value, AllocError>
     ensures { IfOk result (λ v. view v ≡ held_data held.now) }
 {
     let mut members = Map::new(alloc);
@@ -95,7 +95,8 @@ fn held_value(alloc: Global, held: &[(Text, u32)]) -> Result<Value, AllocError>
     Ok(Value::Object(members))
 }
 
-fn taken_value(number: Option<AllocationNumber>) -> Value
+/// A number of 32 bits, or that there is none.
+pub(crate) fn small_or_null(number: Option<u32>) -> Value
     ensures { view result ≡ number_or_null number }
 {
     match number {
@@ -104,7 +105,7 @@ fn taken_value(number: Option<AllocationNumber>) -> Value
     }
 }
 
-fn number_or_null(number: Option<u64>) -> Value
+pub(crate) fn number_or_null(number: Option<u64>) -> Value
     ensures { view result ≡ number_or_null number }
 {
     match number {

@@ -3,13 +3,15 @@ ghost use Rattle.std.specs.Prelude.{◌≡◌, codes, option_map, Ok, Some};
 ghost use Rattle.serde_json.specs.Find.{get};
 ghost use Rattle.serde_json.specs.View.{view};
 ghost use Rattle.json_values.specs.Spelling.{member_in};
-ghost use Rattle.sd_routes.specs.Events.{event_said, event_in, join_said, set_limits_said, report_said, is_epoch, few_said, rules_in, limits_or_none_said, limits_said};
+ghost use Rattle.sd_routes.specs.Events.{event_said, join_said, set_limits_said, report_said, reports_by, few_said, rules_in, limits_or_none_said, limits_said};
 ghost use Rattle.sd_routes.specs.Changes.{wanted_of};
+ghost use Rattle.sd_routes.specs.Epochs.{is_epoch};
 ghost use Rattle.sd_routes.specs.Gives.{Gives};
 
 use crate::ask::Ask;
 use crate::change::{Change, Wanted};
 use crate::join_members::is_join_object;
+use crate::report_list::read_reports;
 use crate::request_error::RequestError;
 use crate::routing::collector_name;
 use crate::which_collector::WhichCollector;
@@ -22,7 +24,8 @@ use std::alloc::Global;
 
 /// The event that a request asks for, if it asks for one: of a Join, of other limits and of a report, what the body spells; of a Leave, of a
 /// Drain and of a Release the body is not looked at. What is to happen to a collector that is named is given with its name. A report that names an
-/// epoch is one of that epoch. Where several refusals hold, the first of `Shape`, `BadName`, `TooManyRules` and `OtherEpoch` is given.
+/// epoch is one of that epoch; a body with a member `reports` has a list of them. Where several refusals hold, the first of `Shape`, `BadName`,
+/// `TooManyRules`, `TooLong` and `OtherEpoch` is given.
 pub fn event_of(
     alloc: Global,
     ask: &Ask,
@@ -39,8 +42,12 @@ pub fn event_of(
             Some(value) => set_limits(alloc, collector, &value),
             None => Err(RequestError::Shape),
         },
-        Ask::Join | Ask::Report => match parse(alloc, body)? {
-            Some(value) => Ok(Some(Wanted::Event(event_in(alloc, ask, &value, epoch)?))),
+        Ask::Join => match parse(alloc, body)? {
+            Some(value) => Ok(Some(Wanted::Event(read_join(alloc, &value)?))),
+            None => Err(RequestError::Shape),
+        },
+        Ask::Report => match parse(alloc, body)? {
+            Some(value) => reports(alloc, &value, epoch),
             None => Err(RequestError::Shape),
         },
         _ => Ok(None),
@@ -72,14 +79,14 @@ fn set_limits(
     of_collector(collector, Change::SetLimits(limits))
 }
 
-fn event_in(alloc: Global, ask: &Ask, value: &Value, epoch: u64) -> Result<Event, RequestError>
-    ensures { Gives result (event_in ask.now epoch (view value.now)) }
+/// One report, or a list of them.
+fn reports(alloc: Global, value: &Value, epoch: u64) -> Result<Option<Wanted>, RequestError>
+    ensures { Gives result (reports_by epoch (view value.now) (get (codes "reports") (view value.now))) }
 {
-    match ask {
-        Ask::Join => read_join(alloc, value),
-        Ask::Report => read_reported(alloc, value, epoch),
-        _ => Err(RequestError::Shape),
+    if value.get("reports").is_some() {
+        return Ok(Some(Wanted::Reports(read_reports(alloc, value, epoch)?)));
     }
+    Ok(Some(Wanted::Event(read_reported(alloc, value, epoch)?)))
 }
 
 #[tactic(auto, unfolding(crate::specs::Events::join_said))]
@@ -152,7 +159,7 @@ fn read_reported(alloc: Global, value: &Value, epoch: u64) -> Result<Event, Requ
 }
 
 /// Whether the epoch that is named is this one, or none is named. None where what is named is no epoch.
-fn is_epoch(epoch: u64, found: Option<&Value>) -> Option<bool>
+pub(crate) fn is_epoch(epoch: u64, found: Option<&Value>) -> Option<bool>
     ensures { result ≡ is_epoch epoch (option_map (λ v. view v.now) found.entry) }
 {
     let Some(value) = found else {

@@ -5,8 +5,10 @@ ghost use Rattle.serde_json.specs.Written.{compact_text};
 ghost use Rattle.json_values.specs.Spelling.{items_data};
 ghost use Rattle.sd_routes.specs.FoundPages.{found_data, holder_data, target_data};
 
+use crate::collector_row::small_or_null;
 use crate::pages::labels_value;
 use alloc_desk::NumberedTarget;
+use fleet_events::{AllocationNumber, Round};
 use json_values::text_of;
 use lists::Text;
 use reach_rules::CollectorName;
@@ -22,6 +24,10 @@ pub struct FoundTarget {
     pub collector: Option<CollectorName>,
     /// Whether that collector's list leaves it out, since another list has it.
     pub handing_over: bool,
+    /// From which allocation on the collector has held it without a break.
+    pub since: Option<AllocationNumber>,
+    /// The last round of which a report of it is booked, if one is.
+    pub last_round: Option<Round>,
 }
 
 /// How many targets were found, and the first of them: an object.
@@ -55,6 +61,7 @@ fn target_value(alloc: Global, found: &FoundTarget) -> Result<Value, AllocError>
     let numbered = &found.target;
     let labels = labels_value(alloc, numbered.target.labels().entries(), numbered.number)?;
     let collector = holder_value(alloc, &found.collector)?;
+    let (last_round, since) = (small_or_null(found.last_round), small_or_null(found.since));
     let target = numbered.target.get("__address__");
     let (handing_over, job) = (found.handing_over, found.job.as_str());
     json!(in alloc; {
@@ -62,6 +69,8 @@ fn target_value(alloc: Global, found: &FoundTarget) -> Result<Value, AllocError>
         "handing_over": handing_over,
         "job": job,
         "labels": labels,
+        "last_round": last_round,
+        "since": since,
         "target": target
     })
 }

@@ -1,6 +1,6 @@
 //! The links of pages.
 ghost use Rattle.std.specs.Prelude.{◌≡◌, ◌++◌, IfOk, OnOk, string_bytes};
-ghost use Rattle.sd_routes.specs.Links.{escaped, job_link, collector_link};
+ghost use Rattle.sd_routes.specs.Links.{escaped, job_link, uncovered_link, collector_link};
 
 use form_urlencoded::Serializer;
 use percent_encoding::{AsciiSet, NON_ALPHANUMERIC, ascii_set, percent_encode};
@@ -22,6 +22,16 @@ pub(crate) fn job_link(alloc: Global, job: &str) -> Result<String, AllocError>
     let mut link = String::from_str(alloc, "/jobs/")?;
     push_escaped(&mut link, job)?;
     link.push_str("/targets")?;
+    Ok(link)
+}
+
+/// The link of a job's targets that no list has.
+pub(crate) fn uncovered_link(alloc: Global, job: &str) -> Result<String, AllocError>
+    ensures { IfOk result (λ link. string_bytes link ≡ uncovered_link job.now) }
+{
+    let mut link = String::from_str(alloc, "/jobs/")?;
+    push_escaped(&mut link, job)?;
+    link.push_str("/uncovered")?;
     Ok(link)
 }
 

@@ -6,7 +6,7 @@ ghost use Rattle.sd_routes.specs.Responses.{misshapen_data};
 
 use crate::ask::Ask;
 use crate::join_members::{is_short_rule, other_member};
-use fleet_events::read_report;
+use fleet_events::{read_outcome, read_report};
 use json_values::{Spelled, number, parse, text_of};
 use label_sets::{LabelError, LabelName};
 use lists::Text;
@@ -40,7 +40,7 @@ pub fn misshapen_member(alloc: Global, ask: &Ask, body: &[u8]) -> Result<Option<
     let found = match ask {
         Ask::Join => join_fault(alloc, &value)?,
         Ask::SetLimits(_) => limits_fault(alloc, value.get("limits"))?,
-        Ask::Report => report_fault(alloc, &value)?,
+        Ask::Report => reports_fault(alloc, &value)?,
         _ => None,
     };
     Ok(found.map(Text::from_string))
@@ -145,6 +145,52 @@ fn has_number(value: &Value, name: &str) -> bool {
     match value.get(name) {
         Some(found) => number(found).is_some(),
         None => false,
+    }
+}
+
+/// The first member at fault of a report, or of a list of them.
+fn reports_fault(alloc: Global, value: &Value) -> Result<Option<String>, AllocError> {
+    let Some(found) = value.get("reports") else {
+        return report_fault(alloc, value);
+    };
+    for name in ["collector", "number", "round"] {
+        if !has_number(value, name) {
+            return named(alloc, name);
+        }
+    }
+    match found.as_array() {
+        Some(entries) => match entry_fault(alloc, entries.as_slice())? {
+            Some(fault) => Ok(Some(fault)),
+            None => named(alloc, "epoch"),
+        },
+        None => named(alloc, "reports"),
+    }
+}
+
+/// The first of some reports that is none, with its member at fault.
+fn entry_fault(alloc: Global, entries: &[Value]) -> Result<Option<String>, AllocError> {
+    for (index, entry) in entries.iter().enumerate() {
+        if !entry.is_object() {
+            return Ok(Some(format!(in alloc; "reports[{index}]")?));
+        }
+        if let Some(member) = outcome_fault(alloc, entry)? {
+            return Ok(Some(format!(in alloc; "reports[{index}].{member}")?));
+        }
+    }
+    Ok(None)
+}
+
+/// The member of an entry of a list of reports that is none.
+fn outcome_fault(alloc: Global, entry: &Value) -> Result<Option<&'static str>, AllocError> {
+    if !has_number(entry, "target") {
+        return Ok(Some("target"));
+    }
+    if entry.get("up").and_then(Value::as_bool).is_none() {
+        return Ok(Some("up"));
+    }
+    match read_outcome(alloc, entry)? {
+        Some(_) => Ok(None),
+        None => Ok(Some("samples")),
     }
 }
 

@@ -11,6 +11,7 @@ pub enum Place {
     Status,
     ScrapeConfigs,
     Jobs,
+    Job,
     JobTargets,
     Uncovered,
     Targets,
@@ -40,6 +41,7 @@ impl Place {
             Place::Status
             | Place::ScrapeConfigs
             | Place::Jobs
+            | Place::Job
             | Place::JobTargets
             | Place::Uncovered
             | Place::Targets
@@ -81,6 +83,7 @@ impl Place {
             Place::Status
             | Place::ScrapeConfigs
             | Place::Jobs
+            | Place::Job
             | Place::JobTargets
             | Place::Uncovered
             | Place::Targets
@@ -109,6 +112,7 @@ impl Place {
             Place::Status
             | Place::ScrapeConfigs
             | Place::Jobs
+            | Place::Job
             | Place::JobTargets
             | Place::Uncovered
             | Place::Targets

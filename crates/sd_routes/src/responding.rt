@@ -3,14 +3,15 @@ ghost use Rattle.std.specs.Prelude.{◌≡◌, IfOk, OnOk, IsTrue, true, string_
 ghost use Rattle.http.specs.Response.{head_of, body_of};
 ghost use Rattle.http_header.specs.FieldValue.{is_visible_text};
 ghost use Rattle.sd_routes.specs.Errors.{status_of};
-ghost use Rattle.sd_routes.specs.Responses.{IsResponse, IsHead, closing, json_headers, media_headers, document_headers, list_headers, with_allocation, with_collector, with_left_out, with_number, with_times, refused_headers, refused_text, answer_text, status_answered, status_said, headers_said, body_said};
+ghost use Rattle.sd_routes.specs.Responses.{IsResponse, IsHead, closing, json_headers, media_headers, document_headers, list_headers, with_allocation, with_collector, with_left_out, with_number, with_times, refused_headers, refused_text, status_answered, status_said, headers_said, body_said};
 
+use crate::answers_text::{answer_text, answers_text};
 use crate::list_head::ListHead;
 use crate::misshapen::misshapen_page;
 use crate::notice::Notice;
 use crate::request_error::RequestError;
 use bytes::Bytes;
-use fleet_events::{Answer, Refusal};
+use fleet_events::{Answer, Refusal, Round};
 use http::header::{
     ALLOW, CONNECTION, CONTENT_SECURITY_POLICY, CONTENT_TYPE, HeaderName, HeaderValue,
     WWW_AUTHENTICATE, X_CONTENT_TYPE_OPTIONS,
@@ -18,7 +19,7 @@ use http::header::{
 use http::response::Parts;
 use http::{Response, StatusCode};
 use http_body_util::Full;
-use lists::Text;
+use lists::{List, Text};
 use std::alloc::{AllocError, Global};
 
 /// What the page for people may load (Content Security Policy Level 3): nothing but the style in it.
@@ -30,6 +31,11 @@ const POLICY: &str =
 pub enum Said {
     /// What the allocator answers to an event.
     Answer(Answer),
+    /// What it answers to some events, one after the other, and the round that is open.
+    Answers {
+        answers: List<Answer>,
+        round: Round,
+    },
     /// A page, as its JSON text.
     Page(Text),
     /// The list of a job that a collector has.
@@ -61,7 +67,7 @@ impl Said {
     {
         match self {
             Said::Answer(answer) => status_of(answer),
-            Said::Page(_) | Said::List { .. } => StatusCode::OK,
+            Said::Answers { .. } | Said::Page(_) | Said::List { .. } => StatusCode::OK,
             Said::Refused(error) => error.status(),
             Said::Misshapen(_) => StatusCode::BAD_REQUEST,
             Said::Notice(notice) => notice.status(),
@@ -104,6 +110,10 @@ fn response_of(alloc: Global, said: Said) -> Result<Response<Full<Bytes>>, Alloc
         Said::Answer(answer) => {
             let head = json_head(alloc, status_of(&answer))?;
             response(head, answer_text(alloc, &answer)?)
+        }
+        Said::Answers { answers, round } => {
+            let text = answers_text(alloc, answers.as_slice(), round)?;
+            response(json_head(alloc, StatusCode::OK)?, text)
         }
         Said::Page(text) => response(json_head(alloc, StatusCode::OK)?, text.into_string()),
         Said::List { head, groups } => Ok(response_with(list_parts(alloc, &head)?, groups)),
@@ -306,21 +316,6 @@ fn refused_text(alloc: Global, name: &str) -> Result<String, AllocError>
 {
     let mut text = String::from_str(alloc, "{\"refused\":\"")?;
     text.push_str(name)?;
-    text.push_str("\"}")?;
-    Ok(text)
-}
-
-/// The object that tells an answer of the allocator by its line.
-fn answer_text(alloc: Global, answer: &Answer) -> Result<String, AllocError>
-    ensures { IfOk result (λ t. string_bytes t ≡ answer_text answer.now) }
-{
-    let front = match answer {
-        Answer::Not(_) => "{\"refused\":\"",
-        _ => "{\"answer\":\"",
-    };
-    let line = answer.line(alloc)?;
-    let mut text = String::from_str(alloc, front)?;
-    text.push_str(line.as_str())?;
     text.push_str("\"}")?;
     Ok(text)
 }

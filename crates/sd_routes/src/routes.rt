@@ -1,6 +1,6 @@
 //! The table of paths.
 ghost use Rattle.std.specs.Prelude.{◌≡◌, IfOk};
-ghost use Rattle.sd_routes.specs.Rows.{desk_rows, route_rows};
+ghost use Rattle.sd_routes.specs.Rows.{desk_rows, job_rows, route_rows};
 ghost use Rattle.sd_routes.specs.Table.{place_of};
 
 use crate::place::Place;
@@ -64,13 +64,7 @@ fn router_of(alloc: Global) -> Result<Router<Place>, InsertError>
 fn desk_router(alloc: Global) -> Result<Router<Place>, InsertError>
     ensures { IfOk result (λ r. r ≡ desk_rows) }
 {
-    let mut router = Router::new(alloc);
-    router.insert("/", Place::Status)?;
-    router.insert("/scrape_configs", Place::ScrapeConfigs)?;
-    router.insert("/jobs", Place::Jobs)?;
-    router.insert("/jobs/{job}/targets", Place::JobTargets)?;
-    router.insert("/jobs/{job}/uncovered", Place::Uncovered)?;
-    router.insert("/targets", Place::Targets)?;
+    let mut router = job_router(alloc)?;
     router.insert("/acknowledged", Place::Acknowledged)?;
     router.insert("/certificate", Place::Certificate)?;
     router.insert("/collectors", Place::Collectors)?;
@@ -79,5 +73,20 @@ fn desk_router(alloc: Global) -> Result<Router<Place>, InsertError>
     router.insert("/collectors/{id}/release", Place::Release)?;
     router.insert("/collectors/{id}/limits", Place::Limits)?;
     router.insert("/reports", Place::Reports)?;
+    Ok(router)
+}
+
+// The rows of the page for people, and of jobs and their targets.
+fn job_router(alloc: Global) -> Result<Router<Place>, InsertError>
+    ensures { IfOk result (λ r. r ≡ job_rows) }
+{
+    let mut router = Router::new(alloc);
+    router.insert("/", Place::Status)?;
+    router.insert("/scrape_configs", Place::ScrapeConfigs)?;
+    router.insert("/jobs", Place::Jobs)?;
+    router.insert("/jobs/{job}", Place::Job)?;
+    router.insert("/jobs/{job}/targets", Place::JobTargets)?;
+    router.insert("/jobs/{job}/uncovered", Place::Uncovered)?;
+    router.insert("/targets", Place::Targets)?;
     Ok(router)
 }

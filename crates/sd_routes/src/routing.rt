@@ -3,7 +3,7 @@ ghost use Rattle.http_uri.specs.Uri.{uri_path, uri_query};
 ghost use Rattle.std.specs.Prelude.{◌≡◌, option_copied};
 ghost use Rattle.std.specs.Char.{is_ascii_digit};
 ghost use Rattle.std.specs.List.{list_all};
-ghost use Rattle.sd_routes.specs.Asks.{acknowledged_asked, asked, asked_at, collector_asked, collectors_asked, scrape_configs_asked, job_targets_asked, held_asked, is_show, targets_asked, uncovered_asked, which_in, name_said};
+ghost use Rattle.sd_routes.specs.Asks.{acknowledged_asked, asked, asked_at, collector_asked, collectors_asked, scrape_configs_asked, job_asked, job_targets_asked, held_asked, is_show, targets_asked, uncovered_asked, which_in, name_said};
 ghost use Rattle.sd_routes.specs.Gives.{Gives};
 
 use crate::acknowledgement::Acknowledgement;
@@ -53,6 +53,7 @@ fn ask_at(
         Place::Status => Ok(Ask::Status),
         Place::ScrapeConfigs => scrape_configs(alloc, query),
         Place::Jobs => Ok(Ask::Jobs),
+        Place::Job => job(alloc, path),
         Place::JobTargets => job_targets(alloc, purpose, path, query),
         Place::Uncovered => uncovered(alloc, path),
         Place::Targets => targets(alloc, query),
@@ -107,6 +108,13 @@ fn scrape_configs(alloc: Global, query: Option<&str>) -> Result<Ask, RequestErro
 {
     let rules = flag_of(alloc, query, "rules", false)?;
     Ok(Ask::ScrapeConfigs { rules })
+}
+
+fn job(alloc: Global, path: &str) -> Result<Ask, RequestError>
+    ensures { Gives result (job_asked path.now) }
+{
+    let job = decoded(alloc, second_segment(path))?.ok_or(RequestError::Shape)?;
+    Ok(Ask::Job(job))
 }
 
 fn job_targets(

@@ -4,5 +4,6 @@ pub mod Says
 pub mod Listing
 pub mod Texts
 pub mod Looks
+pub mod Writing
 pub mod Yaml
 pub mod Keeping

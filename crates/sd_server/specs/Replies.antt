@@ -8,7 +8,6 @@ use Rattle.http_body_util.specs.declared.full.Full.{Full}
 use Rattle.allocation_core.specs.State.{State}
 use Rattle.alloc_desk.specs.declared.name.DeskName as DeskName
 use Rattle.sd_routes.specs.Gives.{Fails}
-use Rattle.sd_routes.specs.Responses.{IsResponse, closing, status_said, headers_said, body_said}
 use Rattle.sd_routes.specs.declared.ask.Ask.{Ask}
 use Rattle.sd_routes.specs.declared.ask.Ask.TheVariants as ask
 use Rattle.sd_routes.specs.declared.request_error.RequestError.{RequestError}
@@ -17,18 +16,13 @@ use Rattle.sd_routes.specs.declared.responding.Said.{Said}
 use Rattle.sd_routes.specs.declared.responding.Said.TheVariants.{Refused}
 use Rattle.sd_server.specs.Entries.{Leads, MaySayEntry}
 use Rattle.sd_server.specs.Says.{Says}
-use Rattle.sd_server.specs.Yaml.{is_page, told_as}
+use Rattle.sd_server.specs.Writing.{Writes}
 use Rattle.service_state.specs.declared.config_pages.ConfigPages.{ConfigPages}
 use Rattle.sd_server.specs.declared.reply.Reply.{Reply}
 use Rattle.sd_server.specs.declared.reply.Stage.{Stage}
 use Rattle.sd_server.specs.declared.reply.Stage.TheVariants as stage
 use Rattle.sd_server.specs.declared.service.Begun.{Begun}
 use Rattle.sd_server.specs.declared.service.Begun.TheVariants as begun
-
--- the written form of what is said, where YAML is asked for or not, and where the connection ends with it or not: the bytes are the same
-abbrev pub Writes : Bool → Bool → Said → Response (Full (List ℕ)) → Type 0
-Writes yaml closes said response =
-    IsResponse (status_said said) (told_as (yaml && is_page said) (closing closes (headers_said said))) (body_said said) response
 
 -- what is said once a body was read, or could not be
 abbrev pub SaysRead : State → ConfigPages → Ask → Said → Type 0
@@ -81,7 +75,7 @@ module _ {R L B N I : Type 0} {l : Ledger.Ghosts L} {b : Ledger.Ghosts B} {n : D
 
   -- the written form of something that it may say
   abbrev pub Gives : Reply R L B N I l b n → Result (Response (Full (List ℕ))) AllocError → Type 0
-  Gives reply given = IfOk given (λ response. (said : Said) × MaySay reply.stage said × Writes reply.is_yaml reply.closes said response)
+  Gives reply given = IfOk given (λ response. (said : Said) × MaySay reply.stage said × Writes reply.manner said response)
 
   -- whatever the reply to such a request says is what is said to it
   abbrev pub IsReplyTo : State → ConfigPages → Result Ask RequestError → Reply R L B N I l b n → Type 0

@@ -1,5 +1,5 @@
 -- What a request is told.
-use Rattle.std.specs.Prelude.{◌≡◌, ◌⊎◌, ◌≤◌, ℕ, List, [], Option, Some, None, Result, Ok, Err, IsSome, codes, length, if◌then◌else◌}
+use Rattle.std.specs.Prelude.{◌≡◌, ◌⊎◌, ◌≤◌, ℕ, List, [], ◌∷◌, Option, Some, None, Result, Ok, Err, IsSome, codes, length, if◌then◌else◌}
 use Rattle.fleet.specs.Fleet.{id_named, is_joined}
 use Rattle.fleet_events.specs.declared.event.Event.{Event}
 use Rattle.fleet_events.specs.declared.event.Event.TheVariants.{Take, Serve}
@@ -19,13 +19,15 @@ use Rattle.sd_routes.specs.Changes.{change_event}
 use Rattle.sd_routes.specs.CollectorPages.{collector_data}
 use Rattle.sd_routes.specs.Events.{event_said}
 use Rattle.sd_routes.specs.FoundPages.{found_data}
+use Rattle.sd_routes.specs.JobPages.{job_row_data}
 use Rattle.sd_routes.specs.Pages.{uncovered_data}
 use Rattle.sd_routes.specs.declared.change.Change.{Change}
 use Rattle.sd_routes.specs.declared.change.Change.TheVariants.{Release}
 use Rattle.sd_routes.specs.declared.change.Wanted.{Wanted}
-use Rattle.sd_routes.specs.declared.change.Wanted.TheVariants.{Event as AnEvent, OfNamed}
+use Rattle.sd_routes.specs.declared.change.Wanted.TheVariants.{Event as AnEvent, OfNamed, Reports}
 use Rattle.sd_routes.specs.declared.collector_row.CollectorRow.{CollectorRow}
 use Rattle.sd_routes.specs.declared.found_targets.FoundTarget.{FoundTarget}
+use Rattle.sd_routes.specs.declared.job_row.JobRow.{JobRow}
 use Rattle.sd_routes.specs.declared.which_collector.WhichCollector.{WhichCollector}
 use Rattle.sd_routes.specs.declared.which_collector.WhichCollector.TheVariants.{Number, Name}
 use Rattle.sd_routes.specs.declared.ask.Ask.{Ask}
@@ -35,7 +37,7 @@ use Rattle.sd_routes.specs.declared.notice.Notice.TheVariants.{Healthy, Broken, 
 use Rattle.sd_routes.specs.declared.request_error.RequestError.{RequestError}
 use Rattle.sd_routes.specs.declared.request_error.RequestError.TheVariants.{NoRoute, Shape, JournalFull, NotKept, Memory}
 use Rattle.sd_routes.specs.declared.responding.Said.{Said}
-use Rattle.sd_routes.specs.declared.responding.Said.TheVariants.{Answer as Answered, Page, List as ListOf, Refused, Misshapen, Notice as Noticed, Metrics, Document, Reloaded, NotReloaded}
+use Rattle.sd_routes.specs.declared.responding.Said.TheVariants.{Answer as Answered, Answers, Page, List as ListOf, Refused, Misshapen, Notice as Noticed, Metrics, Document, Reloaded, NotReloaded}
 use Rattle.service_state.specs.Jobs.{place_of}
 use Rattle.sd_server.specs.Keeping.{FindsKept}
 use Rattle.sd_server.specs.Looks.{HeadIs, IsLook}
@@ -64,11 +66,27 @@ SaysNot opening _ = ⊥
 abbrev pub IsAnswered : State → Event → Answer → Type 0
 IsAnswered opening event answer = ((receipt : Receipt) × IsEntered opening event receipt × (answer ≡ receipt.answer)) ⊎ OfSome opening (λ h. IsIdle h.state event (Some answer))
 
--- the machine's answer to an event
+-- the machine's answer to an event that was entered
+abbrev pub IsAnswerTo : State → Event → Answer → Type 0
+IsAnswerTo opening event answer = (receipt : Receipt) × IsEntered opening event receipt × (answer ≡ receipt.answer)
+
 abbrev pub SaysEvent : State → Event → Said → Type 0
-SaysEvent opening event (Answered answer) = (receipt : Receipt) × IsEntered opening event receipt × (answer ≡ receipt.answer)
+SaysEvent opening event (Answered answer) = IsAnswerTo opening event answer
 SaysEvent opening event (Refused error) = SaysNot opening error
 SaysEvent opening event _ = ⊥
+
+-- to each event its own answer, in order
+abbrev pub AreAnswers : State → List Event → List Answer → Type 0
+AreAnswers opening [] [] = Unit {0}
+AreAnswers opening [] (answer ∷ answers) = ⊥
+AreAnswers opening (event ∷ events) [] = ⊥
+AreAnswers opening (event ∷ events) (answer ∷ answers) = IsAnswerTo opening event answer × AreAnswers opening events answers
+
+-- the answers to all reports of a list, and a round that was open; or why there is none to one of them
+abbrev pub SaysReports : State → List Event → Said → Type 0
+SaysReports opening events (Answers answers round) = AreAnswers opening events answers × OfSome opening (λ h. h.state.round ≡ round)
+SaysReports opening events (Refused error) = SaysNot opening error
+SaysReports opening events _ = ⊥
 
 -- of a collector that left, the lists can be let go, where its number is known
 abbrev pub SaysOfLeft : State → Change → Said → Type 0
@@ -222,7 +240,23 @@ abbrev pub SaysUncovered : Option ℕ → Said → Type 0
 SaysUncovered None said = said ≡ Answered (Not UnknownJob)
 SaysUncovered (Some place) said = SaysUncoveredText said
 
--- ---- collectors, and targets that are searched for
+-- ---- jobs, collectors, and targets that are searched for
+
+-- what is told of the job of a name
+abbrev pub IsJobRowText : List ℕ → List ℕ → Type 0
+IsJobRowText job text = (row : JobRow) × (row.name ≡ job) × (text ≡ compact_text (job_row_data row))
+
+-- the same in JSON, or a page for people
+abbrev pub SaysJobRow : List ℕ → Said → Type 0
+SaysJobRow job (Page page) = IsJobRowText job page
+SaysJobRow job (Document text) = Unit {0}
+SaysJobRow job (Refused error) = error ≡ Memory
+SaysJobRow job _ = ⊥
+
+-- it, where there is such a job
+abbrev pub SaysOneJob : List ℕ → Option ℕ → Said → Type 0
+SaysOneJob job None said = said ≡ Answered (Not UnknownJob)
+SaysOneJob job (Some place) said = SaysJobRow job said
 
 -- the page of some collectors
 abbrev pub IsCollectorsText : List ℕ → Type 0
@@ -238,13 +272,15 @@ abbrev pub id_meant : State → WhichCollector → Option ℕ
 id_meant m (Number id) = if is_joined m.fleet id then Some id else None
 id_meant m (Name name) = id_named m.fleet.collectors name
 
--- the page of the collector that is meant
+-- what is told of the collector that is meant
 abbrev pub IsCollectorText : State → WhichCollector → List ℕ → Type 0
 IsCollectorText opening which text =
     (row : CollectorRow) × OfSome opening (λ h. id_meant h.state which ≡ Some row.id) × (text ≡ compact_text (collector_data row))
 
+-- the same in JSON, or a page for people
 abbrev pub SaysCollectorPage : State → WhichCollector → Said → Type 0
 SaysCollectorPage opening which (Page page) = IsCollectorText opening which page
+SaysCollectorPage opening which (Document text) = Unit {0}
 SaysCollectorPage opening which (Answered answer) = answer ≡ Not UnknownCollector
 SaysCollectorPage opening which (Refused error) = error ≡ Memory
 SaysCollectorPage opening which _ = ⊥
@@ -274,6 +310,7 @@ SaysPage opening pages ask.Reload said = SaysReload said
 SaysPage opening pages ask.Quit said = SaysQuit said
 SaysPage opening pages ask.Status said = SaysDocument said
 SaysPage opening pages (ask.Uncovered job) said = SaysUncovered (place_of job pages.names) said
+SaysPage opening pages (ask.Job job) said = SaysOneJob job (place_of job pages.names) said
 SaysPage opening pages (ask.JobTargets job) said = SaysJob opening job (place_of job pages.names) said
 SaysPage opening pages (ask.CollectorTargets job name takes) said = SaysCollector opening pages.acknowledge job name (place_of job pages.names) said
 SaysPage opening pages ask.Collectors said = SaysCollectors said
@@ -300,6 +337,7 @@ SaysRefused error said = (said ≡ Refused error) ⊎ ((error ≡ Shape) × IsMi
 abbrev pub SaysBy : State → ConfigPages → Ask → Result (Option Wanted) RequestError → Said → Type 0
 SaysBy opening pages asked (Ok (Some (AnEvent event))) said = SaysEvent opening event said
 SaysBy opening pages asked (Ok (Some (OfNamed name change))) said = SaysChange opening name change said
+SaysBy opening pages asked (Ok (Some (Reports events))) said = SaysReports opening events said
 SaysBy opening pages asked (Ok None) said = SaysPage opening pages asked said
 SaysBy opening pages asked (Err error) said = SaysRefused error said
 

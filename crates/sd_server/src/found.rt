@@ -4,7 +4,7 @@ ghost use Rattle.sd_server.specs.declared.found.TheConstants.{MOST_FOUND};
 
 use alloc_desk::NumberedTarget;
 use allocation_core::Core;
-use fleet_events::TargetId;
+use fleet_events::{Round, TargetId};
 use label_sets::Target;
 use lists::{List, Plain, Text};
 use memchr::memmem::Finder;
@@ -112,13 +112,28 @@ fn found_target(
 ) -> Result<FoundTarget, AllocError> {
     let job = job.copy()?;
     let collector = holder_of(core, number)?;
+    let since = if collector.is_some() {
+        core.held_since(number)
+    } else {
+        None
+    };
     let target = target.copy()?;
     Ok(FoundTarget {
         job,
         target: NumberedTarget { number, target },
         collector,
         handing_over,
+        since,
+        last_round: last_round(core, number),
     })
+}
+
+/// The last round of which a report of a target is booked, if one is.
+pub(crate) fn last_round(core: &Core, number: TargetId) -> Option<Round> {
+    match core.books().last_round(number) {
+        0 => None,
+        round => Some(round),
+    }
 }
 
 /// The live collector that holds a target, if one does.

@@ -15,6 +15,7 @@ use crate::certificate_page::certificate_page;
 use crate::counter::Counter;
 use crate::entry::{Entry, Later, Reload};
 use crate::list_texts::ListTexts;
+use crate::tags::Tags;
 use crate::uncovered::{Uncovered, uncovered_of};
 use admission::Admission;
 use alloc_desk::{Desk, DeskName, EnterError, Pass, Receipt, Share};
@@ -132,6 +133,12 @@ impl<R: Wait + Clock + Copy, L: Ledger, B: Ledger, N: DeskName> Handler<R, L, B,
         })
     }
 
+    /// The entity tags that are known.
+    pub(crate) fn tags(&self) -> Option<Tags<R, N>> {
+        let texts = Arc::try_clone(&self.texts).ok()?;
+        Some(Tags { rt: self.rt, texts })
+    }
+
     /// What a request with this body is told, or what that waits for.
     pub fn entry(&self, ask: &Ask, body: &[u8]) -> Entry
         ensures { Leads (Says N.opening (arc_value self.now.pages) ask.now body.now) result }
@@ -146,6 +153,7 @@ impl<R: Wait + Clock + Copy, L: Ledger, B: Ledger, N: DeskName> Handler<R, L, B,
         match event_of(self.alloc, ask, body, self.epoch) {
             Ok(Some(Wanted::Event(event))) => self.entered(event),
             Ok(Some(Wanted::OfNamed { name, change })) => self.changed(&name, change),
+            Ok(Some(Wanted::Reports(events))) => self.reported(events.as_slice()),
             Ok(None) => self.shown(ask),
             Err(error) => Entry::Now(self.refused(ask, body, error)),
         }
@@ -278,6 +286,7 @@ impl<R: Wait + Clock + Copy, L: Ledger, B: Ledger, N: DeskName> Handler<R, L, B,
             Ask::Status => self.status(),
             Ask::Uncovered(job) => self.uncovered(job.as_str()),
             Ask::FindTargets(text) => self.found(text.as_str()),
+            Ask::Job(job) => self.one_job(job.as_str()),
             Ask::JobTargets(job) => self.job(job.as_str()),
             Ask::Acknowledged { told, counts } => self.acknowledged(told, *counts),
             Ask::Collectors => self.collectors(),
@@ -314,7 +323,7 @@ impl<R: Wait + Clock + Copy, L: Ledger, B: Ledger, N: DeskName> Handler<R, L, B,
     fn reload(&self) -> Entry
         ensures { Leads SaysReload result }
     {
-        if !self.state.has_lifecycle() {
+        if !self.state.may_reload() {
             return Entry::Now(Said::Notice(Notice::NoLifecycle));
         }
         match self.state.reloading().ask(&self.rt) {

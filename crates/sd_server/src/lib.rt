@@ -5,24 +5,32 @@
 //! opening state. Of connections, time and order they say nothing.
 #![tactic(auto)]
 
+mod accept;
 mod acknowledging;
 mod by_loops;
 mod certificate_page;
 mod collector_lists;
 mod collector_rows;
+mod collector_state;
 mod counter;
+mod documents;
 mod entry;
 mod found;
 mod handler;
+mod job_state;
 mod keeping;
 mod list_text;
 mod list_texts;
 mod look;
+mod manner;
 mod one_by_one;
 mod reply;
+mod reported;
 mod service;
 mod shown;
 mod spoken;
+mod tags;
+mod target_rows;
 mod uncovered;
 mod yaml;
 

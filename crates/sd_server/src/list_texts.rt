@@ -5,16 +5,18 @@ ghost use Rattle.sd_server.specs.Listing.{IfGroups, IsGroups};
 use crate::list_text::ListText;
 use alloc_desk::DeskName;
 use bytes::Bytes;
+use entity_tags::KnownTags;
 use fleet_events::{AllocationNumber, CollectorId, TargetId};
 use indexmap::IndexMap;
 use std::alloc::{AllocError, Global};
 use std::sync::{Arc, Mutex, Wait};
 
-/// The texts of the lists of one allocation, by collector and place of the job. No two collectors hold a target, so they take no more
+/// The texts of the lists of one allocation, by collector and place of the job, and their entity tags. No two collectors hold a target, so they take no more
 /// room than one text of all targets.
 #[derive(Drop)]
 pub struct ListTexts<N: DeskName> {
     kept: Mutex<Latest<N>>,
+    pub(crate) tags: KnownTags,
 }
 
 #[derive(Drop)]
@@ -31,6 +33,7 @@ impl<N: DeskName> ListTexts<N> {
                 allocation: 0,
                 texts: IndexMap::new(alloc),
             }),
+            tags: KnownTags::new(alloc),
         }
     }
 

@@ -5,12 +5,14 @@ ghost use Rattle.sd_routes.specs.declared.request_error.RequestError.TheVariants
 ghost use Rattle.sd_routes.specs.declared.responding.Said.{Said};
 ghost use Rattle.sd_routes.specs.declared.responding.Said.TheVariants.{Refused};
 ghost use Rattle.sd_server.specs.Entries.{Leads, MaySayEntry};
-ghost use Rattle.sd_server.specs.Replies.{CanRead, Gives, MaySay, SaysRead, Writes};
+ghost use Rattle.sd_server.specs.Replies.{CanRead, Gives, MaySay, SaysRead};
+ghost use Rattle.sd_server.specs.Writing.{Writes};
 
 use crate::counter::Counter;
 use crate::entry::Entry;
 use crate::handler::Handler;
-use crate::yaml::{as_yaml, is_page};
+use crate::manner::Manner;
+use crate::tags::Tags;
 use admission::LONGEST_BODY;
 use alloc_desk::DeskName;
 use bytes::Bytes;
@@ -20,7 +22,7 @@ use http::Response;
 use http_body_util::combinators::Collect;
 use http_body_util::{BodyExt, Collected, Full, Limited, LimitedError};
 use hyper::body::Incoming;
-use sd_routes::{Ask, RequestError, Said, answer};
+use sd_routes::{Ask, RequestError, Said};
 use service_state::Route;
 use std::alloc::{AllocError, Global};
 use std::sync::Wait;
@@ -32,12 +34,11 @@ use std::time::Clock;
 pub struct Reply<R, L: Ledger, B: Ledger, N: DeskName, I> {
     alloc: Global,
     stage: Stage<R, L, B, N, I>,
-    /// Whether there is a body that is not read.
-    closes: bool,
-    /// Whether a page is told as YAML.
-    is_yaml: bool,
+    manner: Manner,
     /// What counts the request once it is told something.
     counter: Option<Counter<R>>,
+    /// The entity tags that are known.
+    tags: Option<Tags<R, N>>,
 }
 
 #[derive(Drop)]
@@ -55,13 +56,13 @@ struct Reading<R, L: Ledger, B: Ledger, N: DeskName, I> {
 }
 
 impl<R, L: Ledger, B: Ledger, N: DeskName, I: Drop> Reply<R, L, B, N, I> {
-    /// A reply to a request whose body is not read. A page is told as YAML where that is asked for.
+    /// A reply to a request whose body is not read.
     pub(crate) fn of(
         alloc: Global,
         counter: Option<Counter<R>>,
+        tags: Option<Tags<R, N>>,
         entry: Entry,
-        closes: bool,
-        is_yaml: bool,
+        manner: Manner,
     ) -> Reply<R, L, B, N, I>
         ensures can_read { CanRead result }
         ensures says { (said : Said) → MaySay result.stage said → MaySayEntry entry said }
@@ -69,9 +70,9 @@ impl<R, L: Ledger, B: Ledger, N: DeskName, I: Drop> Reply<R, L, B, N, I> {
         Reply {
             alloc,
             stage: Stage::Told(entry),
-            closes,
-            is_yaml,
+            manner,
             counter,
+            tags,
         }
     }
 }
@@ -92,25 +93,20 @@ impl<R: Wait + Clock + Copy, L: Ledger, B: Ledger, N: DeskName, I: Drop> Reply<R
         Reply {
             alloc,
             stage: Stage::Reading(Reading { handler, ask, body }),
-            closes: false,
-            is_yaml: false,
+            manner: Manner::plain(false),
             counter,
+            tags: None,
         }
     }
 
     /// The response that says it. The request is counted.
     fn answered(&self, said: Said) -> Result<Response<Full<Bytes>>, AllocError>
-        ensures { IfOk result (Writes self.now.is_yaml self.now.closes said) }
+        ensures { IfOk result (Writes self.now.manner said) }
     {
         if let Some(counter) = &self.counter {
             counter.count(&said);
         }
-        let is_yaml = self.is_yaml && is_page(&said);
-        let response = answer(self.alloc, said, self.closes)?;
-        if is_yaml {
-            return as_yaml(response);
-        }
-        Ok(response)
+        self.manner.written(self.alloc, &self.tags, said)
     }
 }
 

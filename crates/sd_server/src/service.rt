@@ -1,21 +1,23 @@
 //! The service that a connection calls for each request.
-ghost use Rattle.std.specs.Prelude.{◌≡◌};
+ghost use Rattle.std.specs.Prelude.{◌≡◌, []};
 ghost use Rattle.std.specs.Arc.{arc_value};
 ghost use Rattle.http.specs.Request as request;
 ghost use Rattle.http_uri.specs.Uri.{uri_path, uri_query};
 ghost use Rattle.sd_routes.specs.Asks.{asked};
 ghost use Rattle.admission.specs.Admission.{let_in};
 ghost use Rattle.sd_routes.specs.Gives.{Gives};
+ghost use Rattle.sd_server.specs.Entries.{Leads};
+ghost use Rattle.sd_server.specs.Says.{Says};
 ghost use Rattle.sd_server.specs.Replies.{Begins, BeginsWith, CanRead, IsReplyTo, MaySay};
 ghost use Rattle.sd_routes.specs.declared.request_error.RequestError.TheVariants.{Memory};
 ghost use Rattle.sd_routes.specs.declared.responding.Said.{Said};
 ghost use Rattle.sd_routes.specs.declared.responding.Said.TheVariants.{Refused};
 
+use crate::accept::wants_document;
 use crate::entry::Entry;
 use crate::handler::Handler;
+use crate::manner::Manner;
 use crate::reply::Reply;
-use crate::yaml::wants_yaml;
-use admission::has_body;
 use alloc_desk::DeskName;
 use bytes::Bytes;
 use http::request::Parts;
@@ -63,7 +65,7 @@ impl<R: Wait + Clock + Copy, L: Ledger, B: Ledger, N: DeskName> AllocatorService
         ensures { Begins N.opening (arc_value self.now.handler.pages) (let_in (arc_value self.now.handler.doors) head.now.headers (asked head.now.method (uri_path head.now.uri) (uri_query head.now.uri))) result }
     {
         match self.came(head) {
-            Ok(ask) => self.begin_with(ask),
+            Ok(ask) => self.begin_with(ask, wants_document(&head.headers)),
             Err(error) => Begun::Told(Entry::Now(Said::Refused(error)), Route::of(None)),
         }
     }
@@ -91,15 +93,28 @@ impl<R: Wait + Clock + Copy, L: Ledger, B: Ledger, N: DeskName> AllocatorService
         ensures says { (said : Said) → MaySay result.stage said → said ≡ Refused Memory }
     {
         let entry = Entry::Now(Said::Refused(RequestError::Memory));
-        Reply::of(self.handler.alloc, None, entry, true, false)
+        Reply::of(self.handler.alloc, None, None, entry, Manner::plain(true))
     }
 
-    fn begin_with(&self, ask: Ask) -> Begun
+    fn begin_with(&self, ask: Ask, for_people: bool) -> Begun
         ensures { BeginsWith N.opening (arc_value self.now.handler.pages) ask result }
     {
         match ask {
             Ask::Join | Ask::Drain(_) | Ask::SetLimits(_) | Ask::Report => Begun::Reads(ask),
-            _ => Begun::Told(self.handler.entry(&ask, b""), Route::of(Some(&ask))),
+            _ => Begun::Told(self.entry(&ask, for_people), Route::of(Some(&ask))),
+        }
+    }
+
+    /// What a request without a body is told, or what that waits for: of what has a page for people, that page where it is asked for.
+    fn entry(&self, ask: &Ask, for_people: bool) -> Entry
+        ensures { Leads (Says N.opening (arc_value self.now.handler.pages) ask.now []) result }
+    {
+        if !for_people {
+            return self.handler.entry(ask, b"");
+        }
+        match self.handler.document(ask) {
+            Some(said) => Entry::Now(said),
+            None => self.handler.entry(ask, b""),
         }
     }
 }
@@ -123,9 +138,13 @@ impl<R: Wait + Clock + Copy + Drop, L: Ledger, B: Ledger, N: DeskName, I: Drop> 
         match self.begin(&head) {
             Begun::Told(entry, route) => {
                 let counter = self.handler.counter(route, begun);
-                let fields = &head.headers;
-                let alloc = self.handler.alloc;
-                Reply::of(alloc, counter, entry, has_body(fields), wants_yaml(fields))
+                Reply::of(
+                    self.handler.alloc,
+                    counter,
+                    self.handler.tags(),
+                    entry,
+                    Manner::of(&head.headers),
+                )
             }
             Begun::Reads(ask) => match self.handler.another() {
                 Ok(handler) => Reply::to(handler, ask, body),

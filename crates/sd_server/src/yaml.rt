@@ -7,40 +7,8 @@ use bytes::Bytes;
 use http::Response;
 use http::header::{CONTENT_TYPE, HeaderValue};
 use http_body_util::Full;
-use http_header::{ACCEPT, HeaderMap};
 use sd_routes::Said;
 use std::alloc::AllocError;
-
-/// Whether a head asks for YAML: it names a media type of YAML, and not JSON's before it.
-pub(crate) fn wants_yaml(fields: &HeaderMap) -> bool {
-    for value in fields.get_all(ACCEPT) {
-        if let Some(is_yaml) = first_named(value.to_str().unwrap_or("")) {
-            return is_yaml;
-        }
-    }
-    false
-}
-
-/// Whether the first media type of YAML or of JSON is one of YAML. None where there is none of both.
-fn first_named(accept: &str) -> Option<bool> {
-    for range in accept.split(',') {
-        let name = range.split(';').next().unwrap_or("").trim();
-        if is_yaml(name) {
-            return Some(true);
-        }
-        if name.eq_ignore_ascii_case("application/json") {
-            return Some(false);
-        }
-    }
-    None
-}
-
-/// Whether a media type is that of YAML (RFC 9512, section 2.1), or one of its older names.
-fn is_yaml(name: &str) -> bool {
-    name.eq_ignore_ascii_case("application/yaml")
-        || name.eq_ignore_ascii_case("application/x-yaml")
-        || name.eq_ignore_ascii_case("text/yaml")
-}
 
 /// Whether what is said is a page or a list in JSON.
 pub(crate) fn is_page(said: &Said) -> bool

@@ -1,6 +1,7 @@
 //! The command: what its options ask for, and what it tells of it.
 use crate::configuration::ConfigurationFile;
 use crate::descriptors::{most_connections, warn_of_fewer};
+use crate::devices::{Devices, Machine};
 use crate::documents::{read_document, service_in};
 use crate::doors::admission_at;
 use crate::listening::{listen_address, listener_at};
@@ -12,6 +13,7 @@ use journal_files::{Fault, is_same_file};
 use log::error;
 use log_queue::LogQueue;
 use logfmt::Logfmt;
+use sd_documents::Job;
 use service_tasks::Service;
 use std::alloc::{AllocError, AllocGlobal, Global};
 use std::fs::File;
@@ -34,11 +36,11 @@ const LAST_LINES: u64 = 1_000;
 
 /// Does what the options ask for, and gives the exit status: 0 where the service was told to end, 2 where it is not told what to do, 3 where
 /// the machine failed it. What is logged is written to `queued`, a handle whose standard error is the queue. The last fault is told past that, by
-/// `rt`, if somebody has read all before. The configuration is read again by `host`.
+/// `rt`, if somebody has read all before. By the machine's handle the configuration is read again.
 pub fn serve<R, Q>(
     rt: &R,
     queued: &Q,
-    host: HostRuntime,
+    machine: Machine<'_>,
     options: &ServeOptions<'_>,
     queue: &LogQueue,
 ) -> ExitCode
@@ -59,7 +61,7 @@ where
         + Drop,
 {
     let _streams = hold_streams(rt, rt.alloc());
-    let ended = serve_by(queued, host, options, queue.lost());
+    let ended = serve_by(queued, machine, options, queue.lost());
     let is_read = queue.close(rt, Duration::from_millis(LAST_LINES));
     match ended {
         Ok(()) => ExitCode::from(0),
@@ -103,7 +105,7 @@ fn written<R: Print>(rt: &R, text: &str) -> Result<(), Fault> {
 
 fn serve_by<R>(
     rt: &R,
-    host: HostRuntime,
+    machine: Machine<'_>,
     options: &ServeOptions<'_>,
     lost_lines: &Arc<AtomicU64>,
 ) -> Result<(), Fault>
@@ -124,7 +126,7 @@ where
 {
     let document = read_document(rt, rt.alloc(), options.config)?;
     match service_of(rt.alloc(), options.config, document.as_slice(), lost_lines) {
-        Ok(service) => serve_service(rt, host, options, document.as_slice(), service),
+        Ok(service) => serve_service(rt, machine, options, document.as_slice(), service),
         Err(fault) => Err(fault),
     }
 }
@@ -146,7 +148,7 @@ fn service_of(
 /// Serves what a document asks for, or tells that it is valid.
 fn serve_service<R>(
     rt: &R,
-    host: HostRuntime,
+    machine: Machine<'_>,
     options: &ServeOptions<'_>,
     document: &[u8],
     service: Service,
@@ -168,8 +170,10 @@ where
 {
     let mut service = service;
     match places_of(rt, options, &mut service) {
-        Ok(_) if options.check_config => tell_valid(rt, options.config, document),
-        Ok((here, journal)) => serve_at(rt, host, options, document, service, here, journal),
+        Ok(_) if options.check_config => {
+            tell_valid(rt, options.config, document, service.jobs())
+        }
+        Ok((here, journal)) => serve_at(rt, machine, options, document, service, here, journal),
         Err(fault) => Err(fault),
     }
 }
@@ -190,15 +194,20 @@ fn places_of<R: Files<File = File> + AllocGlobal>(
     }
 }
 
-fn tell_valid<R: Print + AllocGlobal>(rt: &R, path: &str, document: &[u8]) -> Result<(), Fault> {
-    let valid = told_valid(rt.alloc(), path, document)?;
+fn tell_valid<R: Print + AllocGlobal>(
+    rt: &R,
+    path: &str,
+    document: &[u8],
+    jobs: &[Job],
+) -> Result<(), Fault> {
+    let valid = told_valid(rt.alloc(), path, document, jobs)?;
     written(rt, valid.as_str())
 }
 
 /// Serves at an address.
 fn serve_at<R>(
     rt: &R,
-    host: HostRuntime,
+    machine: Machine<'_>,
     options: &ServeOptions<'_>,
     document: &[u8],
     service: Service,
@@ -224,9 +233,18 @@ where
     let most = most_connections(rt, rt.alloc())?;
     warn_of_fewer(rt, service.connections(), most);
     service.limit_connections(most);
-    match opened(rt, host, options, document, here, most) {
+    let device = Devices::of(rt, machine, options.config, service.fetch_timeout())?;
+    match opened(rt, machine.host, options, document, here, most) {
         Ok((configuration, listener)) => {
-            serve_journal(rt, rt.alloc(), service, configuration, listener, journal)
+            serve_journal(
+                rt,
+                rt.alloc(),
+                service,
+                configuration,
+                listener,
+                device,
+                journal,
+            )
         }
         Err(fault) => Err(fault),
     }

@@ -1,8 +1,10 @@
 //! The configuration file, as the service reads it again.
 use crate::documents::{read_document, service_in, service_of_parts};
 use crate::doors::admission_at;
+use crate::process::process_figures;
 use journal_files::Fault;
 use lists::Text;
+use service_state::ProcessFigures;
 use service_tasks::{Configuration, Service};
 use std::alloc::{AllocError, Global};
 use std::net::SocketAddr;
@@ -79,5 +81,9 @@ impl Configuration for ConfigurationFile {
         service.set_doors(self.alloc, doors).ok()?;
         service.limit_connections(self.most);
         Some(service)
+    }
+
+    fn process(&self) -> ProcessFigures {
+        process_figures(&self.host, self.alloc)
     }
 }

@@ -1,11 +1,10 @@
 //! How many descriptors the service may have open.
+use crate::kernel_texts::text_of;
 use journal_files::Fault;
 use log::warn;
 use logfmt::Logfmt;
 use std::alloc::{AllocError, Global};
 use std::fs::File;
-use std::io;
-use std::io::Read;
 use std::rt::Files;
 use std::time::Clock;
 
@@ -21,11 +20,7 @@ const LIMITS: &str = "/proc/self/limits";
 /// How many connections there may be at once with the descriptors that may be open. Where those are too few it is refused to serve; what
 /// cannot be read is no limit.
 pub(crate) fn most_connections<R: Files<File = File>>(rt: &R, alloc: Global) -> Result<u32, Fault> {
-    let limits = match read_limits(rt, alloc) {
-        Ok(limits) => limits,
-        Err(_) => return Ok(u32::MAX),
-    };
-    match most_open(limits.as_str()) {
+    match most_descriptors(rt, alloc) {
         Some(most) if most < NEEDED => Err(too_few(alloc, most)),
         Some(most) => Ok(u32::try_from(most.saturating_sub(KEPT)).unwrap_or(u32::MAX)),
         None => Ok(u32::MAX),
@@ -39,10 +34,12 @@ pub(crate) fn warn_of_fewer<R: Eprint + Clock + Copy>(rt: &R, connections: u32, 
     }
 }
 
-fn read_limits<R: Files<File = File>>(rt: &R, alloc: Global) -> io::Result<String> {
-    let mut text = String::new(alloc);
-    File::open(rt, LIMITS)?.read_to_string(&mut text)?;
-    Ok(text)
+/// How many descriptors may be open. None where that cannot be read, or nothing limits it.
+pub(crate) fn most_descriptors<R: Files<File = File>>(rt: &R, alloc: Global) -> Option<u64> {
+    match text_of(rt, alloc, LIMITS) {
+        Ok(limits) => most_open(limits.as_str()),
+        Err(_) => None,
+    }
 }
 
 /// The number of descriptors that may be open, where these limits say one.

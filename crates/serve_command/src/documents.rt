@@ -2,6 +2,7 @@
 use config_faults::faults_of;
 use config_secrets::without_secrets;
 use durable_journal::configuration_line;
+use file_configs::with_sources;
 use journal_files::Fault;
 use json_values::{parse, text_of};
 use lists::Text;
@@ -61,8 +62,8 @@ pub(crate) fn service_of_parts(
     }
 }
 
-/// A document without its secrets, and with 0 for the number of the shard: nobody is shown a secret, no journal has it, and nothing that is
-/// read here is another.
+/// A document without its secrets, with its sources of files as sources with a URL, and with 0 for the number of the shard: nobody is shown a
+/// secret, no journal has it, and a source is told in one way alone.
 fn shown_text(alloc: Global, path: &str, document: &[u8]) -> Result<Text, Fault> {
     match parse(alloc, document)? {
         Some(value) => Ok(shown_text_of(alloc, &value)?),
@@ -72,7 +73,7 @@ fn shown_text(alloc: Global, path: &str, document: &[u8]) -> Result<Text, Fault>
 
 fn shown_text_of(alloc: Global, value: &Value) -> Result<Text, AllocError> {
     let shown = without_secrets(alloc, value)?;
-    let text = text_of(alloc, &shown)?;
+    let text = text_of(alloc, &with_sources(alloc, &shown)?)?;
     Ok(Text::from_string(text.as_str().replace(alloc, SHARD, "0")?))
 }
 

@@ -1,15 +1,22 @@
 //! Members of a configuration that Prometheus has and the service does not follow.
+use crate::left_out::tell_left_out;
 use config_faults::not_followed;
 use log::warn;
 use logfmt::{Logfmt, Quoted};
+use sd_documents::Job;
 use std::alloc::{AllocError, Global};
 use std::time::Clock;
 
 /// How many of them are told one by one.
 const MOST_TOLD: usize = 256;
 
-/// What is told of a configuration that is valid: a line for each such member before the one that says so.
-pub(crate) fn told_valid(alloc: Global, path: &str, document: &[u8]) -> Result<String, AllocError> {
+/// What is told of a configuration that is valid: a line for each such member, and what its jobs leave out, before the line that says so.
+pub(crate) fn told_valid(
+    alloc: Global,
+    path: &str,
+    document: &[u8],
+    jobs: &[Job],
+) -> Result<String, AllocError> {
     let ways = not_followed(alloc, document)?;
     let mut lines = String::new(alloc);
     for way in ways.as_slice() {
@@ -17,6 +24,7 @@ pub(crate) fn told_valid(alloc: Global, path: &str, document: &[u8]) -> Result<S
         let line = format!(in alloc; "{path}: {way}: not followed\n")?;
         lines.push_str(line.as_str())?;
     }
+    tell_left_out(alloc, &mut lines, path, jobs)?;
     lines.push_str("the configuration is valid\n")?;
     Ok(lines)
 }

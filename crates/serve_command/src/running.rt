@@ -1,5 +1,6 @@
 //! The service over the allocator of its journal.
 use crate::configuration::ConfigurationFile;
+use crate::devices::Devices;
 use allocation_core::Core;
 use journal_files::{Fault, Journals, Opened, open_allocator};
 use log::{error, info, warn};
@@ -22,6 +23,7 @@ pub(crate) fn serve_journal<R>(
     service: Service,
     configuration: ConfigurationFile,
     listener: TcpListener,
+    device: Devices<R>,
     journal: Option<String>,
 ) -> Result<(), Fault>
 where
@@ -49,6 +51,7 @@ where
                 service,
                 configuration,
                 listener,
+                device,
                 &mut journals,
                 opened,
             )?;
@@ -124,6 +127,7 @@ fn serve_opened<R>(
     service: Service,
     configuration: ConfigurationFile,
     listener: TcpListener,
+    device: Devices<R>,
     journals: &mut Journals<R>,
     opened: Opened<File>,
 ) -> io::Result<Core>
@@ -159,6 +163,7 @@ where
         alloc,
         service,
         listener,
+        device,
         Journal { file, epoch, names },
         journals,
         configuration,

@@ -27,6 +27,8 @@ pub struct JobFigures {
     pub covered: u64,
     /// How many of these the list of the holder leaves out, since another list has them.
     pub handing_over: u64,
+    /// How many of those that somebody holds are in the last list that he was given.
+    pub taken: u64,
 }
 
 impl JobFigures {

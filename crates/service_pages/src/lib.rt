@@ -1,27 +1,36 @@
-//! The page for people of a service, made of what the service shows of itself: no lock, no desk, no clock.
+//! The pages for people of a service, made of what the service shows of itself: no lock, no desk, no clock.
 //!
-//! Contracts say what is counted: how many targets have no collector, how many sources fail, how many collectors are behind, and how many
-//! things need attention. How a text from outside is shown is `hypertext`'s.
+//! Contracts say what is counted: how many targets have no collector, how many sources fail, how many collectors are behind, how many
+//! things need attention, and how many targets have no row. How a text from outside is shown is `hypertext`'s.
 #![tactic(auto)]
 
 mod allocations;
 mod attention;
 mod cells;
+mod collector_page;
 mod collectors;
 mod counted;
 mod figures;
 mod foot;
+mod frame;
+mod job_page;
 mod jobs;
 mod links;
+mod moment;
 mod needs;
 mod notes;
 mod page;
 mod sources;
 mod standing;
+mod targets;
 
+pub use collector_page::{ShownCollector, collector_document};
 pub use counted::Counted;
 pub use figures::{CollectorFigures, Figures, JobFigures, ShareFigures};
+pub use job_page::{JobShare, ShownJob, job_document};
+pub use moment::Moment;
 pub use needs::{Need, count_needs};
-pub use notes::{AllocationNote, LoadNote, SourceNote};
+pub use notes::{AllocationNote, ListCounts, LoadNote, SourceNote};
 pub use page::{Shown, status_page};
 pub use standing::Standing;
+pub use targets::{Keeper, MOST_ROWS, Rows, TargetRow};

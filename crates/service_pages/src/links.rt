@@ -9,11 +9,18 @@ pub(crate) fn begin_uncovered_link(page: &mut Hypertext, job: &str) -> Result<()
     page.markup("/uncovered\">")
 }
 
-/// A link to who holds what of a job.
+/// Begins a link to who holds what of a job.
+pub(crate) fn begin_targets_link(page: &mut Hypertext, job: &str) -> Result<(), AllocError> {
+    page.markup("<a href=\"/jobs/")?;
+    page.segment(job)?;
+    page.markup("/targets\">")
+}
+
+/// A link to a job.
 pub(crate) fn job_link(page: &mut Hypertext, job: &str) -> Result<(), AllocError> {
     page.markup("<a href=\"/jobs/")?;
     page.segment(job)?;
-    page.markup("/targets\">")?;
+    page.markup("\">")?;
     page.text(job)?;
     page.markup("</a>")
 }

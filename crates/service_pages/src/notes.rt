@@ -16,6 +16,18 @@ pub struct SourceNote {
     pub at: Text,
     /// Why the last refresh failed. Empty where it did not.
     pub fault: Text,
+    /// What its last list has. None where it gave none.
+    pub counts: Option<ListCounts>,
+}
+
+/// How many targets a source's list has, and how many are left out of it.
+#[derive(Clone, Copy, Debug, PartialEq, Eq)]
+pub struct ListCounts {
+    pub targets: u64,
+    /// How many a rule drops.
+    pub dropped: u64,
+    /// How many have no address after the rules.
+    pub without_address: u64,
 }
 
 /// What is told of a published allocation.
@@ -59,6 +71,7 @@ impl SourceNote {
             succeeded: 0,
             at: Text::from_string(String::new(alloc)),
             fault: Text::from_string(String::new(alloc)),
+            counts: None,
         }
     }
 
@@ -74,6 +87,7 @@ impl SourceNote {
             succeeded: self.succeeded,
             at,
             fault,
+            counts: self.counts,
         })
     }
 

@@ -3,6 +3,7 @@ use crate::cells::{begin_bad_cell, begin_cell, end_cell, length_of_time, number_
 use crate::notes::SourceNote;
 use crate::standing::Standing;
 use hypertext::Hypertext;
+use lists::Text;
 use std::alloc::AllocError;
 
 const HEAD: &str =
@@ -27,6 +28,33 @@ pub(crate) fn write_sources(
     page.markup("</tbody></table>\n")
 }
 
+/// The sources of a job, with their URLs, which stand by number.
+pub(crate) fn write_sources_of(
+    page: &mut Hypertext,
+    job: &str,
+    sources: &[SourceNote],
+    urls: &[Text],
+    standing: &Standing,
+) -> Result<(), AllocError> {
+    page.markup(HEAD)?;
+    for source in sources {
+        if source.job.as_str() == job {
+            page.markup("<tr><th scope=\"row\">")?;
+            page.text(url_of(source, urls))?;
+            write_rest(page, source, standing)?;
+        }
+    }
+    page.markup("</tbody></table>\n")
+}
+
+/// The URL of a source, empty where it is not told.
+fn url_of<'a>(source: &SourceNote, urls: &'a [Text]) -> &'a str {
+    match urls.get((source.number as usize).saturating_sub(1)) {
+        Some(url) => url.as_str(),
+        None => "",
+    }
+}
+
 fn write_source(
     page: &mut Hypertext,
     source: &SourceNote,
@@ -36,6 +64,15 @@ fn write_source(
     page.text(source.job.as_str())?;
     page.markup("/")?;
     page.number(u128::from(source.number))?;
+    write_rest(page, source, standing)
+}
+
+/// What follows the name of a source in its row.
+fn write_rest(
+    page: &mut Hypertext,
+    source: &SourceNote,
+    standing: &Standing,
+) -> Result<(), AllocError> {
     page.markup("</th>")?;
     number_cell(page, "Asked", source.refreshes)?;
     number_cell(page, "Failed", source.failures)?;

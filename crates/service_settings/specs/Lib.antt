@@ -12,6 +12,7 @@ pub mod Doors
 pub mod ReachChanges
 pub mod CollectorTimeout
 pub mod Handover
+pub mod Lifecycle
 pub mod Acknowledge
 pub mod ReleaseAfter
 pub mod Spread

@@ -4,7 +4,7 @@ use Rattle.std.specs.Fmt.{decimal}
 use Rattle.service_settings.specs.declared.error.SettingsError.{SettingsError}
 use Rattle.service_settings.specs.declared.error.SettingsError.TheVariants.{NotJson, Shape, Unknown, RepeatedCollector, Memory}
 use Rattle.service_settings.specs.declared.error.Member.{Member}
-use Rattle.service_settings.specs.declared.error.Member.TheVariants.{Document, Global, ScrapeInterval, ScrapeConfigs, ScrapeConfig, HttpSdConfigs, HttpSdConfig, RefreshInterval, JobSpread, Allocator, Listen, Lifecycle, Journal, Keep, Settle, GiveUp, Connections, Hosts, Host, Tokens, AdminTokens, CollectorTokens, OpenToAll, AllowNoJobs, Collectors, Collector, CollectorName, CollectorReach, CollectorLimits, JoinByAsking, JoiningPattern, Pattern, PatternReach, PatternLimits, ReachChanges, Rejoin, CollectorTimeout, Handover, Acknowledge, ReleaseAfter, Spread, Slack, MostMoves, FetchTimeout}
+use Rattle.service_settings.specs.declared.error.Member.TheVariants.{Document, Global, ScrapeInterval, ScrapeConfigs, ScrapeConfig, HttpSdConfigs, HttpSdConfig, RefreshInterval, JobSpread, Allocator, Listen, Lifecycle, LifecycleReload, LifecycleQuit, Journal, Keep, Settle, GiveUp, Connections, Hosts, Host, Tokens, AdminTokens, CollectorTokens, OpenToAll, AllowNoJobs, Collectors, Collector, CollectorName, CollectorReach, CollectorLimits, JoinByAsking, JoiningPattern, Pattern, PatternReach, PatternLimits, ReachChanges, Rejoin, CollectorTimeout, Handover, Acknowledge, ReleaseAfter, Spread, Slack, MostMoves, FetchTimeout}
 
 -- without indices
 abbrev pub member_path : Member → List ℕ
@@ -20,6 +20,8 @@ member_path (JobSpread job) = codes "scrape_configs"
 member_path Allocator = codes "allocator"
 member_path Listen = codes "allocator.listen"
 member_path Lifecycle = codes "allocator.lifecycle"
+member_path LifecycleReload = codes "allocator.lifecycle.reload"
+member_path LifecycleQuit = codes "allocator.lifecycle.quit"
 member_path Journal = codes "allocator.journal"
 member_path Keep = codes "allocator.keep"
 member_path Settle = codes "allocator.settle"
@@ -84,7 +86,9 @@ missing (RefreshInterval job entry) = codes "no duration above 0"
 missing (JobSpread job) = codes "neither \"off\" nor a whole number from 0 to 1000"
 missing Allocator = codes "no object"
 missing Listen = codes "no address with a port"
-missing Lifecycle = codes "neither true nor false"
+missing Lifecycle = codes "neither true nor false nor an object"
+missing LifecycleReload = codes "neither true nor false"
+missing LifecycleQuit = codes "neither true nor false"
 missing Journal = codes "no text"
 missing Keep = codes "no whole number of 32 bits"
 missing Settle = codes "no duration"

@@ -9,13 +9,14 @@ use Rattle.service_settings.specs.declared.error.SettingsError.{SettingsError}
 use Rattle.service_settings.specs.declared.error.SettingsError.TheVariants.{Shape, Unknown}
 use Rattle.service_settings.specs.declared.error.Member.{Member}
 use Rattle.service_settings.specs.declared.settings.members.Kind.{Kind}
-use Rattle.service_settings.specs.declared.settings.members.Kind.TheVariants.{Allocator, Tokens, Collector, JoiningPattern, Spread}
+use Rattle.service_settings.specs.declared.settings.members.Kind.TheVariants.{Allocator, Lifecycle, Tokens, Collector, JoiningPattern, Spread}
 use Rattle.service_settings.specs.Reading.{◌>>=◌}
 
 abbrev pub names_of : Kind → List (List ℕ)
 names_of Allocator =
     codes "listen" ∷ codes "lifecycle" ∷ codes "journal" ∷ codes "keep" ∷ codes "settle" ∷ codes "give_up" ∷ codes "connections" ∷ codes "hosts" ∷ codes "tokens" ∷ codes "open_to_all"
     ∷ codes "allow_no_jobs" ∷ codes "collectors" ∷ codes "join_by_asking" ∷ codes "reach_changes" ∷ codes "rejoin" ∷ codes "collector_timeout" ∷ codes "handover" ∷ codes "acknowledge" ∷ codes "release_after" ∷ codes "spread" ∷ codes "fetch_timeout" ∷ []
+names_of Lifecycle = codes "reload" ∷ codes "quit" ∷ []
 names_of Tokens = codes "admin" ∷ codes "collectors" ∷ []
 names_of Collector = codes "name" ∷ codes "reach" ∷ codes "limits" ∷ []
 names_of JoiningPattern = codes "pattern" ∷ codes "reach" ∷ codes "limits" ∷ []

@@ -20,6 +20,7 @@ use Rattle.service_settings.specs.CollectorTimeout.{collector_timeout_said}
 use Rattle.service_settings.specs.Handover.{handover_said}
 use Rattle.service_settings.specs.Acknowledge.{acknowledge_said}
 use Rattle.service_settings.specs.JoiningPattern.{join_by_asking_said}
+use Rattle.service_settings.specs.Lifecycle.{lifecycle_said}
 use Rattle.service_settings.specs.ReleaseAfter.{release_after_said}
 use Rattle.service_settings.specs.Spread.{spread_said}
 use Rattle.service_settings.specs.JobSpread.{spreads_said}
@@ -53,7 +54,7 @@ refresh_said d = items_said part.ScrapeConfigs (get (codes "scrape_configs") d) 
 unfoldable pub housekeeping_said : Option Data → Result Housekeeping SettingsError
 housekeeping_said allocator =
     said_or DEFAULT_LISTEN address_in part.Listen (member_at (codes "listen") allocator) >>= λ listen.
-    said_or false as_bool part.Lifecycle (member_at (codes "lifecycle") allocator) >>= λ lifecycle.
+    lifecycle_said (member_at (codes "lifecycle") allocator) >>= λ lifecycle.
     said_or_none as_str part.Journal (member_at (codes "journal") allocator) >>= λ journal.
     said_or DEFAULT_KEEP number_in part.Keep (member_at (codes "keep") allocator) >>= λ keep.
     said_or DEFAULT_SETTLE duration_in part.Settle (member_at (codes "settle") allocator) >>= λ settle.

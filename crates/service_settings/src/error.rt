@@ -34,6 +34,8 @@ pub enum Member {
     Allocator,
     Listen,
     Lifecycle,
+    LifecycleReload,
+    LifecycleQuit,
     Journal,
     Keep,
     Settle,
@@ -166,6 +168,8 @@ impl Member {
             Member::Allocator => "allocator",
             Member::Listen => "allocator.listen",
             Member::Lifecycle => "allocator.lifecycle",
+            Member::LifecycleReload => "allocator.lifecycle.reload",
+            Member::LifecycleQuit => "allocator.lifecycle.quit",
             Member::Journal => "allocator.journal",
             Member::Keep => "allocator.keep",
             Member::Settle => "allocator.settle",
@@ -228,8 +232,12 @@ impl Member {
             Member::Settle => "no duration",
             Member::Listen => "no address with a port",
             Member::Acknowledge => "no host with a port",
-            Member::Lifecycle | Member::OpenToAll | Member::AllowNoJobs | Member::Rejoin =>
-                "neither true nor false",
+            Member::Lifecycle => "neither true nor false nor an object",
+            Member::LifecycleReload
+            | Member::LifecycleQuit
+            | Member::OpenToAll
+            | Member::AllowNoJobs
+            | Member::Rejoin => "neither true nor false",
             Member::Journal => "no text",
             Member::Host(_) => "no name of a host in small letters, without a port",
             Member::AdminTokens | Member::CollectorTokens => "no path of a file",

@@ -18,6 +18,6 @@ pub use reading::{LEAST_CONNECTIONS, MOST_CONNECTIONS};
 pub use settings::{
     Collector, CollectorTimeout, DEFAULT_CONNECTIONS, DEFAULT_FETCH_TIMEOUT, DEFAULT_GIVE_UP,
     DEFAULT_INTERVAL, DEFAULT_KEEP, DEFAULT_LISTEN, DEFAULT_SETTLE, DEFAULT_SLACK, Doors, Handover,
-    JobSpread, JoiningPattern, LONGEST_PATTERN, MOST_SLACK, ReachChanges, ReleaseAfter, Settings,
-    Spread, read_settings,
+    JobSpread, JoiningPattern, LONGEST_PATTERN, Lifecycle, MOST_SLACK, ReachChanges, ReleaseAfter,
+    Settings, Spread, read_settings,
 };

@@ -13,6 +13,7 @@ mod doors;
 mod handover;
 mod job_spread;
 mod joining_pattern;
+mod lifecycle;
 mod members;
 mod reach_changes;
 mod release_after;
@@ -31,6 +32,7 @@ pub use handover::Handover;
 pub use job_spread::JobSpread;
 use job_spread::spreads_in;
 pub use joining_pattern::{JoiningPattern, LONGEST_PATTERN};
+pub use lifecycle::Lifecycle;
 use lists::{List, Text};
 use members::{Kind, known_or_none};
 pub use reach_changes::ReachChanges;
@@ -71,8 +73,8 @@ pub struct Settings {
     pub spreads: List<JobSpread>,
     /// Where HTTP is served.
     pub listen: Address,
-    /// Whether HTTP may stop the service and make it read its configuration again.
-    pub lifecycle: bool,
+    /// Whether HTTP may stop the service, and make it read its configuration again.
+    pub lifecycle: Lifecycle,
     /// The path of the journal.
     pub journal: Option<Text>,
     /// How many old journals are kept.

@@ -7,7 +7,7 @@ ghost use Rattle.sd_routes.specs.Pages.{jobs_data};
 ghost use Rattle.service_state.specs.Jobs.{place_of};
 
 use lists::{List, Plain, Text};
-use sd_documents::{Config, scrape_configs_text};
+use sd_documents::{Config, Job, scrape_configs_text};
 use sd_routes::jobs_page;
 use std::alloc::{AllocError, Global};
 
@@ -21,6 +21,8 @@ pub struct ConfigPages {
     /// The JSON of `/jobs`.
     pub jobs: Text,
     pub names: List<Text>,
+    /// The URLs of the sources of each job, job by job.
+    pub urls: List<List<Text>>,
     /// Where a collector tells that it follows a list, as collectors reach it: a host, a colon and a port.
     pub acknowledge: Option<Text>,
 }
@@ -37,20 +39,28 @@ impl ConfigPages {
         ensures jobs { IfOk result (λ p. p.jobs ≡ compact_text (jobs_data config.now.jobs)) }
         ensures acknowledge { IfOk result (λ p. p.acknowledge ≡ None) }
         ensures names { IfOk result (λ p. p.names ≡ map (λ (j : Job). j.name) config.now.jobs) }
+        ensures urls { IfOk result (λ p. p.urls ≡ map (λ (j : Job). j.http_urls) config.now.jobs) }
     {
         let as_read = scrape_configs_text(alloc, config)?;
         let jobs = jobs_page(alloc, config.jobs.as_slice())?;
-        let mut names = List::new(alloc);
-        for job in config.jobs.as_slice() {
-            names.push(job.name.copy()?)?;
-        }
+        let names = names_of(alloc, config.jobs.as_slice())?;
+        let urls = urls_of(alloc, config.jobs.as_slice())?;
         Ok(ConfigPages {
             scrape_configs,
             as_read,
             jobs,
             names,
+            urls,
             acknowledge: None,
         })
+    }
+
+    /// The URLs of the sources of the job at a place, by their numbers.
+    pub fn urls_at(&self, place: usize) -> &[Text] {
+        match self.urls.as_slice().get(place) {
+            Some(urls) => urls.as_slice(),
+            None => &[],
+        }
     }
 
     /// A job's place in the configuration.
@@ -62,4 +72,24 @@ impl ConfigPages {
             .iter()
             .position(|name| name.as_str() == job)
     }
+}
+
+fn names_of(alloc: Global, jobs: &[Job]) -> Result<List<Text>, AllocError>
+    ensures { IfOk result (λ names. names ≡ map (λ (j : Job). j.name) jobs.now) }
+{
+    let mut names = List::new(alloc);
+    for job in jobs {
+        names.push(job.name.copy()?)?;
+    }
+    Ok(names)
+}
+
+fn urls_of(alloc: Global, jobs: &[Job]) -> Result<List<List<Text>>, AllocError>
+    ensures { IfOk result (λ urls. urls ≡ map (λ (j : Job). j.http_urls) jobs.now) }
+{
+    let mut urls = List::new(alloc);
+    for job in jobs {
+        urls.push(job.http_urls.copy()?)?;
+    }
+    Ok(urls)
 }

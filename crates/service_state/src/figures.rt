@@ -3,7 +3,7 @@ use crate::handing_over::{HandingOver, targets_handing_over};
 use alloc_desk::Record;
 use allocation_core::Core;
 use fleet::{Collector, JobSpec};
-use fleet_events::{AllocationNumber, CollectorId};
+use fleet_events::{AllocationNumber, CollectorId, TargetId};
 use lists::{Plain, Text};
 use service_pages::{CollectorFigures, Figures, JobFigures, ShareFigures};
 use std::alloc::{AllocError, Global};
@@ -37,6 +37,7 @@ fn empty_jobs(alloc: Global, core: &Core) -> Result<Vec<JobFigures>, AllocError>
             live: 0,
             covered: 0,
             handing_over: 0,
+            taken: 0,
         })?;
     }
     Ok(jobs)
@@ -116,21 +117,24 @@ fn count_live(core: &Core, live: &[bool], figures: &mut Figures) {
 fn count_covered(core: &Core, live: &[bool], figures: &mut Figures) {
     for (target, collector) in core.allocation() {
         if live.get(*target as usize) == Some(&true) {
-            count_one(core, *target as usize, *collector, figures);
+            count_one(core, *target, *collector, figures);
         }
     }
 }
 
 /// A live target is held by a collector. One that has left holds nothing.
-fn count_one(core: &Core, target: usize, collector: CollectorId, figures: &mut Figures) {
+fn count_one(core: &Core, target: TargetId, collector: CollectorId, figures: &mut Figures) {
     let place = figures
         .collectors
         .binary_search_by(|other| other.id.cmp(&collector));
-    let (Ok(place), Some(known)) = (place, core.fleet().known().get(target)) else {
+    let (Ok(place), Some(known)) = (place, core.fleet().known().get(target as usize)) else {
         return;
     };
     if let Some(job) = figures.jobs.get_mut(known.job) {
         job.covered = job.covered.saturating_add(1);
+        if is_taken(core, known.job, target, collector) {
+            job.taken = job.taken.saturating_add(1);
+        }
     }
     if let Some(holder) = figures.collectors.get_mut(place) {
         holder.held = holder.held.saturating_add(1);
@@ -138,6 +142,19 @@ fn count_one(core: &Core, target: usize, collector: CollectorId, figures: &mut F
             share.held = share.held.saturating_add(1);
         }
     }
+}
+
+/// Whether the last list of a job that a collector was given has a target that it holds: where its list is served in order, that list, and
+/// else what it held in the allocation that it took last.
+fn is_taken(core: &Core, job: usize, target: TargetId, holder: CollectorId) -> bool {
+    if core.slots().get(target as usize) == Some(&holder) {
+        return true;
+    }
+    if core.served_number(holder, job).is_some() {
+        return false;
+    }
+    let taken = core.taken(holder);
+    taken == core.current() || core.holder(taken, target) == Some(holder)
 }
 
 fn count_handing_over(core: &Core, waiting: &[HandingOver], figures: &mut Figures) {

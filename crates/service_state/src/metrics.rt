@@ -2,12 +2,13 @@
 use crate::counts::{Counts, EventCounts, RequestCounts, STATUSES};
 use crate::kinds::{DONE, KINDS, REFUSALS};
 use crate::notes::Notes;
+use crate::process_figures::ProcessFigures;
 use crate::routes::ROUTES;
 use crate::service_state::ServiceState;
 use exposition::{Exposition, Kind};
 use fleet_events::CollectorId;
 use lists::Text;
-use service_pages::{CollectorFigures, Figures, JobFigures, LoadNote, SourceNote};
+use service_pages::{CollectorFigures, Figures, JobFigures, ListCounts, LoadNote, SourceNote};
 use std::alloc::{AllocError, Global};
 
 /// The metrics of a service, in the text exposition format.
@@ -37,6 +38,8 @@ pub fn metrics_page(
     write_requests(&mut page, alloc, &notes.counts)?;
     write_sources(&mut page, alloc, notes.sources.as_slice())?;
     write_state(&mut page, state)?;
+    write_journal_writes(&mut page, notes)?;
+    write_process_figures(&mut page, &notes.process)?;
     match page.into_string() {
         Some(text) => Ok(Text::from_string(text)),
         None => Err(AllocError),
@@ -64,7 +67,21 @@ fn write_jobs(page: &mut Exposition, jobs: &[JobFigures]) -> Result<(), AllocErr
         let count = job.live.saturating_sub(job.covered);
         page.labelled_sample(uncovered, "job", job.name.as_str(), u128::from(count))?;
     }
+    write_taken(page, jobs)?;
     write_handing_over(page, jobs)
+}
+
+fn write_taken(page: &mut Exposition, jobs: &[JobFigures]) -> Result<(), AllocError> {
+    let name = "allocd_targets_taken";
+    page.family(
+        name,
+        Kind::Gauge,
+        "Live targets that a collector holds and that are in the last list that it took.",
+    )?;
+    for job in jobs {
+        page.labelled_sample(name, "job", job.name.as_str(), u128::from(job.taken))?;
+    }
+    Ok(())
 }
 
 fn write_handing_over(page: &mut Exposition, jobs: &[JobFigures]) -> Result<(), AllocError> {
@@ -257,6 +274,71 @@ fn write_process(page: &mut Exposition, state: &ServiceState) -> Result<(), Allo
         "When the process began, in seconds since 1970.",
         u128::from(state.started()),
     )
+}
+
+/// What the machine says of the process, under the names that Prometheus's own programs give it. What it does not say is left out.
+fn write_process_figures(
+    page: &mut Exposition,
+    process: &ProcessFigures,
+) -> Result<(), AllocError> {
+    write_gauge_if_known(
+        page,
+        "process_resident_memory_bytes",
+        "Resident memory size in bytes.",
+        process.resident_bytes,
+    )?;
+    write_gauge_if_known(
+        page,
+        "process_virtual_memory_bytes",
+        "Virtual memory size in bytes.",
+        process.virtual_bytes,
+    )?;
+    write_gauge_if_known(
+        page,
+        "process_open_fds",
+        "Number of open file descriptors.",
+        process.open_descriptors,
+    )?;
+    write_gauge_if_known(
+        page,
+        "process_max_fds",
+        "Maximum number of open file descriptors.",
+        process.most_descriptors,
+    )?;
+    let name = "process_cpu_seconds_total";
+    match process.cpu_millis {
+        Some(millis) => {
+            page.family(
+                name,
+                Kind::Counter,
+                "Total user and system CPU time spent in seconds.",
+            )?;
+            page.seconds(name, millis)
+        }
+        None => Ok(()),
+    }
+}
+
+fn write_gauge_if_known(
+    page: &mut Exposition,
+    name: &str,
+    help: &str,
+    value: Option<u64>,
+) -> Result<(), AllocError> {
+    match value {
+        Some(value) => write_gauge(page, name, help, u128::from(value)),
+        None => Ok(()),
+    }
+}
+
+fn write_journal_writes(page: &mut Exposition, notes: &Notes) -> Result<(), AllocError> {
+    let name = "allocd_journal_write_duration_seconds";
+    page.family(
+        name,
+        Kind::Histogram,
+        "How long it took to write to the journal and to have the device keep it.",
+    )?;
+    page.histogram(name, &notes.writes)
 }
 
 fn write_configuration(page: &mut Exposition, state: &ServiceState) -> Result<(), AllocError> {
@@ -474,7 +556,8 @@ fn write_sources(
         let said = name_of(alloc, source)?;
         page.labelled_sample(name, "source", said.as_str(), u128::from(source.failures))?;
     }
-    write_last_successes(page, alloc, sources)
+    write_last_successes(page, alloc, sources)?;
+    write_last_lists(page, alloc, sources)
 }
 
 fn write_last_successes(
@@ -489,12 +572,67 @@ fn write_last_successes(
         "When the discovery source last gave its list, in seconds since 1970, or 0.",
     )?;
     for source in sources {
-        let said = name_of(alloc, source)?;
-        let job = source.job.as_str();
-        let seconds = u128::from(source.succeeded);
-        page.twice_labelled_sample(name, "job", job, "source", said.as_str(), seconds)?;
+        write_count(page, alloc, name, source, source.succeeded)?;
     }
     Ok(())
+}
+
+/// What the last list of each source has, and what is left out of it.
+fn write_last_lists(
+    page: &mut Exposition,
+    alloc: Global,
+    sources: &[SourceNote],
+) -> Result<(), AllocError> {
+    let name = "allocd_source_targets";
+    page.family(
+        name,
+        Kind::Gauge,
+        "Targets that the last list of the discovery source has.",
+    )?;
+    for source in sources {
+        write_count(page, alloc, name, source, counts_of(source).targets)?;
+    }
+    let name = "allocd_source_targets_dropped";
+    page.family(
+        name,
+        Kind::Gauge,
+        "Targets that a relabelling rule leaves out of the last list of the discovery source.",
+    )?;
+    for source in sources {
+        write_count(page, alloc, name, source, counts_of(source).dropped)?;
+    }
+    let name = "allocd_source_targets_without_address";
+    page.family(
+        name,
+        Kind::Gauge,
+        "Targets that are left out of the last list of the discovery source, since they have no address.",
+    )?;
+    for source in sources {
+        write_count(page, alloc, name, source, counts_of(source).without_address)?;
+    }
+    Ok(())
+}
+
+/// What the last list of a source has: nothing where it gave none.
+fn counts_of(source: &SourceNote) -> ListCounts {
+    source.counts.unwrap_or(ListCounts {
+        targets: 0,
+        dropped: 0,
+        without_address: 0,
+    })
+}
+
+/// A count of a source.
+fn write_count(
+    page: &mut Exposition,
+    alloc: Global,
+    name: &str,
+    source: &SourceNote,
+    count: u64,
+) -> Result<(), AllocError> {
+    let said = name_of(alloc, source)?;
+    let job = source.job.as_str();
+    page.twice_labelled_sample(name, "job", job, "source", said.as_str(), u128::from(count))
 }
 
 /// A source by its job and its number.

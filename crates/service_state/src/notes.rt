@@ -1,5 +1,6 @@
 //! What a service tells of its sources and of its last allocations.
 use crate::counts::Counts;
+use crate::process_figures::ProcessFigures;
 use exposition::Durations;
 use fleet_events::CollectorId;
 use lists::Plain;
@@ -18,6 +19,10 @@ pub struct Notes {
     pub allocations: Vec<AllocationNote>,
     /// How long searches for an allocation took.
     pub(crate) searches: Durations,
+    /// How long it took to write to the journal, and to have the device keep it.
+    pub(crate) writes: Durations,
+    /// What the machine said last of the process.
+    pub(crate) process: ProcessFigures,
     /// When collectors asked for a list last, in seconds since 1970. 0 where they did not.
     pub asked: Vec<(CollectorId, u64)>,
     /// What the last search that made loads even told of them. Empty where there was none.
@@ -31,6 +36,8 @@ impl Notes {
             sources: Vec::new(alloc),
             allocations: Vec::new(alloc),
             searches: Durations::new(),
+            writes: Durations::new(),
+            process: ProcessFigures::unknown(),
             asked: Vec::new(alloc),
             loads: Vec::new(alloc),
         }
@@ -47,6 +54,8 @@ impl Notes {
             sources: copied_sources(alloc, self.sources.as_slice())?,
             allocations: copied_allocations(alloc, self.allocations.as_slice())?,
             searches: self.searches,
+            writes: self.writes,
+            process: self.process,
             asked,
             loads: copied_loads(alloc, self.loads.as_slice())?,
         })
@@ -61,6 +70,7 @@ impl Notes {
                 note.succeeded = note.succeeded.max(refresh.succeeded);
                 note.at = refresh.at;
                 note.fault = refresh.fault;
+                note.counts = refresh.counts.or(note.counts);
                 return Ok(());
             }
         }

@@ -27,6 +27,7 @@ pub enum Route {
     FindTargets,
     Collectors,
     Collector,
+    Job,
     /// What has no route.
     NoRoute,
 }
@@ -59,6 +60,7 @@ pub(crate) const ROUTES: [Route; ROUTE_COUNT] = [
     Route::FindTargets,
     Route::Collectors,
     Route::Collector,
+    Route::Job,
     Route::NoRoute,
 ];
 
@@ -97,6 +99,7 @@ impl Route {
             Route::FindTargets => "/targets",
             Route::Collectors => "/collectors",
             Route::Collector => "/collectors/{id}",
+            Route::Job => "/jobs/{job}",
             Route::NoRoute => "none",
         }
     }
@@ -127,5 +130,6 @@ fn asked(ask: &Ask) -> Route {
         Ask::FindTargets(_) => Route::FindTargets,
         Ask::Collectors => Route::Collectors,
         Ask::Collector(_) => Route::Collector,
+        Ask::Job(_) => Route::Job,
     }
 }

@@ -6,12 +6,14 @@ use crate::kinds::EventKind;
 use crate::names::Names;
 use crate::notes::Notes;
 use crate::open_round::{OpenRound, RoundStart, RoundTimes};
+use crate::process_figures::ProcessFigures;
 use crate::reloading::Reloading;
 use crate::routes::Route;
 use crate::takers::Takers;
 use fleet_events::{Answer, CollectorId, TargetId};
 use lists::Text;
 use service_pages::{AllocationNote, LoadNote, SourceNote, Standing};
+use service_settings::Lifecycle;
 use std::alloc::{AllocError, Global};
 use std::sync::atomic::{AtomicBool, AtomicU64, Ordering};
 use std::sync::{Arc, Mutex, Wait};
@@ -20,8 +22,8 @@ use std::time::{Clock, Duration, Instant};
 /// What a service says of itself beside its desk. The threads of the service write it, and requests read it.
 #[derive(Drop)]
 pub struct ServiceState {
-    /// Whether a request may end the service.
-    has_lifecycle: bool,
+    /// What requests may do with the whole service.
+    lifecycle: Lifecycle,
     /// The program's version. Empty where nobody told it.
     version: &'static str,
     /// When it began, in seconds since 1970. 0 where nobody knows.
@@ -71,9 +73,9 @@ pub struct ServiceState {
 
 impl ServiceState {
     /// The state of a service that has tried none of so many sources.
-    pub fn new(alloc: Global, has_lifecycle: bool, sources: u64) -> ServiceState {
+    pub fn new(alloc: Global, lifecycle: Lifecycle, sources: u64) -> ServiceState {
         ServiceState {
-            has_lifecycle,
+            lifecycle,
             version: "",
             started: 0,
             is_quitting: AtomicBool::new(false),
@@ -125,15 +127,15 @@ impl ServiceState {
 
     /// The service is to end, where requests may say so. Says whether they may.
     pub fn quit(&self) -> bool {
-        if self.has_lifecycle {
+        if self.lifecycle.quit {
             self.is_quitting.store(true, Ordering::SeqCst);
         }
-        self.has_lifecycle
+        self.lifecycle.quit
     }
 
-    /// Whether a request may end the service, or have it read its configuration again.
-    pub fn has_lifecycle(&self) -> bool {
-        self.has_lifecycle
+    /// Whether a request may have the service read its configuration again.
+    pub fn may_reload(&self) -> bool {
+        self.lifecycle.reload
     }
 
     /// How requests have the configuration read again.
@@ -432,6 +434,17 @@ impl ServiceState {
     pub fn count_search<R: Wait + Clock>(&self, rt: &R, begun: Option<Instant>) {
         let microseconds = microseconds_since(rt, begun);
         self.notes.lock(rt).searches.observe(microseconds);
+    }
+
+    /// Writing to the journal, which began then, is over.
+    pub fn count_write<R: Wait + Clock>(&self, rt: &R, begun: Option<Instant>) {
+        let microseconds = microseconds_since(rt, begun);
+        self.notes.lock(rt).writes.observe(microseconds);
+    }
+
+    /// The machine says this of the process.
+    pub fn note_process(&self, rt: &impl Wait, figures: ProcessFigures) {
+        self.notes.lock(rt).process = figures;
     }
 
     /// Other sources are refreshed from now on.

@@ -136,9 +136,14 @@ fn is_target(core: &Core, number: usize, target: &Target) -> bool {
 
 /// What the static groups of a job list.
 fn static_targets(alloc: Global, job: &Job) -> Result<List<Target>, AllocError> {
-    let Ok(rules) = Rules::read(alloc, job.rules.as_slice()) else {
-        return Err(AllocError);
-    };
-    let Found { targets, .. } = rules.discover(alloc, job, 0, job.static_groups.as_slice())?;
+    let Found { targets, .. } = found_in_static_groups(alloc, job)?;
     Ok(targets)
+}
+
+/// What is found in the static groups of a job whose rules can be read.
+pub fn found_in_static_groups(alloc: Global, job: &Job) -> Result<Found, AllocError> {
+    match Rules::read(alloc, job.rules.as_slice()) {
+        Ok(rules) => rules.discover(alloc, job, 0, job.static_groups.as_slice()),
+        Err(_) => Err(AllocError),
+    }
 }

@@ -1,6 +1,7 @@
 //! Where a service has its configuration.
 use crate::service::Service;
 use lists::Text;
+use service_state::ProcessFigures;
 
 /// Where a service has its configuration.
 pub trait Configuration {
@@ -9,4 +10,7 @@ pub trait Configuration {
 
     /// The service that the configuration asks for that was kept last. None without memory.
     fn service(&self) -> Option<Service>;
+
+    /// What the machine says of this process.
+    fn process(&self) -> ProcessFigures;
 }

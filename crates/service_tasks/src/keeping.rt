@@ -11,7 +11,7 @@ use std::io::Write;
 use std::sync::Wait;
 use std::sync::atomic::{AtomicBool, Ordering};
 use std::sync::ledger::Ledger;
-use std::time::{Clock, Duration};
+use std::time::{Clock, Duration, Instant};
 use std::{io, thread};
 
 /// How many entries are written at once at most.
@@ -120,11 +120,23 @@ impl<R: Wait + Clock + Eprint + Copy, L: Ledger, B: Ledger, N: DeskName> Shared<
         lines: &Lines,
     ) -> io::Result<()> {
         if !lines.bytes.is_empty() {
-            keeper.file.append(lines)?;
+            self.append(keeper, lines)?;
             self.state.count_written(lines.bytes.len() as u64);
             self.is_long.store(keeper.file.is_long(), Ordering::SeqCst);
         }
         Ok(())
+    }
+
+    /// Appends lines, and tells how long that took.
+    fn append<F: Write + OpenFile>(
+        &self,
+        keeper: &mut Keeper<'_, L, B, N, F>,
+        lines: &Lines,
+    ) -> io::Result<()> {
+        let begun = Instant::now(&self.rt).ok();
+        let appended = keeper.file.append(lines);
+        self.state.count_write(&self.rt, begun);
+        appended
     }
 
     /// Nothing is written until there is memory, for which the last turn does not wait.

@@ -4,6 +4,7 @@
 //! Contracts say that the allocator to go on with is one that events and renewals of the machine lead to; of time and order they say nothing.
 #![tactic(auto)]
 
+mod answers;
 mod attendance;
 mod beginning;
 mod changing;
@@ -24,6 +25,7 @@ mod letting_go;
 mod logging;
 mod office;
 mod patience;
+mod process;
 mod publishing;
 mod reallocating;
 mod refreshing;
@@ -38,6 +40,7 @@ mod sighting;
 mod source;
 mod sources;
 
+pub use beginning::found_in_static_groups;
 pub use configuration::Configuration;
 pub use control::Ending;
 pub use crew::Crew;

@@ -1,19 +1,18 @@
 //! The thread that refreshes what discovery sources list.
+use crate::answers::{Came, Failure, fault_in};
 use crate::logging::{log_warning, log_warning_of};
 use crate::shared::Shared;
 use crate::source::{Listed, Source};
 use crate::sources::Sources;
 use alloc_desk::{DeskName, Pass};
+use file_configs::{ReadFiles, patterns_of};
 use fleet_events::{Answer, Event};
-use http_get::{
-    Asker, Cause, FetchFault, FetchSeveral, Get, Next, RefreshError, Reply, get_of_source, heard,
-};
+use http_get::{Asker, Cause, FetchSeveral, Get, Listing, Next, Reply, get_of_source};
 use lists::{List, Plain, Text};
 use log::warn;
 use logfmt::{Logfmt, Quoted, timestamp};
-use relabel::Rules;
 use sd_documents::Job;
-use service_state::SourceNote;
+use service_state::{ListCounts, SourceNote};
 use std::alloc::{AllocError, Global};
 use std::io;
 use std::sync::atomic::Ordering;
@@ -27,7 +26,16 @@ const LOOK_MILLIS: u64 = 50;
 /// How long no source is asked where none can be.
 const PAUSE_MILLIS: u64 = 1_000;
 
-/// The sources of a service, and the device that asks them.
+/// How a source is asked.
+#[derive(Drop)]
+enum Wanted {
+    /// Over HTTP.
+    Get(Get),
+    /// These files are read.
+    Files(List<Text>),
+}
+
+/// The sources of a service, and the device that asks them over HTTP and reads their files.
 #[derive(Drop)]
 pub struct Watch<S> {
     pub(crate) device: S,
@@ -38,15 +46,22 @@ pub struct Watch<S> {
 
 /// Who asks the sources, over one desk.
 #[derive(Drop)]
-struct Refresher<'a, R, L: Ledger, B: Ledger, N: DeskName> {
+struct Refresher<'a, R, L: Ledger, B: Ledger, N: DeskName, D> {
     shared: &'a Shared<R, L, B, N>,
     pass: &'a mut Pass<L, B, N>,
+    files: &'a D,
     jobs: &'a List<Job>,
     sources: Sources,
 }
 
-impl<R: Wait + Clock + Eprint + Copy, L: Ledger, B: Ledger, N: DeskName> Asker
-    for Refresher<'_, R, L, B, N> {
+impl<R, L, B, N, D> Asker for Refresher<'_, R, L, B, N, D>
+where
+    R: Wait + Clock + Eprint + Copy,
+    L: Ledger,
+    B: Ledger,
+    N: DeskName,
+    D: ReadFiles,
+{
     /// The source that is due for longest is asked next. It is waited for answers, or, where none is to come, until a source is due.
     fn next(&mut self) -> Next {
         match self.sources.begin_due(&self.shared.rt) {
@@ -56,35 +71,66 @@ impl<R: Wait + Clock + Eprint + Copy, L: Ledger, B: Ledger, N: DeskName> Asker
     }
 
     fn hear(&mut self, mark: usize, fetched: Result<Reply, Cause>) {
-        let Some(source) = self.sources.ended(mark) else {
-            return;
-        };
-        if let Some(job) = self.jobs.as_slice().get(source.settings.job) {
-            self.shared.refresh(self.pass, job, source, fetched);
-        }
-        if source.end() {
-            self.shared.state.count_tried();
+        match fetched {
+            Ok(reply) => self.end(mark, Came::Reply(reply)),
+            Err(cause) => self.end(mark, Came::Nothing(cause)),
         }
     }
 }
 
-impl<R: Wait + Clock + Eprint + Copy, L: Ledger, B: Ledger, N: DeskName> Refresher<'_, R, L, B, N> {
-    /// Asks the source at a place. Where it cannot be asked, that is what it comes to.
+impl<R, L, B, N, D> Refresher<'_, R, L, B, N, D>
+where
+    R: Wait + Clock + Eprint + Copy,
+    L: Ledger,
+    B: Ledger,
+    N: DeskName,
+    D: ReadFiles,
+{
+    /// Asks the source at a place, or reads its files at once. Where it cannot be asked, that is what it comes to.
     fn ask(&mut self, place: usize) -> Next {
-        match self.get_at(place) {
-            Some(get) => Next::Ask { mark: place, get },
+        match self.wanted_at(place) {
+            Some(Wanted::Get(get)) => Next::Ask { mark: place, get },
+            Some(Wanted::Files(patterns)) => {
+                self.read(place, patterns.as_slice());
+                Next::Wait(Duration::ZERO)
+            }
             None => {
-                self.hear(place, Err(Cause::Memory));
+                self.end(place, Came::Nothing(Cause::Memory));
                 Next::Wait(Duration::ZERO)
             }
         }
     }
 
     /// How the source at a place is asked. None where there is no memory to say so.
-    fn get_at(&self, place: usize) -> Option<Get> {
+    fn wanted_at(&self, place: usize) -> Option<Wanted> {
         let settings = self.sources.at(place)?.settings;
         let job = self.jobs.as_slice().get(settings.job)?;
-        get_of_source(self.shared.alloc, job, settings.number).ok()?
+        match patterns_of(self.shared.alloc, url_of(job, settings.number)) {
+            Ok(Some(patterns)) => Some(Wanted::Files(patterns)),
+            Ok(None) => wanted_over_http(self.shared.alloc, job, settings.number),
+            Err(AllocError) => None,
+        }
+    }
+
+    /// Reads the files of the source at a place.
+    fn read(&mut self, place: usize, patterns: &[Text]) {
+        match self.files.read_files(patterns) {
+            Ok(files) => self.end(place, Came::Files(files)),
+            Err(fault) => self.end(place, Came::NoFiles(fault)),
+        }
+    }
+
+    /// The refresh of the source at a place came to this.
+    fn end(&mut self, place: usize, came: Came) {
+        let Some(source) = self.sources.ended(place) else {
+            return;
+        };
+        if let Some(job) = self.jobs.as_slice().get(source.settings.job) {
+            self.shared.refresh(self.pass, job, source, came);
+        }
+        if source.end() {
+            self.shared.state.count_tried();
+        }
     }
 
     /// Waits until the desk is to be closed, but no longer than this, and no longer than a look where answers are to come.
@@ -104,7 +150,11 @@ impl<R: Wait + Clock + Eprint + Copy, L: Ledger, B: Ledger, N: DeskName> Refresh
 impl<R: Wait + Clock + Eprint + Copy, L: Ledger, B: Ledger, N: DeskName> Shared<R, L, B, N> {
     /// Refreshes sources until the desk is to be closed, each when it is due, whatever others do. A refresh that is under way then is given
     /// up: it is due over the next desk.
-    pub fn refresh_sources<S: FetchSeveral>(&self, pass: &mut Pass<L, B, N>, watch: &mut Watch<S>) {
+    pub fn refresh_sources<S: FetchSeveral + ReadFiles>(
+        &self,
+        pass: &mut Pass<L, B, N>,
+        watch: &mut Watch<S>,
+    ) {
         for _ in self.rt.forever() {
             match self.refresh_by(pass, watch) {
                 Ok(()) => return,
@@ -118,64 +168,65 @@ impl<R: Wait + Clock + Eprint + Copy, L: Ledger, B: Ledger, N: DeskName> Shared<
     }
 
     /// Refreshes sources until the desk is to be closed, or the device fails.
-    fn refresh_by<S: FetchSeveral>(
+    fn refresh_by<S: FetchSeveral + ReadFiles>(
         &self,
         pass: &mut Pass<L, B, N>,
         watch: &mut Watch<S>,
     ) -> io::Result<()> {
         let none = Sources::new(Vec::new(self.alloc));
         let sources = std::mem::replace(&mut watch.sources, none);
-        let mut refresher = Refresher {
-            shared: self,
-            pass,
-            jobs: &watch.jobs,
-            sources,
-        };
-        let asked = watch.device.fetch_for(&mut refresher);
-        let mut sources = refresher.sources;
+        let (mut sources, asked) = self.asked_by(&watch.device, pass, &watch.jobs, sources);
         sources.give_up();
         watch.sources = sources;
         asked
     }
 
-    fn refresh(
+    /// Has the device ask these sources of jobs, and gives them back.
+    fn asked_by<S: FetchSeveral + ReadFiles>(
         &self,
+        device: &S,
         pass: &mut Pass<L, B, N>,
-        job: &Job,
-        source: &mut Source,
-        fetched: Result<Reply, Cause>,
-    ) {
+        jobs: &List<Job>,
+        sources: Sources,
+    ) -> (Sources, io::Result<()>) {
+        let mut refresher = Refresher {
+            shared: self,
+            pass,
+            files: device,
+            jobs,
+            sources,
+        };
+        let asked = device.fetch_for(&mut refresher);
+        (refresher.sources, asked)
+    }
+
+    fn refresh(&self, pass: &mut Pass<L, B, N>, job: &Job, source: &mut Source, came: Came) {
         self.state.count_refresh();
         let number = source.settings.number;
-        let cause = cause_of(&fetched);
-        let fetched = with_fault(fetched);
-        let list = self.list_of(job, number, &fetched);
-        self.tell(job, number, &list, cause);
+        let list = came.list(self.alloc, job, number);
+        self.tell(job, number, &list);
         match list {
-            Ok(event) => self.submit_news(pass, job.name.as_str(), &mut source.listed, event),
+            Ok(listing) => {
+                let listed = &mut source.listed;
+                self.submit_news(pass, job.name.as_str(), listed, listing.event);
+            }
             Err(_told) => {}
         }
     }
 
     /// Tells how a refresh ended those who look at the service, and in the log where it failed.
-    fn tell(
-        &self,
-        job: &Job,
-        number: u32,
-        list: &Result<Event, RefreshError>,
-        cause: Option<Cause>,
-    ) {
+    fn tell(&self, job: &Job, number: u32, list: &Result<Listing, Failure>) {
         if list.is_err() {
             self.state.count_failed_refresh();
         }
-        let Ok(fault) = fault_in(self.alloc, list, cause) else {
+        let Ok(fault) = fault_in(self.alloc, list) else {
             log_warning(&self.rt, "no memory to note a refresh");
             return;
         };
         if list.is_err() {
             self.log_failure(job, number, fault.as_str());
         }
-        self.note_refresh(job, number, list.is_ok(), fault);
+        self.note_refresh(job, number, counts_in(list), fault);
     }
 
     fn log_failure(&self, job: &Job, number: u32, fault: &str) {
@@ -185,8 +236,8 @@ impl<R: Wait + Clock + Eprint + Copy, L: Ledger, B: Ledger, N: DeskName> Shared<
     }
 
     /// Notes for those who look at the service how a refresh ended.
-    fn note_refresh(&self, job: &Job, number: u32, is_listed: bool, fault: Text) {
-        let Ok(note) = self.note_of(job, number, is_listed, fault) else {
+    fn note_refresh(&self, job: &Job, number: u32, counts: Option<ListCounts>, fault: Text) {
+        let Ok(note) = self.note_of(job, number, counts, fault) else {
             return;
         };
         if self.state.note_refresh(&self.rt, note).is_err() {
@@ -198,9 +249,10 @@ impl<R: Wait + Clock + Eprint + Copy, L: Ledger, B: Ledger, N: DeskName> Shared<
         &self,
         job: &Job,
         number: u32,
-        is_listed: bool,
+        counts: Option<ListCounts>,
         fault: Text,
     ) -> Result<SourceNote, AllocError> {
+        let is_listed = counts.is_some();
         let job = job.name.copy()?;
         let at = timestamp(&self.rt, self.alloc).ok_or(AllocError)?;
         Ok(SourceNote {
@@ -211,6 +263,7 @@ impl<R: Wait + Clock + Eprint + Copy, L: Ledger, B: Ledger, N: DeskName> Shared<
             succeeded: if is_listed { self.seconds_now() } else { 0 },
             at: Text::from_string(at),
             fault,
+            counts,
         })
     }
 
@@ -219,19 +272,6 @@ impl<R: Wait + Clock + Eprint + Copy, L: Ledger, B: Ledger, N: DeskName> Shared<
         match self.rt.since_1970() {
             Ok(now) => now.as_secs(),
             Err(_) => 0,
-        }
-    }
-
-    /// What a source lists, by what asking it came to. The job's rules are compiled for each refresh.
-    fn list_of(
-        &self,
-        job: &Job,
-        number: u32,
-        fetched: &Result<Reply, FetchFault>,
-    ) -> Result<Event, RefreshError> {
-        match Rules::read(self.alloc, job.rules.as_slice()) {
-            Ok(rules) => heard(self.alloc, job, &rules, number, fetched),
-            Err(_) => Err(RefreshError::Memory),
         }
     }
 
@@ -253,32 +293,11 @@ impl<R: Wait + Clock + Eprint + Copy, L: Ledger, B: Ledger, N: DeskName> Shared<
     }
 }
 
-/// Why there is no answer, where there is none.
-fn cause_of(fetched: &Result<Reply, Cause>) -> Option<Cause> {
-    match fetched {
-        Ok(_) => None,
-        Err(cause) => Some(*cause),
-    }
-}
-
-/// What asking came to, as lists know it.
-fn with_fault(fetched: Result<Reply, Cause>) -> Result<Reply, FetchFault> {
-    match fetched {
-        Ok(reply) => Ok(reply),
-        Err(cause) => Err(cause.fault()),
-    }
-}
-
-/// Why a source gave no list, in words. Empty where it gave one.
-fn fault_in(
-    alloc: Global,
-    list: &Result<Event, RefreshError>,
-    cause: Option<Cause>,
-) -> Result<Text, AllocError> {
-    match (list, cause) {
-        (Ok(_), _) => Text::from_str(alloc, ""),
-        (Err(_), Some(cause)) => Text::from_str(alloc, cause.text()),
-        (Err(error), None) => Ok(Text::from_string(format!(in alloc; "{error}")?)),
+/// How a job's source is asked over HTTP.
+fn wanted_over_http(alloc: Global, job: &Job, number: u32) -> Option<Wanted> {
+    match get_of_source(alloc, job, number) {
+        Ok(Some(get)) => Some(Wanted::Get(get)),
+        Ok(None) | Err(AllocError) => None,
     }
 }
 
@@ -288,6 +307,18 @@ fn url_of(job: &Job, number: u32) -> &str {
     match job.http_urls.as_slice().get(index) {
         Some(url) => url.as_str(),
         None => "",
+    }
+}
+
+/// What a list has, where there is one.
+fn counts_in(list: &Result<Listing, Failure>) -> Option<ListCounts> {
+    match list {
+        Ok(listing) => Some(ListCounts {
+            targets: targets_in(&listing.event),
+            dropped: listing.dropped as u64,
+            without_address: listing.no_address as u64,
+        }),
+        Err(_) => None,
     }
 }
 

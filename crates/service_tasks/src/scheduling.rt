@@ -56,6 +56,8 @@ pub struct Schedule<C> {
     /// Since when the journal is known to be broken.
     pub(crate) broken: Option<Instant>,
     pub(crate) failed_accepts: FailedAccepts,
+    /// When it was looked at the process last.
+    pub(crate) process_seen: Option<Instant>,
     /// Who holds what, as the last allocation had it.
     pub(crate) held: Vec<(TargetId, CollectorId)>,
 }
@@ -81,6 +83,7 @@ impl<C> Schedule<C> {
             is_hanging: false,
             broken: None,
             failed_accepts: FailedAccepts::new(),
+            process_seen: None,
             held: Vec::new(alloc),
         }
     }
@@ -119,6 +122,7 @@ impl<R: Wait + Clock + Eprint + Copy, L: Ledger, B: Ledger, N: DeskName> Shared<
             self.log_changes();
             self.log_failed_accepts(schedule);
             self.watch_device(schedule);
+            self.look_at_process(schedule);
             if self.state.is_quitting() {
                 self.control.end(&self.rt, Ending::Quit);
             }

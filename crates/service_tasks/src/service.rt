@@ -43,7 +43,8 @@ pub(crate) struct JobText {
     pub(crate) text: Text,
 }
 
-/// A discovery source: entry `number - 1` of the `http_sd_configs` of the job at a place in the configuration.
+/// A discovery source: entry `number - 1` of the `http_sd_configs` of the job at a place in the configuration, behind which its
+/// `file_sd_configs` stand.
 #[derive(Clone, Copy, Debug, PartialEq, Eq)]
 pub(crate) struct SourceSettings {
     pub(crate) job: usize,

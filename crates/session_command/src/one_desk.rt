@@ -13,7 +13,7 @@ use collector_pool::Open;
 use lists::Text;
 use sd_documents::scrape_configs_text;
 use sd_server::{Handler, ListTexts, serve_one_by_one};
-use service_state::{ConfigPages, ServiceState};
+use service_state::{ConfigPages, Lifecycle, ServiceState};
 use session::{Session, total_line};
 use session_rounds::{begin, run_rounds};
 use std::alloc::{AllocError, AllocGlobal, Global};
@@ -139,7 +139,11 @@ fn handler_of<R: Copy, L: Ledger, B: Ledger, N: DeskName>(
     pass: Pass<L, B, N>,
 ) -> Result<Handler<R, L, B, N>, AllocError> {
     let pages = pages_of(alloc, session)?;
-    let state = shared(alloc, ServiceState::new(alloc, false, 0))?;
+    let lifecycle = Lifecycle {
+        reload: false,
+        quit: false,
+    };
+    let state = shared(alloc, ServiceState::new(alloc, lifecycle, 0))?;
     let texts = shared(alloc, ListTexts::new(alloc))?;
     let doors = shared(alloc, Admission::open())?;
     let desk = shared(alloc, desk)?;

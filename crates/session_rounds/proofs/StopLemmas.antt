@@ -1,6 +1,6 @@
 -- What stops a part of a session stops the whole.
 use Rattle.std.proofs.Common.{◌≡◌, ℕ, zero, suc, ◌<◌, ◌≤◌, List, [], ◌∷◌, refl, sym, subst, arith, inl, inr, length, get_or, map}
-use Rattle.std.specs.Prelude.{Bool, true, false, Option, Some, None, Result, Ok, Err, Any, IfErr, IsErrAnd, IsSomeAnd, ◌⊎◌, ◌≢◌, ◌==◌, if◌then◌else◌}
+use Rattle.std.specs.Prelude.{Option, Some, None, Result, Ok, Err, Any, IfErr, IsErrAnd, IsSomeAnd, ◌⊎◌, ◌≢◌}
 use Rattle.serde_json.specs.View.{items_view}
 use Rattle.sd_documents.specs.declared.config.Job.{Job}
 use Rattle.sd_documents.specs.declared.group.Group.{Group}
@@ -12,12 +12,12 @@ use Rattle.relabel.specs.declared.error.RulesError.{RulesError}
 use Rattle.relabel.specs.declared.rule.RuleSettings.{RuleSettings}
 use Rattle.fleet_events.specs.declared.event.Event.{Event}
 use Rattle.http_get.specs.declared.error.RefreshError.{RefreshError}
-use Rattle.http_get.specs.declared.error.RefreshError.TheVariants.{Media, NoSource, Status}
+use Rattle.http_get.specs.declared.error.RefreshError.TheVariants.{NoSource}
 use Rattle.http_get.specs.declared.error.RefreshError.TheVariants as refresh
 use Rattle.http_get.specs.declared.get.Get.{Get}
 use Rattle.http_get.specs.declared.reply.FetchFault.{FetchFault}
 use Rattle.http_get.specs.declared.reply.Reply.{Reply}
-use Rattle.http_get.specs.Discoveries.{discover_event, groups_said, is_json, unanswered, ◌>>=◌}
+use Rattle.http_get.specs.Discoveries.{discover_event, groups_answered, unanswered, ◌>>=◌}
 use Rattle.http_get.specs.Refreshing.{IsRefresh, Refreshed, RefreshedBy, source_get}
 use Rattle.allocation_core.specs.State.{State}
 use Rattle.alloc_desk.specs.Counts.{Counts}
@@ -108,20 +108,8 @@ module _ (job : Job) (rules : List RuleSettings) (source : ℕ) (event : Event) 
   groups_listed (Ok groups) is = (source, groups, cc)
   groups_listed (Err fault) is = absurd (never_listed event fault is)
 
-  body_listed :
-      (reply : Reply) (json : Bool) → (if json then (groups_said reply.body >>= (λ g. Ok (discover_event job rules source g))) else Err Media) ≡ Ok event → IsListed job rules event
-  body_listed reply true is = groups_listed (groups_said reply.body) is
-  body_listed reply false is = absurd (never_listed event Media is)
-
-  found_listed :
-      (reply : Reply) (fine : Bool)
-      → (if fine then (if is_json reply.media then (groups_said reply.body >>= (λ g. Ok (discover_event job rules source g))) else Err Media) else Err (Status reply.status)) ≡ Ok event
-      → IsListed job rules event
-  found_listed reply true is = body_listed reply (is_json reply.media) is
-  found_listed reply false is = absurd (never_listed event (Status reply.status) is)
-
   came_listed : (came : Result Reply FetchFault) → IsRefresh job rules source came (Ok event) → IsListed job rules event
-  came_listed (Ok reply) is = found_listed reply (reply.status == 200) is
+  came_listed (Ok reply) is = groups_listed (groups_answered reply) is
   came_listed (Err fault) is = absurd (never_listed event (unanswered fault) (sym is))
 
   module _ {S : Type 0} (may : S → Get → Result Reply FetchFault → S → Type 0) (old new : S) where

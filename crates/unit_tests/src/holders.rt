@@ -153,6 +153,8 @@ fn are_thousand(holders: &Holders) -> bool {
         && holders.holder(501, 1).is_none()
         && holders.holder(0, 0).is_none()
         && holders.holder(1001, 0).is_none()
+        && holders.held_since(0) == Some(1000)
+        && holders.held_since(2).is_none()
         && holders.current_pairs() == [(0, 1), (1, 3)].as_slice()
 }
 
@@ -178,9 +180,19 @@ fn tells_apart(alloc: Global) -> Result<bool, HoldersError> {
     let mut holders = Holders::open(alloc);
     let mut whole = WholeLists::open(alloc);
     match publish_sixty(alloc, &mut holders, &mut whole) {
-        Ok(()) => agree_up_to(alloc, &holders, &whole, 60),
+        Ok(()) => Ok(agree_since(&holders, &whole) && agree_up_to(alloc, &holders, &whole, 60)?),
         Err(error) => Err(error),
     }
+}
+
+/// Whether both say the same of since when each target is held.
+fn agree_since(holders: &Holders, whole: &WholeLists) -> bool {
+    for id in 0..8 {
+        if holders.held_since(id) != whole.held_since(holders.current(), id) {
+            return false;
+        }
+    }
+    true
 }
 
 /// Publishes sixty allocations that look random.

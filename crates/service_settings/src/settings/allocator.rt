@@ -14,6 +14,7 @@ use crate::settings::collector_timeout::{CollectorTimeout, collector_timeout_in}
 use crate::settings::collectors::{Collector, collectors_in};
 use crate::settings::handover::{Handover, handover_in};
 use crate::settings::joining_pattern::{JoiningPattern, join_by_asking_in};
+use crate::settings::lifecycle::{Lifecycle, lifecycle_in};
 use crate::settings::reach_changes::{ReachChanges, reach_changes_in};
 use crate::settings::release_after::{ReleaseAfter, release_after_in};
 use crate::settings::spread::{Spread, spread_in};
@@ -29,7 +30,7 @@ use std::alloc::Global;
 #[derive(Drop)]
 pub(crate) struct Housekeeping {
     pub(crate) listen: Address,
-    pub(crate) lifecycle: bool,
+    pub(crate) lifecycle: Lifecycle,
     pub(crate) journal: Option<Text>,
     pub(crate) keep: u32,
     pub(crate) settle: u64,
@@ -62,7 +63,7 @@ pub(crate) fn housekeeping_in(
 {
     let listen = member_of(allocator, "listen");
     let listen = address_or(DEFAULT_LISTEN, Member::Listen, listen)?;
-    let lifecycle = flag_or(false, Member::Lifecycle, member_of(allocator, "lifecycle"))?;
+    let lifecycle = lifecycle_in(alloc, member_of(allocator, "lifecycle"))?;
     let journal = text_or_none(alloc, Member::Journal, member_of(allocator, "journal"))?;
     let keep = number_or(DEFAULT_KEEP, Member::Keep, member_of(allocator, "keep"))?;
     let settle = member_of(allocator, "settle");

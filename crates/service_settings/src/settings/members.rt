@@ -13,6 +13,7 @@ use std::alloc::Global;
 #[derive(Clone, Copy, Debug, PartialEq, Eq)]
 pub(crate) enum Kind {
     Allocator,
+    Lifecycle,
     Tokens,
     Collector,
     JoiningPattern,
@@ -89,6 +90,10 @@ fn has_member(kind: Kind, name: &str) -> bool
             | "release_after"
             | "spread"
             | "fetch_timeout" => true,
+            _ => false,
+        },
+        Kind::Lifecycle => match name {
+            "reload" | "quit" => true,
             _ => false,
         },
         Kind::Tokens => match name {

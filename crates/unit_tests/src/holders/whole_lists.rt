@@ -34,6 +34,19 @@ impl WholeLists {
         None
     }
 
+    /// From which number on the holder of a number has a target at each.
+    pub(super) fn held_since(&self, number: u32, target: u32) -> Option<u32> {
+        let holder = self.holder(number, target)?;
+        let mut since = number;
+        for back in 1..number {
+            if self.holder(number - back, target) != Some(holder) {
+                return Some(since);
+            }
+            since = number - back;
+        }
+        Some(since)
+    }
+
     pub(super) fn held(
         &self,
         alloc: Global,

@@ -1,0 +1,5 @@
+mod Behind
+mod Folders
+mod InOrder
+mod Others
+mod Prefixing

@@ -1,0 +1,9 @@
+//! A file that was read.
+use lists::{List, Text};
+
+/// A file that was read.
+#[derive(Debug, Drop)]
+pub struct FileText {
+    pub path: Text,
+    pub body: List<u8>,
+}

@@ -1,0 +1,38 @@
+//! The entity tags of lists, which may be known.
+ghost use Rattle.std.specs.Prelude.{◌≡◌, IfOk};
+ghost use Rattle.http_header.specs.FieldValue.{plain_value};
+ghost use Rattle.entity_tags.specs.Tags.{tag_of};
+
+use crate::list_texts::ListTexts;
+use alloc_desk::DeskName;
+use bytes::Bytes;
+use entity_tags::entity_tag;
+use http_header::HeaderValue;
+use sd_routes::ListHead;
+use std::alloc::{AllocError, Global};
+use std::sync::{Arc, Wait};
+
+/// The entity tags of the lists that collectors took.
+#[derive(Drop)]
+pub(crate) struct Tags<R, N: DeskName> {
+    pub(crate) rt: R,
+    pub(crate) texts: Arc<ListTexts<N>>,
+}
+
+/// The entity tag of a list with this head.
+pub(crate) fn list_tag<R: Wait, N: DeskName>(
+    alloc: Global,
+    tags: &Option<Tags<R, N>>,
+    head: &ListHead,
+    groups: &Bytes,
+) -> Result<HeaderValue, AllocError>
+    ensures { IfOk result (λ tag. tag ≡ plain_value (tag_of groups.now)) }
+{
+    match tags {
+        Some(tags) => {
+            let edition = u64::from(head.allocation);
+            tags.texts.tags.tag(&tags.rt, alloc, edition, groups)
+        }
+        None => entity_tag(alloc, groups.as_slice()),
+    }
+}

@@ -1,0 +1,86 @@
+//! What asking a source comes to.
+use file_configs::{FileText, FilesFault, groups_of_files};
+use http_get::{Cause, FetchFault, Listing, RefreshError, Reply, heard, listed_in_files};
+use lists::{List, Text};
+use relabel::Rules;
+use sd_documents::Job;
+use std::alloc::{AllocError, Global};
+
+/// What asking a source came to.
+#[derive(Drop)]
+pub(crate) enum Came {
+    /// This was answered.
+    Reply(Reply),
+    /// There is no answer.
+    Nothing(Cause),
+    /// These are its files.
+    Files(List<FileText>),
+    /// Its files cannot be read.
+    NoFiles(FilesFault),
+}
+
+/// Why a source gave no list.
+#[derive(Drop)]
+pub(crate) enum Failure {
+    Nothing(Cause),
+    Refused(RefreshError),
+    Files(FilesFault),
+}
+
+impl Came {
+    /// What the job's source of this number lists. The job's rules are compiled for each refresh.
+    pub(crate) fn list(self, alloc: Global, job: &Job, number: u32) -> Result<Listing, Failure> {
+        match self {
+            Came::Reply(reply) => list_in_reply(alloc, job, number, reply),
+            Came::Nothing(cause) => Err(Failure::Nothing(cause)),
+            Came::Files(files) => list_in_files(alloc, job, number, files.as_slice()),
+            Came::NoFiles(fault) => Err(Failure::Files(fault)),
+        }
+    }
+}
+
+fn list_in_reply(alloc: Global, job: &Job, number: u32, reply: Reply) -> Result<Listing, Failure> {
+    let fetched: Result<Reply, FetchFault> = Ok(reply);
+    match Rules::read(alloc, job.rules.as_slice()) {
+        Ok(rules) => match heard(alloc, job, &rules, number, &fetched) {
+            Ok(listing) => Ok(listing),
+            Err(error) => Err(Failure::Refused(error)),
+        },
+        Err(_) => Err(Failure::Nothing(Cause::Memory)),
+    }
+}
+
+fn list_in_files(
+    alloc: Global,
+    job: &Job,
+    number: u32,
+    files: &[FileText],
+) -> Result<Listing, Failure> {
+    match (
+        Rules::read(alloc, job.rules.as_slice()),
+        groups_of_files(alloc, files),
+    ) {
+        (Ok(rules), Ok(groups)) => match listed_in_files(
+            alloc,
+            job,
+            &rules,
+            number,
+            groups.as_slice(),
+        ) {
+            Ok(listing) => Ok(listing),
+            Err(AllocError) => Err(Failure::Nothing(Cause::Memory)),
+        },
+        (Ok(_), Err(fault)) => Err(Failure::Files(fault)),
+        (Err(_), _) => Err(Failure::Nothing(Cause::Memory)),
+    }
+}
+
+/// Why a source gave no list, in words. Empty where it gave one.
+pub(crate) fn fault_in(alloc: Global, list: &Result<Listing, Failure>) -> Result<Text, AllocError> {
+    match list {
+        Ok(_) => Text::from_str(alloc, ""),
+        Err(Failure::Nothing(cause)) => Text::from_str(alloc, cause.text()),
+        Err(Failure::Refused(error)) => Ok(Text::from_string(format!(in alloc; "{error}")?)),
+        Err(Failure::Files(fault)) => Ok(Text::from_string(format!(in alloc; "{fault}")?)),
+    }
+}
