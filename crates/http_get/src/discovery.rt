@@ -1,6 +1,6 @@
 //! What the answer of a discovery source says.
 ghost use Rattle.std.specs.Prelude.{◌≡◌, ◌≤◌, length, IfOk};
-ghost use Rattle.http_get.specs.Discoveries.{Gives, groups_said, groups_answered, discover_event, found_said, files_listing, listing, listing_from, listed_said};
+ghost use Rattle.http_get.specs.Discoveries.{Gives, groups_said, groups_answered, found_said, files_listing, listing, listing_from, listed_said};
 
 use crate::error::RefreshError;
 use crate::reply::Reply;
