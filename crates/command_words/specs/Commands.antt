@@ -3,6 +3,7 @@ use Rattle.std.specs.Prelude.{ℕ, [], Some, true, codes}
 use Rattle.clap.specs.Words.{App, Rule, Text, new_app, new_rule, with_rule, with_subcommand}
 use Rattle.clap.specs.declared.builder.action.ArgAction.TheVariants.{Set, SetTrue, Append}
 use Rattle.clap.specs.declared.builder.value_parser.ValueParser.TheVariants.{NonEmptyString, Unsigned}
+use Rattle.command_words.specs.declared.limits.TheConstants.{MOST_PERCENT, MOST_BINS_IN_A_ROW, GREATEST_NUMBER}
 
 -- an option that has a value, which is not empty
 abbrev pub option_rule : Text → Rule
@@ -32,9 +33,9 @@ check = new_app (codes "check")
 
 abbrev pub plan : App
 plan = with_rule (with_rule (with_rule (new_app (codes "plan"))
-    (number_rule (codes "spread") 0 1000))
-    (number_rule (codes "jobs") 1 16384))
-    (number_rule (codes "most-moves") 0 4294967295)
+    (number_rule (codes "spread") 0 MOST_PERCENT))
+    (number_rule (codes "jobs") 1 MOST_BINS_IN_A_ROW))
+    (number_rule (codes "most-moves") 0 GREATEST_NUMBER)
 
 abbrev pub relabel : App
 relabel = new_app (codes "relabel")

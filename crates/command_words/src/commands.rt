@@ -3,6 +3,7 @@ ghost use Rattle.std.specs.Prelude.{◌≡◌, IfOk};
 ghost use Rattle.clap.specs.Words.{app_of, new_app};
 ghost use Rattle.command_words.specs.Commands.{alone as alone_app, audit as audit_app, plan as plan_app, program as program_app, seal as seal_app, serve as serve_app, with_others as with_others_app, with_readers as with_readers_app};
 
+use crate::limits::{GREATEST_NUMBER, MOST_BINS_IN_A_ROW, MOST_PERCENT};
 use crate::options::{file, files, flag, number_option, option, required_option};
 use clap::Command;
 use std::alloc::{AllocError, Global};
@@ -179,9 +180,16 @@ fn plan<'a>(alloc: Global) -> Result<Command<'a>, AllocError>
     ensures { IfOk result (λ c. app_of c ≡ plan_app) }
 {
     told(alloc, "plan", PLAN, PLAN_ENDS)
-        .arg(number_option(alloc, "spread", "PERCENT", SPREAD, 0, 1000))?
-        .arg(number_option(alloc, "jobs", "NUMBER", JOBS, 1, 16384))?
-        .arg(number_option(alloc, "most-moves", "NUMBER", MOST_MOVES, 0, 4294967295))
+        .arg(number_option(alloc, "spread", "PERCENT", SPREAD, 0, MOST_PERCENT))?
+        .arg(number_option(alloc, "jobs", "NUMBER", JOBS, 1, MOST_BINS_IN_A_ROW))?
+        .arg(number_option(
+            alloc,
+            "most-moves",
+            "NUMBER",
+            MOST_MOVES,
+            0,
+            GREATEST_NUMBER,
+        ))
 }
 
 fn audit<'a>(alloc: Global) -> Result<Command<'a>, AllocError>

@@ -5,6 +5,7 @@
 
 mod asked;
 mod commands;
+mod limits;
 mod options;
 mod refusal;
 
