@@ -891,6 +891,35 @@ def lists_of_reports(folder):
     tell("a replay answers as the service did", (status, booked) == (0, [0, 1, 2, 3, 4, 5]), booked)
 
 
+def books_of(service, job):
+    """How many targets of a job were reported as up and as down in the last round, and of how many nothing was reported."""
+    return tuple(service.figure(f'allocd_reports_{what}{{job="{job}"}}') for what in ("up", "down", "missing"))
+
+
+def round_books(folder):
+    """The figures tell what was reported in the last round."""
+    service = started(folder, [static("n", 4), static("m", 2)], interval="4s")
+    tell("before a round is over they are 0", (books_of(service, "n"), books_of(service, "m")) == ((0, 0, 0), (0, 0, 0)))
+    has(service, "allocd_allocation", 1)
+    last = service.figure("allocd_round")
+    changes_from(service, last)
+    for job in "nm":
+        head = headers_of(service, f"/jobs/{job}/targets?collector_id=a")[0]
+    groups = json.loads(headers_of(service, "/jobs/n/targets?collector_id=a&take=false")[1])
+    numbers = [int(group["labels"]["__meta_allocator_target"]) for group in groups]
+    shared = {name: int(head[f"x-{header}"]) for name, header in (("number", "allocation-number"), ("round", "scrape-round"), ("collector", "collector"))}
+    reports = [{"target": numbers[0], "up": True, "samples": 3}, {"target": numbers[1], "up": True, "samples": 3}, {"target": numbers[2], "up": False}]
+    answers = json.loads(service.ask("POST", "/reports", {**shared, "reports": reports})[1])["answers"]
+    tell("three of six are reported", answers == ["Booked"] * 3, answers)
+    changes_from(service, shared["round"])
+    told = comes(lambda: books_of(service, "n") == (2, 1, 1), 2)
+    tell("of a job two are up, one is down and one is missing", told, books_of(service, "n"))
+    tell("of the other both are missing", books_of(service, "m") == (0, 0, 2), books_of(service, "m"))
+    changes_from(service, shared["round"] + 1)
+    tell("in the next round all are missing", comes(lambda: (books_of(service, "n"), books_of(service, "m")) == ((0, 0, 4), (0, 0, 2)), 2), books_of(service, "n"))
+    ends(service)
+
+
 def entity_tags(folder):
     """A list that is the same is not sent again to who shows its tag."""
     service = started(folder, [static("node", 4)])
@@ -1198,5 +1227,5 @@ def files(folder):
 SOURCE = http.server.ThreadingHTTPServer(("127.0.0.1", 0), Source)
 SOURCE.daemon_threads = True
 threading.Thread(target=SOURCE.serve_forever, daemon=True).start()
-PARTS = (settings, relabels, reloads, uncovered, texts, page, job_pages, collector_pages, since, series, figures, process, takes, talks, requests, lifecycles, held_rows, stalls, rounds, rounds_kept, silences, yaml, lists_of_reports, entity_tags, acknowledge, spreads, spreads_by_job, evens, evens_in_turn, names, files)
+PARTS = (settings, relabels, reloads, uncovered, texts, page, job_pages, collector_pages, since, series, figures, process, takes, talks, requests, lifecycles, held_rows, stalls, rounds, rounds_kept, silences, yaml, lists_of_reports, round_books, entity_tags, acknowledge, spreads, spreads_by_job, evens, evens_in_turn, names, files)
 run_parts(PARTS, sys.argv[1:])

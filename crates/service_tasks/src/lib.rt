@@ -7,6 +7,7 @@
 mod answers;
 mod attendance;
 mod beginning;
+mod booking;
 mod changing;
 mod configuration;
 mod control;

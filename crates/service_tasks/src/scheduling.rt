@@ -163,6 +163,9 @@ impl<R: Wait + Clock + Eprint + Copy, L: Ledger, B: Ledger, N: DeskName> Shared<
         };
         schedule.start = RoundStart::open_for(now, self.age_of_next(open));
         self.note_round(schedule);
+        if let Answer::RoundOpen(round) = &answer {
+            self.note_books(pass, round.saturating_sub(1));
+        }
         if matches!(answer, Answer::Not(_)) {
             self.log_answer("the next round", &answer);
         }
