@@ -43,11 +43,11 @@ with_no_other fields = (codes "x-content-type-options", plain_value (codes "nosn
 abbrev pub media_headers : List ℕ → Entries FieldValue
 media_headers media = (codes "content-type", plain_value media ∷ []) ∷ with_no_other []
 
--- a page for people: what it may load (Content Security Policy Level 3)
+-- a page for people: what it may load, and whom its form asks (Content Security Policy Level 3)
 abbrev pub document_headers : Entries FieldValue
 document_headers =
     (codes "content-type", plain_value (codes "text/html; charset=utf-8") ∷ [])
-    ∷ with_no_other ((codes "content-security-policy", plain_value (codes "default-src 'none'; style-src 'unsafe-inline'; form-action 'none'; frame-ancestors 'none'") ∷ []) ∷ [])
+    ∷ with_no_other ((codes "content-security-policy", plain_value (codes "default-src 'none'; style-src 'unsafe-inline'; form-action 'self'; frame-ancestors 'none'") ∷ []) ∷ [])
 
 abbrev pub json_headers : Entries FieldValue
 json_headers = media_headers (codes "application/json")

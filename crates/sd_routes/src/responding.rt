@@ -22,9 +22,9 @@ use http_body_util::Full;
 use lists::{List, Text};
 use std::alloc::{AllocError, Global};
 
-/// What the page for people may load (Content Security Policy Level 3): nothing but the style in it.
+/// What a page for people may load (Content Security Policy Level 3): nothing but the style in it. Its form asks the service itself.
 const POLICY: &str =
-    "default-src 'none'; style-src 'unsafe-inline'; form-action 'none'; frame-ancestors 'none'";
+    "default-src 'none'; style-src 'unsafe-inline'; form-action 'self'; frame-ancestors 'none'";
 
 /// What a request is answered with.
 #[derive(Debug, Drop)]
