@@ -111,6 +111,12 @@ def relabels(folder):
     reloaded(service, config([*jobs, {"job_name": "three", **found, "relabel_configs": [*drops, bare]}, {"job_name": "four", "http_sd_configs": [url("/none", port=1)]}]))
     tell("and how many have no address then", comes(lambda: of("three") == (0, 1, 1), 20), of("three"))
     tell("nothing where a source gave no list", of("four") == (0, 0, 0), of("four"))
+    sources = [it for job in ("three", "four") for it in json.loads(service.ask("GET", f"/jobs/{job}")[1])["sources"]]
+    told = [[it[name] for name in ("targets", "dropped", "without_address")] for it in sources]
+    tell("each job tells it of its sources, and that a source gave no list", told == [[0, 1, 1], [None] * 3], told)
+    rows = {row[0]: row[3:6] for path in ("/", "/jobs/three", "/jobs/four") for row in seen(service, path)[0].tables["Discovery sources"]}
+    counted, none = [rows[it] for it in ("three/1", url("/rules")["url"])], [rows[it] for it in ("four/1", url("/none", port=1)["url"])]
+    tell("so do the pages", (counted, none) == ([["0", "1", "1"]] * 2, [[""] * 3] * 2), rows)
     ends(service)
 
 
