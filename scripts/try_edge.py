@@ -319,6 +319,8 @@ def job_pages(folder):
     tell("the first of the media types decides", found == ["application/json"] * 3 + ["application/yaml"] + ["text/html; charset=utf-8"] * 2, found)
     tell("what has no page is told as before", (media(BROWSER, "/jobs"), media(BROWSER, "/collectors")) == ("application/json",) * 2)
     length = len(seen(service, "/jobs/lone")[1].encode())
+    varies = [headers_of(service, "/jobs/lone", accept)[0]["vary"] for accept in (None, BROWSER, "application/yaml")]
+    tell("each form says that there are others", varies == ["accept"] * 3, varies)
     tell("HEAD has the head of the same", head_of(service, "/jobs/lone", BROWSER) == (200, "text/html; charset=utf-8", str(length)), head_of(service, "/jobs/lone", BROWSER))
     reloaded(service, config([static("many", 1500)]))
     comes(lambda: service.ask("GET", "/jobs/many")[0] == 200 and of("many")["covered"] == 1500, 20)
@@ -670,7 +672,7 @@ ROWS = [
 ]
 # To a service whose one target is held by its collector 1, `h`.
 HELD_ROWS = [
-    ("GET", "/jobs/j/targets?collector_id=h", b"", b"200 OK\r\n" + JSON + b"x-allocation-number: 1\r\nx-scrape-round: 1\r\n", b"\r\n\r\n[" + GROUP + b"]"),
+    ("GET", "/jobs/j/targets?collector_id=h", b"", b"200 OK\r\n" + JSON + b"vary: accept\r\nx-allocation-number: 1\r\nx-scrape-round: 1\r\n", b"\r\n\r\n[" + GROUP + b"]"),
     ("GET", "/jobs/j/targets", b"", b"200 OK\r\n" + JSON,
      b'\r\n\r\n{"h":{"_link":"/jobs/j/targets?collector_id=h","targets":[' + GROUP + b"]}}"),
     ("GET", "/certificate", b"", b"200 OK\r\n" + JSON,
@@ -896,10 +898,10 @@ def yaml(folder):
         as_json = headers_of(service, path)[1]
         said = [(headers_of(service, path, accept), accept, is_yaml) for accept, is_yaml in ACCEPTS]
         media = lambda is_yaml: "application/yaml" if is_yaml else "application/json"
-        right = all(text == as_json and headers["content-type"] == media(is_yaml) for (headers, text), _, is_yaml in said)
+        right = all((text, headers["content-type"], headers["vary"]) == (as_json, media(is_yaml), "accept") for (headers, text), _, is_yaml in said)
         tell(f"{path} is YAML for who asks for that, in the same bytes", right)
     headers, text = headers_of(service, "/jobs/none/targets", "application/yaml")
-    tell("a refusal is JSON", (headers["content-type"], text) == ("application/json", '{"refused":"UnknownJob"}'))
+    tell("a refusal is JSON", (headers["content-type"], headers["vary"], text) == ("application/json", None, '{"refused":"UnknownJob"}'))
     ends(service)
 
 
@@ -946,6 +948,8 @@ def entity_tags(folder):
     status, headers, text = shows(tag)
     tell("who shows it is told that the list is the same", (status, text, headers["etag"], headers["x-allocation-number"]) == (304, "", tag, "1"), (status, text, headers.items()))
     tell("and has taken it", service.figure('allocd_collector_taken_allocation{collector="a"}') == 1)
+    counted = [service.figure('allocd_http_requests_total{route="/jobs/{job}/targets?collector_id",status="%s"}' % status) for status in ("200", "304")]
+    tell("it is counted as 304, and the list before as 200", counted == [1, 1], counted)
     tell("it may stand among others, and be weak", [shows(f'"x", W/{tag}')[0], shows(f'{tag},"y"')[0]] == [304, 304])
     tell("another one is none", [shows(f'"x{tag[1:]}')[0], shows(tag.strip('"'))[0], shows('"x", "y"')[0]] == [200, 200, 200])
     tell("as YAML it has none", (headers_of(service, path, "application/yaml")[0]["etag"], answer_of(service, path, {"accept": "application/yaml", "if-none-match": tag})[0]) == (None, 200))
