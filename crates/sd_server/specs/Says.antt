@@ -290,8 +290,10 @@ abbrev pub IsFoundText : List ℕ → Type 0
 IsFoundText text =
     (all : ℕ) × ((found : List FoundTarget) × (length found ≤ MOST_FOUND) × (text ≡ compact_text (found_data all found)))
 
+-- the same in JSON, or a page for people
 abbrev pub SaysFound : Said → Type 0
 SaysFound (Page page) = IsFoundText page
+SaysFound (Document text) = Unit {0}
 SaysFound (Refused error) = error ≡ Memory
 SaysFound _ = ⊥
 

@@ -16,6 +16,7 @@ mod counter;
 mod documents;
 mod entry;
 mod found;
+mod found_state;
 mod handler;
 mod job_state;
 mod keeping;

@@ -101,7 +101,7 @@ impl<R: Wait + Clock + Copy, L: Ledger, B: Ledger, N: DeskName> Handler<R, L, B,
     }
 
     /// The numbers of the known targets that have a text. What is known is never changed, so they are looked at by and by.
-    fn matching(&self, text: &str) -> Result<Vec<TargetId>, AllocError> {
+    pub(crate) fn matching(&self, text: &str) -> Result<Vec<TargetId>, AllocError> {
         let mut numbers = Vec::new(self.alloc);
         let times = self.known_count() / LOOKED_AT_ONCE + 1;
         for time in 0..times {
