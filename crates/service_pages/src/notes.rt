@@ -38,7 +38,7 @@ pub struct AllocationNote {
     pub at: Text,
     /// How many targets somebody holds.
     pub covered: u64,
-    /// How many targets another live collector held before.
+    /// How many live targets a live collector held before and does not hold any more.
     pub moved: u64,
     /// How many targets are left with a draining collector.
     pub left: u64,

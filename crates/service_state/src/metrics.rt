@@ -410,7 +410,7 @@ fn write_last_allocation(page: &mut Exposition, notes: &Notes) -> Result<(), All
     write_gauge(
         page,
         "allocd_allocation_moved",
-        "Targets that another collector held before the last published allocation.",
+        "Targets that the last published allocation took from the collector that held them.",
         u128::from(moved),
     )?;
     write_gauge(

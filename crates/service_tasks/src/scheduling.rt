@@ -11,7 +11,7 @@ use crate::service::JobText;
 use crate::shared::Shared;
 use alloc_desk::{DeskName, MOST_ENTRIES, Pass, Reallocated};
 use fleet::MOST_KNOWN_TARGETS;
-use fleet_events::{Answer, CollectorId, Event, TargetId};
+use fleet_events::{Answer, Event};
 use lists::List;
 use log::info;
 use logfmt::Logfmt;
@@ -58,8 +58,6 @@ pub struct Schedule<C> {
     pub(crate) failed_accepts: FailedAccepts,
     /// When it was looked at the process last.
     pub(crate) process_seen: Option<Instant>,
-    /// Who holds what, as the last allocation had it.
-    pub(crate) held: Vec<(TargetId, CollectorId)>,
 }
 
 impl<C> Schedule<C> {
@@ -84,7 +82,6 @@ impl<C> Schedule<C> {
             broken: None,
             failed_accepts: FailedAccepts::new(),
             process_seen: None,
-            held: Vec::new(alloc),
         }
     }
 
@@ -108,8 +105,6 @@ impl<R: Wait + Clock + Eprint + Copy, L: Ledger, B: Ledger, N: DeskName> Shared<
     }
 
     fn take_turns<C: Configuration>(&self, pass: &mut Pass<L, B, N>, schedule: &mut Schedule<C>) {
-        schedule.held.clear();
-        self.remember_held(pass, schedule);
         self.remember_names(pass);
         schedule.handovers.look_anew();
         for _ in self.rt.forever() {
@@ -215,7 +210,7 @@ impl<R: Wait + Clock + Eprint + Copy, L: Ledger, B: Ledger, N: DeskName> Shared<
             Ok(Reallocated::Published(number)) => {
                 schedule.is_evening = self.bounds_moves();
                 self.log_published(number);
-                self.note_published(pass, schedule, number, milliseconds);
+                self.note_published(pass, number, milliseconds);
             }
             Ok(Reallocated::Unchanged(_)) => schedule.is_evening = false,
             Err(NotReallocated::Overtaken) => {
