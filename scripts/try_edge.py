@@ -459,7 +459,7 @@ COUNTED = {
     "allocd_journal_broken": 0,
 }
 PROCESS = ("resident_memory_bytes", "virtual_memory_bytes", "cpu_seconds_total", "open_fds", "max_fds")
-READ_ONLY = ("/", "/jobs", "/scrape_configs", "/jobs/n/targets", "/jobs/n/uncovered", "/certificate", "/-/healthy", "/-/ready", "/metrics", "/nothing")
+READ_ONLY = ("/", "/jobs", "/scrape_configs", "/jobs/n/targets", "/jobs/n/uncovered", "/allocations", "/certificate", "/-/healthy", "/-/ready", "/metrics", "/nothing")
 
 
 def kernel_says(pid):
@@ -1004,6 +1004,24 @@ def spreads(folder):
         tell("a slack above 1,000 is refused by name", "allocator.spread.slack: no whole number from 0 to 1000" in it.read())
 
 
+def moves(folder):
+    service = started(folder, [static("n", 4), static("m", 2, 9200)])
+    has(service, 'allocd_targets_covered{job="n"}', 4)
+    last = lambda: json.loads(service.ask("GET", "/allocations")[1])[0]
+    tell("an allocation that gives targets for the first time moves none", [last()[name] for name in ("covered", "moved", "moves", "more_moves")] == [6, 0, [], 0], last())
+    service.ask("POST", "/collectors", {"name": "<b>", "reach": ANY})
+    service.ask("POST", "/collectors/1/drain", {})
+    rows = [{"count": 2, "from": "a", "job": "m", "to": "<b>"}, {"count": 4, "from": "a", "job": "n", "to": "<b>"}]
+    tell("what moves is told by job, and from whom to whom", comes(lambda: last()["moves"] == rows, 10) and last()["moved"] == 6 == service.figure("allocd_allocation_moved"), last())
+    cell = Page(service.ask("GET", "/")[1]).tables["Last allocations"][0][-1]
+    tell("so it is on the page", cell == "6 targets2 of m from a to <b>4 of n from a to <b>", cell)
+    service.ask("DELETE", "/collectors/1")
+    service.ask("PUT", "/collectors/2/limits", {"limits": {"m": 1}})
+    tell("what nobody holds any more moved to nobody", comes(lambda: last()["moves"] == [{"count": 1, "from": "<b>", "job": "m", "to": None}], 10), last())
+    tell("who only looks at its head is answered too", service.ask("HEAD", "/allocations")[0] == 200)
+    ends(service)
+
+
 def spreads_by_job(folder):
     both = [{"name": name, "reach": ANY} for name in "ab"]
     jobs = [static("heavy", 4, spread=0), static("light", 20, 9100), static("fixed", 6, 9200, spread="off")]
@@ -1198,5 +1216,5 @@ def files(folder):
 SOURCE = http.server.ThreadingHTTPServer(("127.0.0.1", 0), Source)
 SOURCE.daemon_threads = True
 threading.Thread(target=SOURCE.serve_forever, daemon=True).start()
-PARTS = (settings, relabels, reloads, uncovered, texts, page, job_pages, collector_pages, since, series, figures, process, takes, talks, requests, lifecycles, held_rows, stalls, rounds, rounds_kept, silences, yaml, lists_of_reports, entity_tags, acknowledge, spreads, spreads_by_job, evens, evens_in_turn, names, files)
+PARTS = (settings, relabels, reloads, uncovered, texts, page, job_pages, collector_pages, since, series, figures, process, takes, talks, requests, lifecycles, held_rows, stalls, rounds, rounds_kept, silences, yaml, lists_of_reports, entity_tags, acknowledge, spreads, moves, spreads_by_job, evens, evens_in_turn, names, files)
 run_parts(PARTS, sys.argv[1:])

@@ -38,6 +38,8 @@ pub use open_round::{RoundStart, RoundTimes};
 pub use process_figures::ProcessFigures;
 pub use reloading::{Reloading, unanswered};
 pub use routes::Route;
-pub use service_pages::{AllocationNote, Figures, ListCounts, LoadNote, SourceNote};
+pub use service_pages::{
+    AllocationNote, Figures, ListCounts, LoadNote, MoveNote, SourceNote, untold_moves,
+};
 pub use service_settings::Lifecycle;
 pub use service_state::ServiceState;

@@ -23,6 +23,7 @@ mod journal_file;
 mod keeping;
 mod letting_go;
 mod logging;
+mod moves;
 mod office;
 mod patience;
 mod process;

@@ -5,13 +5,14 @@ ghost use Rattle.alloc_desk.specs.Reached.{Reached};
 ghost use Rattle.service_tasks.specs.Published.{changes_at, changes_in};
 
 use crate::logging::{log_error, log_warning};
+use crate::moves::moves_of;
 use crate::shared::Shared;
 use alloc_desk::{DeskName, Pass};
 use allocation_core::Answer;
-use lists::Text;
+use lists::{List, Text};
 use logfmt::timestamp;
 use price_certificate::{Instance, Plan, Verdict, check};
-use service_state::AllocationNote;
+use service_state::{AllocationNote, MoveNote, untold_moves};
 use std::alloc::{AllocError, Global};
 use std::sync::Wait;
 use std::sync::ledger::Ledger;
@@ -45,7 +46,7 @@ impl<R: Wait + Clock + Eprint + Copy, L: Ledger, B: Ledger, N: DeskName> Shared<
         self.state
             .count_event(&self.rt, self.published_by(), &Answer::Published(number));
         match self.last_changes(pass) {
-            Ok(Some(changes)) => self.note_or_warn(number, changes, milliseconds),
+            Ok(Some(changes)) => self.note_or_warn(pass, number, changes, milliseconds),
             Ok(None) => log_error(
                 &self.rt,
                 "the checker refuses an allocation that was published",
@@ -63,19 +64,43 @@ impl<R: Wait + Clock + Eprint + Copy, L: Ledger, B: Ledger, N: DeskName> Shared<
         changes_of(self.alloc, &instance, &plan)
     }
 
-    fn note_or_warn(&self, number: u32, changes: Changes, milliseconds: u64) {
-        if self.note_changes(number, changes, milliseconds).is_err() {
+    fn note_or_warn(
+        &self,
+        pass: &mut Pass<L, B, N>,
+        number: u32,
+        changes: Changes,
+        milliseconds: u64,
+    ) {
+        let noted = match self.last_moves(pass, number) {
+            Ok(moves) => self.note_changes(number, changes, moves, milliseconds),
+            Err(AllocError) => Err(AllocError),
+        };
+        if noted.is_err() {
             log_warning(&self.rt, "no memory to note an allocation");
         }
+    }
+
+    /// What moved from whom to whom with the current allocation, which has this number.
+    fn last_moves(
+        &self,
+        pass: &mut Pass<L, B, N>,
+        number: u32,
+    ) -> Result<List<MoveNote>, AllocError> {
+        let alloc = self.alloc;
+        self.desk.read(&self.rt, pass, |record| {
+            moves_of(alloc, record.core(), number)
+        })
     }
 
     fn note_changes(
         &self,
         number: u32,
         changes: Changes,
+        moves: List<MoveNote>,
         milliseconds: u64,
     ) -> Result<(), AllocError> {
         let at = timestamp(&self.rt, self.alloc).ok_or(AllocError)?;
+        let more_moves = untold_moves(changes.moved, moves.as_slice());
         let note = AllocationNote {
             number,
             at: Text::from_string(at),
@@ -83,6 +108,8 @@ impl<R: Wait + Clock + Eprint + Copy, L: Ledger, B: Ledger, N: DeskName> Shared<
             moved: changes.moved,
             left: changes.left,
             milliseconds,
+            moves,
+            more_moves,
         };
         self.state.note_allocation(&self.rt, note)
     }
