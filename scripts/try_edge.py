@@ -1014,6 +1014,9 @@ def moves(folder):
     rows = [{"count": 2, "from": "a", "job": "m", "to": "<b>"}, {"count": 4, "from": "a", "job": "n", "to": "<b>"}]
     tell("what moves is told by job, and from whom to whom", comes(lambda: last()["moves"] == rows, 10) and last()["moved"] == 6 == service.figure("allocd_allocation_moved"), last())
     cell = Page(service.ask("GET", "/")[1]).tables["Last allocations"][0][-1]
+    with open(f"{folder}/log") as it:
+        line = [line for line in it if 'msg="allocation published"' in line][-1]
+    tell("how many moved is in the log", re.search(r" allocation=\d+ covered=6 moved=6 left=0 duration=\d+ms$", line), line)
     tell("so it is on the page", cell == "6 targets2 of m from a to <b>4 of n from a to <b>", cell)
     service.ask("DELETE", "/collectors/1")
     service.ask("PUT", "/collectors/2/limits", {"limits": {"m": 1}})
@@ -1135,7 +1138,7 @@ def names(folder):
     tell("a source by name is asked", has(service, 'allocd_targets_covered{job="n"}', 2))
     tell("by the name that its URL has", Source.hosts["/named"] == f"LOCALHOST:{SOURCE.server_port}", Source.hosts["/named"])
     tell("a name without an address fails, and says why", comes(lambda: "no such name" in fault_of(service, "n/2"), 10), fault_of(service, "n/2"))
-    tell("its log line too", "refresh failed: no such name" in open(f"{folder}/log").read())
+    tell("its log line too", re.search(r'msg="refresh failed" job="n" source=2 url="http://no-such-host.invalid/sd" why="no such name"$', open(f"{folder}/log").read(), re.M))
     Source.lists["/named"] = ["127.0.0.1:7401"]
     tell("a source by name is asked again", has(service, 'allocd_targets{job="n"}', 1))
     began = time.monotonic()

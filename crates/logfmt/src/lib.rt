@@ -2,9 +2,11 @@
 #![tactic(auto)]
 
 mod logfmt;
+mod milliseconds;
 mod quoted;
 mod time;
 
 pub use logfmt::Logfmt;
+pub use milliseconds::Milliseconds;
 pub use quoted::Quoted;
 pub use time::timestamp;

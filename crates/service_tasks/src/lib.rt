@@ -40,6 +40,7 @@ mod shared;
 mod sighting;
 mod source;
 mod sources;
+mod told_source;
 
 pub use beginning::found_in_static_groups;
 pub use configuration::Configuration;

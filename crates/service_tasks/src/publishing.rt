@@ -10,7 +10,8 @@ use crate::shared::Shared;
 use alloc_desk::{DeskName, Pass};
 use allocation_core::Answer;
 use lists::{List, Text};
-use logfmt::timestamp;
+use log::info;
+use logfmt::{Logfmt, Milliseconds, timestamp};
 use price_certificate::{Instance, Plan, Verdict, check};
 use service_state::{AllocationNote, MoveNote, untold_moves};
 use std::alloc::{AllocError, Global};
@@ -46,13 +47,34 @@ impl<R: Wait + Clock + Eprint + Copy, L: Ledger, B: Ledger, N: DeskName> Shared<
         self.state
             .count_event(&self.rt, self.published_by(), &Answer::Published(number));
         match self.last_changes(pass) {
-            Ok(Some(changes)) => self.note_or_warn(pass, number, changes, milliseconds),
-            Ok(None) => log_error(
-                &self.rt,
-                "the checker refuses an allocation that was published",
-            ),
-            Err(AllocError) => log_warning(&self.rt, "no memory to note an allocation"),
+            Ok(Some(changes)) => {
+                self.log_published(number, changes, milliseconds);
+                self.note_or_warn(pass, number, changes, milliseconds);
+            }
+            Ok(None) => {
+                self.log_uncounted(number, milliseconds);
+                log_error(
+                    &self.rt,
+                    "the checker refuses an allocation that was published",
+                );
+            }
+            Err(AllocError) => {
+                self.log_uncounted(number, milliseconds);
+                log_warning(&self.rt, "no memory to note an allocation");
+            }
         }
+    }
+
+    fn log_published(&self, allocation: u32, changes: Changes, milliseconds: u64) {
+        let (covered, moved, left) = (changes.covered, changes.moved, changes.left);
+        let duration = Milliseconds(milliseconds);
+        info!(Logfmt(self.rt); allocation, covered, moved, left, duration:% = duration; "allocation published");
+    }
+
+    /// The same without what it comes to, which is not known.
+    fn log_uncounted(&self, allocation: u32, milliseconds: u64) {
+        let duration = Milliseconds(milliseconds);
+        info!(Logfmt(self.rt); allocation, duration:% = duration; "allocation published");
     }
 
     /// What the allocation that was published last comes to beside the one before it: what the checker's verdict over its certificate counts.

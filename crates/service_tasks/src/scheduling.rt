@@ -13,8 +13,8 @@ use alloc_desk::{DeskName, MOST_ENTRIES, Pass, Reallocated};
 use fleet::MOST_KNOWN_TARGETS;
 use fleet_events::{Answer, Event};
 use lists::List;
-use log::info;
-use logfmt::Logfmt;
+use log::{info, warn};
+use logfmt::{Logfmt, Quoted};
 use service_state::RoundStart;
 use std::alloc::Global;
 use std::sync::atomic::Ordering;
@@ -159,7 +159,7 @@ impl<R: Wait + Clock + Eprint + Copy, L: Ledger, B: Ledger, N: DeskName> Shared<
         schedule.start = RoundStart::open_for(now, self.age_of_next(open));
         self.note_round(schedule);
         if matches!(answer, Answer::Not(_)) {
-            self.log_answer("the next round", &answer);
+            self.log_refused_round(&answer);
         }
     }
 
@@ -209,7 +209,6 @@ impl<R: Wait + Clock + Eprint + Copy, L: Ledger, B: Ledger, N: DeskName> Shared<
         match found {
             Ok(Reallocated::Published(number)) => {
                 schedule.is_evening = self.bounds_moves();
-                self.log_published(number);
                 self.note_published(pass, number, milliseconds);
             }
             Ok(Reallocated::Unchanged(_)) => schedule.is_evening = false,
@@ -244,8 +243,11 @@ impl<R: Wait + Clock + Eprint + Copy, L: Ledger, B: Ledger, N: DeskName> Shared<
         }
     }
 
-    fn log_published(&self, number: u32) {
-        info!(Logfmt(self.rt); number; "allocation published");
+    fn log_refused_round(&self, answer: &Answer) {
+        if let Ok(line) = answer.line(self.alloc) {
+            let answer = Quoted(line.as_str());
+            warn!(Logfmt(self.rt); answer:% = answer; "the next round is refused");
+        }
     }
 
     fn log_full(&self, entries: usize, known: usize) {
