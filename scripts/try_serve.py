@@ -1006,7 +1006,7 @@ class Newcomers:
 
 
 def newcomers_at_the_end(folder):
-    """Ends, and desks that are opened anew, while connections come all the time."""
+    """Ends, and renewals, while connections come all the time."""
     journal = f"{folder}/journal"
     configs = [with_jobs(), with_jobs(MORE)]
     seen, cut, wrong, longest, statuses = [], 0, [], 0, set()

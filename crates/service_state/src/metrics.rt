@@ -231,7 +231,7 @@ fn write_allocation(page: &mut Exposition, figures: &Figures) -> Result<(), Allo
     write_gauge(
         page,
         "allocd_journal_entries",
-        "Entries of the desk's journal.",
+        "Entries of the journal since the last start, reload or renewal.",
         entries,
     )?;
     let samples = "allocd_samples_booked_total";

@@ -251,6 +251,6 @@ impl<R: Wait + Clock + Eprint + Copy, L: Ledger, B: Ledger, N: DeskName> Shared<
     }
 
     fn log_full(&self, entries: usize, known: usize) {
-        info!(Logfmt(self.rt); entries, known; "nearly full: the allocator is renewed, and another desk is opened");
+        info!(Logfmt(self.rt); entries, known; "nearly full: the allocator is renewed, and connections end once");
     }
 }
