@@ -6,7 +6,7 @@ use crate::told_source::ToldSource;
 use alloc_desk::{DeskName, EnterError, Pass};
 use fleet_events::{Answer, CollectorId, Event};
 use log::{info, warn};
-use logfmt::{Logfmt, Quoted};
+use logfmt::{Logfmt, Quoted, QuotedUrl};
 use service_state::EventKind;
 use std::alloc::AllocError;
 use std::sync::Wait;
@@ -165,14 +165,14 @@ impl<R: Wait + Clock + Eprint + Copy, L: Ledger, B: Ledger, N: DeskName> Shared<
             return;
         }
         let job = Quoted(source.job);
-        let url = Quoted(source.url);
+        let url = QuotedUrl(source.url);
         let number = source.number;
         info!(Logfmt(self.rt); job:% = job, source = number, url:% = url, added, removed; "targets discovered");
     }
 
     fn log_refused_list(&self, source: ToldSource<'_>, answer: &str) {
         let job = Quoted(source.job);
-        let url = Quoted(source.url);
+        let url = QuotedUrl(source.url);
         let answer = Quoted(answer);
         let number = source.number;
         warn!(Logfmt(self.rt); job:% = job, source = number, url:% = url, answer:% = answer; "refused");

@@ -11,7 +11,7 @@ use fleet_events::Event;
 use http_get::{Asker, Cause, FetchSeveral, Get, Listing, Next, Reply, get_of_source};
 use lists::{List, Plain, Text};
 use log::warn;
-use logfmt::{Logfmt, Quoted, timestamp};
+use logfmt::{Logfmt, Quoted, QuotedUrl, timestamp};
 use sd_documents::Job;
 use service_state::{ListCounts, SourceNote};
 use std::alloc::{AllocError, Global};
@@ -232,7 +232,7 @@ impl<R: Wait + Clock + Eprint + Copy, L: Ledger, B: Ledger, N: DeskName> Shared<
 
     fn log_failure(&self, source: ToldSource<'_>, fault: &str) {
         let job = Quoted(source.job);
-        let url = Quoted(source.url);
+        let url = QuotedUrl(source.url);
         let why = Quoted(fault);
         let number = source.number;
         warn!(Logfmt(self.rt); job:% = job, source = number, url:% = url, why:% = why; "refresh failed");
