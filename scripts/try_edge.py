@@ -505,7 +505,7 @@ COUNTED = {
     "allocd_journal_broken": 0,
 }
 PROCESS = ("resident_memory_bytes", "virtual_memory_bytes", "cpu_seconds_total", "open_fds", "max_fds")
-READ_ONLY = ("/", "/jobs", "/scrape_configs", "/jobs/n/targets", "/jobs/n/uncovered", "/certificate", "/-/healthy", "/-/ready", "/metrics", "/nothing")
+READ_ONLY = ("/", "/jobs", "/scrape_configs", "/jobs/n/targets", "/jobs/n/uncovered", "/allocations", "/certificate", "/-/healthy", "/-/ready", "/metrics", "/nothing")
 
 
 def kernel_says(pid):
@@ -1081,6 +1081,27 @@ def spreads(folder):
         tell("a slack above 1,000 is refused by name", "allocator.spread.slack: no whole number from 0 to 1000" in it.read())
 
 
+def moves(folder):
+    service = started(folder, [static("n", 4), static("m", 2, 9200)])
+    has(service, 'allocd_targets_covered{job="n"}', 4)
+    last = lambda: json.loads(service.ask("GET", "/allocations")[1])[0]
+    tell("an allocation that gives targets for the first time moves none", [last()[name] for name in ("covered", "moved", "moves", "more_moves")] == [6, 0, [], 0], last())
+    service.ask("POST", "/collectors", {"name": "<b>", "reach": ANY})
+    service.ask("POST", "/collectors/1/drain", {})
+    rows = [{"count": 2, "from": "a", "job": "m", "to": "<b>"}, {"count": 4, "from": "a", "job": "n", "to": "<b>"}]
+    tell("what moves is told by job, and from whom to whom", comes(lambda: last()["moves"] == rows, 10) and last()["moved"] == 6 == service.figure("allocd_allocation_moved"), last())
+    cell = Page(service.ask("GET", "/")[1]).tables["Last allocations"][0][-1]
+    with open(f"{folder}/log") as it:
+        line = [line for line in it if 'msg="allocation published"' in line][-1]
+    tell("how many moved is in the log", re.search(r" allocation=\d+ covered=6 moved=6 left=0 duration=\d+ms$", line), line)
+    tell("so it is on the page", cell == "6 targets2 of m from a to <b>4 of n from a to <b>", cell)
+    service.ask("DELETE", "/collectors/1")
+    service.ask("PUT", "/collectors/2/limits", {"limits": {"m": 1}})
+    tell("what nobody holds any more moved to nobody", comes(lambda: last()["moves"] == [{"count": 1, "from": "<b>", "job": "m", "to": None}], 10), last())
+    tell("who only looks at its head is answered too", service.ask("HEAD", "/allocations")[0] == 200)
+    ends(service)
+
+
 def spreads_by_job(folder):
     both = [{"name": name, "reach": ANY} for name in "ab"]
     jobs = [static("heavy", 4, spread=0), static("light", 20, 9100), static("fixed", 6, 9200, spread="off")]
@@ -1194,7 +1215,7 @@ def names(folder):
     tell("a source by name is asked", has(service, 'allocd_targets_covered{job="n"}', 2))
     tell("by the name that its URL has", Source.hosts["/named"] == f"LOCALHOST:{SOURCE.server_port}", Source.hosts["/named"])
     tell("a name without an address fails, and says why", comes(lambda: "no such name" in fault_of(service, "n/2"), 10), fault_of(service, "n/2"))
-    tell("its log line too", "refresh failed: no such name" in open(f"{folder}/log").read())
+    tell("its log line too", re.search(r'msg="refresh failed" job="n" source=2 url="http://no-such-host.invalid/sd" why="no such name"$', open(f"{folder}/log").read(), re.M))
     Source.lists["/named"] = ["127.0.0.1:7401"]
     tell("a source by name is asked again", has(service, 'allocd_targets{job="n"}', 1))
     began = time.monotonic()
@@ -1240,6 +1261,10 @@ def files(folder):
     tell("a pattern without a file is an empty list and no failure", service.figure('allocd_refresh_failures_total{source="f/1"}') == 0, service.figure('allocd_refresh_failures_total{source="f/1"}'))
     put("a.json", [group(7501, zone="x"), group(7502)])
     tell("a file that appears is read", has(service, 'allocd_targets_covered{job="f"}', 2))
+    line = re.compile(r'^ts=\S+ level=info msg="targets discovered" job="f" source=1 url="file:[^" ]*targets/\*\.json%0A[^" ]*more\.json" added=2 removed=0$', re.M)
+    with open(f"{folder}/log") as it:
+        told = it.read()
+    tell("its URL with both paths is in one line of the log", line.search(told), told)
     listed = {g["targets"][0]: g["labels"].get("from") for g in json.loads(service.ask("GET", "/jobs/f/targets?collector_id=a")[1])}
     tell("its targets have its path, and no URL", set(listed.values()) == {path("a.json")}, listed)
     put("b.json", [group(7503)])
@@ -1275,5 +1300,5 @@ def files(folder):
 SOURCE = http.server.ThreadingHTTPServer(("127.0.0.1", 0), Source)
 SOURCE.daemon_threads = True
 threading.Thread(target=SOURCE.serve_forever, daemon=True).start()
-PARTS = (settings, relabels, reloads, uncovered, texts, page, job_pages, collector_pages, searches, since, series, figures, process, takes, talks, requests, lifecycles, held_rows, stalls, rounds, rounds_kept, silences, yaml, lists_of_reports, round_books, entity_tags, acknowledge, spreads, spreads_by_job, evens, evens_in_turn, names, files)
+PARTS = (settings, relabels, reloads, uncovered, texts, page, job_pages, collector_pages, searches, since, series, figures, process, takes, talks, requests, lifecycles, held_rows, stalls, rounds, rounds_kept, silences, yaml, lists_of_reports, round_books, entity_tags, acknowledge, spreads, moves, spreads_by_job, evens, evens_in_turn, names, files)
 run_parts(PARTS, sys.argv[1:])

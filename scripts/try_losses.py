@@ -103,7 +103,7 @@ class Started(Service):
         return exchange(self.port, method, path, headers, None if body is None else json.dumps(body).encode())
 
     def jobs(self):
-        """The jobs that are followed: a connection may end as another desk is opened."""
+        """The jobs that are followed: a connection may end at a renewal."""
         found = []
         comes(lambda: found.append(self.ask("GET", "/jobs")[1]) or found[-1], 5)
         return sorted(json.loads(found[-1]))

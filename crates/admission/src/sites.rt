@@ -83,6 +83,7 @@ fn only_shows(ask: &Ask) -> bool
         | Ask::JobTargets(_)
         | Ask::Uncovered(_)
         | Ask::FindTargets(_)
+        | Ask::Allocations
         | Ask::Certificate
         | Ask::Collectors
         | Ask::Collector(_)

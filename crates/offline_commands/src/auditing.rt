@@ -24,7 +24,7 @@ pub fn audit_files<R: Files<File = File> + Eprint, W: Write>(
 ) -> Ending {
     match read_journals(rt, alloc, paths) {
         Ok(journals) => run_audit(alloc, journals.as_slice(), writer),
-        Err(fault) => tell_fault(rt, &fault, writer),
+        Err(fault) => tell_fault(rt, fault, writer),
     }
 }
 

@@ -21,7 +21,7 @@ pub fn books_of_files<R: Files<File = File> + Eprint, W: Write>(
 ) -> Ending {
     match read_journals(rt, alloc, paths) {
         Ok(journals) => run_books(alloc, journals.as_slice(), writer),
-        Err(fault) => tell_fault(rt, &fault, writer),
+        Err(fault) => tell_fault(rt, fault, writer),
     }
 }
 

@@ -19,10 +19,10 @@ pub(crate) enum Fault<'a> {
 }
 
 /// Tells why the journals of some files are not read.
-pub(crate) fn tell_fault<R: Eprint, W: Write>(rt: &R, fault: &Fault<'_>, writer: &mut W) -> Ending {
+pub(crate) fn tell_fault<R: Eprint, W: Write>(rt: &R, fault: Fault<'_>, writer: &mut W) -> Ending {
     match fault {
         Fault::TooLong => write_answer(writer, &Answer::NotRead(Unreadable::TooLong)),
-        Fault::File(path, error) => stop_at(rt, path, error, writer),
+        Fault::File(path, error) => stop_at(rt, path, &error, writer),
     }
 }
 

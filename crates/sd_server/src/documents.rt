@@ -40,6 +40,7 @@ impl<R: Wait + Clock + Copy, L: Ledger, B: Ledger, N: DeskName> Handler<R, L, B,
             | Ask::CollectorTargets { .. }
             | Ask::Uncovered(_)
             | Ask::Acknowledged { .. }
+            | Ask::Allocations
             | Ask::Certificate
             | Ask::Collectors
             | Ask::Join

@@ -7,6 +7,7 @@
 
 mod accept;
 mod acknowledging;
+mod allocation_rows;
 mod by_loops;
 mod certificate_page;
 mod collector_lists;

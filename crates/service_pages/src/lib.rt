@@ -1,7 +1,7 @@
 //! The pages for people of a service, of its jobs, collectors and targets, made of what the service shows of itself: no lock, no desk, no clock.
 //!
 //! Contracts say what is counted: how many targets have no collector, how many sources fail, how many collectors are behind, how many
-//! things need attention, and how many targets have no row. How a text from outside is shown is `hypertext`'s.
+//! things need attention, how many targets have no row, and how many that moved are told in no row. How a text from outside is shown is `hypertext`'s.
 #![tactic(auto)]
 
 mod allocations;
@@ -33,7 +33,7 @@ pub use found_page::{ShownFound, found_document};
 pub use job_page::{JobShare, ShownJob, job_document};
 pub use moment::Moment;
 pub use needs::{Need, count_needs};
-pub use notes::{AllocationNote, ListCounts, LoadNote, SourceNote};
+pub use notes::{AllocationNote, ListCounts, LoadNote, MoveNote, SourceNote, untold_moves};
 pub use page::{Shown, status_page};
 pub use standing::Standing;
 pub use targets::{Keeper, MOST_ROWS, Rows, TargetRow};

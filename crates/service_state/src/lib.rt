@@ -40,6 +40,8 @@ pub use process_figures::ProcessFigures;
 pub use reloading::{Reloading, unanswered};
 pub use round_books::{BookCounts, JobBooks, RoundBooks, round_books};
 pub use routes::Route;
-pub use service_pages::{AllocationNote, Figures, ListCounts, LoadNote, SourceNote};
+pub use service_pages::{
+    AllocationNote, Figures, ListCounts, LoadNote, MoveNote, SourceNote, untold_moves,
+};
 pub use service_settings::Lifecycle;
 pub use service_state::ServiceState;

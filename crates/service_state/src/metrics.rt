@@ -233,7 +233,7 @@ fn write_allocation(page: &mut Exposition, figures: &Figures) -> Result<(), Allo
     write_gauge(
         page,
         "allocd_journal_entries",
-        "Entries of the desk's journal.",
+        "Entries of the journal since the last start, reload or renewal.",
         entries,
     )?;
     let samples = "allocd_samples_booked_total";
@@ -477,7 +477,7 @@ fn write_last_allocation(page: &mut Exposition, notes: &Notes) -> Result<(), All
     write_gauge(
         page,
         "allocd_allocation_moved",
-        "Targets that another collector held before the last published allocation.",
+        "Targets that the last published allocation took from the collector that held them.",
         u128::from(moved),
     )?;
     write_gauge(
