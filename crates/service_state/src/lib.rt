@@ -38,7 +38,7 @@ pub use notes::Notes;
 pub use open_round::{RoundStart, RoundTimes};
 pub use process_figures::ProcessFigures;
 pub use reloading::{Reloading, unanswered};
-pub use round_books::{BookCounts, JobBooks, RoundBooks, round_books};
+pub use round_books::{BookCounts, JobBooks, RoundBooks, books_of_round};
 pub use routes::Route;
 pub use service_pages::{
     AllocationNote, Figures, ListCounts, LoadNote, MoveNote, SourceNote, untold_moves,

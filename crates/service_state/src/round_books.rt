@@ -73,7 +73,7 @@ impl RoundBooks {
 }
 
 /// What is booked of a round that is over, where the next one is open since a moment ago.
-pub fn round_books(alloc: Global, core: &Core, round: Round) -> Result<RoundBooks, AllocError> {
+pub fn books_of_round(alloc: Global, core: &Core, round: Round) -> Result<RoundBooks, AllocError> {
     let mut jobs = empty_books(alloc, core)?;
     let mut reported = Vec::new(alloc);
     reported.resize(core.fleet().known().len(), false)?;

@@ -3,7 +3,7 @@ use crate::logging::log_warning;
 use crate::shared::Shared;
 use alloc_desk::{DeskName, Pass};
 use fleet_events::Round;
-use service_state::round_books;
+use service_state::books_of_round;
 use std::sync::Wait;
 use std::sync::ledger::Ledger;
 use std::time::Clock;
@@ -12,7 +12,7 @@ impl<R: Wait + Clock + Eprint + Copy, L: Ledger, B: Ledger, N: DeskName> Shared<
     /// Notes for those who look at the service what was booked in a round.
     pub(crate) fn note_books(&self, pass: &mut Pass<L, B, N>, round: Round) {
         let books = self.desk.read(&self.rt, pass, |record| {
-            round_books(self.alloc, record.core(), round)
+            books_of_round(self.alloc, record.core(), round)
         });
         match books {
             Ok(books) => self.state.note_books(&self.rt, books),
