@@ -160,13 +160,20 @@ fn is_missing(
     collector: CollectorId,
 ) -> bool {
     let place = target as usize;
-    if live.get(place) != Some(&true) || reported.get(place) != Some(&false) {
+    if !is_marked(live, place) || is_marked(reported, place) {
         return false;
     }
     match core.fleet().known().get(place) {
         Some(known) => {
             core.fleet().is_joined(collector) && is_taken(core, known.job, target, collector)
         }
+        None => false,
+    }
+}
+
+fn is_marked(marks: &[bool], place: usize) -> bool {
+    match marks.get(place) {
+        Some(mark) => *mark,
         None => false,
     }
 }
