@@ -1,5 +1,5 @@
 //! What is told of one journal.
-ghost use Rattle.std.specs.Prelude.{IfOk, string_bytes};
+ghost use Rattle.std.specs.Prelude.{◌≡◌, ◌<◌, IfOk, string_bytes};
 ghost use Rattle.book_tables.specs.Tables.{Adds, fault_table, journal_table, plain_table, rows_table};
 
 use crate::row::push_row;
@@ -70,9 +70,17 @@ fn push_rows(alloc: Global, text: &mut String, file: usize, core: &Core) -> Resu
             file,
             core.books(),
             jobs,
-            number as u32,
+            id_of(number),
             &known[number],
         )?;
     }
     Ok(true)
+}
+
+/// The number of a target at a place.
+fn id_of(place: usize) -> u32
+    requires { place < 4294967296 }
+    ensures { result ≡ place }
+{
+    place as u32
 }
