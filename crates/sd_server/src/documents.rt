@@ -214,8 +214,9 @@ impl<R: Wait + Clock + Copy, L: Ledger, B: Ledger, N: DeskName> Handler<R, L, B,
     fn found_document_text(&self, text: &str) -> Result<Text, AllocError> {
         let numbers = self.matching(text)?;
         let state = self.found_state(numbers.as_slice())?;
+        let text = Text::from_str(self.alloc, text)?;
         let shown = ShownFound {
-            text,
+            text: text.as_str(),
             targets: Rows {
                 first: state.targets.as_slice(),
                 all: u64::from(state.all),
