@@ -16,8 +16,7 @@ use json_values::{Spelled, text_of};
 use lists::{List, Text};
 use sd_routes::{Ask, JobRow, RequestError, Said, SourceRow, WhichCollector, job_row_page};
 use service_pages::{
-    MOST_ROWS, Rows, ShownCollector, ShownFound, ShownJob, collector_document, found_document,
-    job_document,
+    MOST_ROWS, Rows, ShownCollector, ShownJob, collector_document, found_document, job_document,
 };
 use std::alloc::AllocError;
 use std::sync::Wait;
@@ -214,15 +213,7 @@ impl<R: Wait + Clock + Copy, L: Ledger, B: Ledger, N: DeskName> Handler<R, L, B,
     fn found_document_text(&self, text: &str) -> Result<Text, AllocError> {
         let numbers = self.matching(text)?;
         let state = self.found_state(numbers.as_slice())?;
-        let text = Text::from_str(self.alloc, text)?;
-        let shown = ShownFound {
-            text: text.as_str(),
-            targets: Rows {
-                first: state.targets.as_slice(),
-                all: u64::from(state.all),
-            },
-            moment: state.moment,
-        };
+        let shown = state.shown(text);
         found_document(self.alloc, &shown)
     }
 

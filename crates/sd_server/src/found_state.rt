@@ -5,7 +5,7 @@ use crate::job_state::moment_of;
 use crate::target_rows::push_live;
 use allocation_core::Core;
 use fleet_events::TargetId;
-use service_pages::{Moment, TargetRow};
+use service_pages::{Moment, Rows, ShownFound, TargetRow};
 use service_state::targets_handing_over;
 use std::alloc::{AllocError, Global};
 
@@ -17,6 +17,20 @@ pub(crate) struct FoundState {
     /// The first of them, in order of number.
     pub(crate) targets: Vec<TargetRow>,
     pub(crate) moment: Moment,
+}
+
+impl FoundState {
+    /// What the page of a search for a text shows.
+    pub(crate) fn shown<'a>(&'a self, text: &'a str) -> ShownFound<'a> {
+        ShownFound {
+            text,
+            targets: Rows {
+                first: self.targets.as_slice(),
+                all: u64::from(self.all),
+            },
+            moment: self.moment,
+        }
+    }
 }
 
 /// Those of these targets that are live.
