@@ -1,4 +1,3 @@
-use Rattle.std.proofs.Common.{◌≡◌}
 use Rattle.service_tasks.proofs.Counting.{changes_told}
 use Rattle.service_tasks.proofs.shared.Shared.last_changes.Goals as goal
 
