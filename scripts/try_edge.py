@@ -1261,7 +1261,7 @@ def files(folder):
     tell("a pattern without a file is an empty list and no failure", service.figure('allocd_refresh_failures_total{source="f/1"}') == 0, service.figure('allocd_refresh_failures_total{source="f/1"}'))
     put("a.json", [group(7501, zone="x"), group(7502)])
     tell("a file that appears is read", has(service, 'allocd_targets_covered{job="f"}', 2))
-    line = re.compile(r'^ts=\S+ level=info msg="targets discovered" job="f" source=1 url="file:[^" ]*targets/\*\.json%0A[^" ]*more\.json" added=2 removed=0$', re.M)
+    line = re.compile(r'^ts=\S+ level=info msg="targets discovered" job="f" source=1 url="file:[^" ]*targets/\*\.json%0A[^" ]*more\.json%0A" added=2 removed=0$', re.M)
     with open(f"{folder}/log") as it:
         told = it.read()
     tell("its URL with both paths is in one line of the log", line.search(told), told)
