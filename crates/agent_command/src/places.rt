@@ -109,16 +109,25 @@ fn places_of(
     join: Option<Text>,
 ) -> Result<Places, Fault> {
     match servers_of(alloc, path, &settings) {
-        Ok((allocator, prometheus)) => Ok(Places {
-            name: settings.name,
-            allocator,
-            prometheus,
-            listen: settings.listen,
-            state: settings.state,
-            lease: settings.lease,
-            keys,
-            join,
-        }),
+        Ok((allocator, prometheus)) => {
+            let Settings {
+                name,
+                listen,
+                state,
+                lease,
+                ..
+            } = settings;
+            Ok(Places {
+                name,
+                allocator,
+                prometheus,
+                listen,
+                state,
+                lease,
+                keys,
+                join,
+            })
+        }
         Err(fault) => Err(fault),
     }
 }

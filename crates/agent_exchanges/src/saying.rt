@@ -69,12 +69,12 @@ fn is_headless(heads: Heads<'_>) -> bool
 fn is_unknown(body: &[u8]) -> bool
     ensures { result ≡ is_unknown body.now }
 {
-    body == b"{\"refused\":\"UnknownCollector\"}"
+    body == b"{\"refused\":\"UnknownCollector\"}".as_slice()
 }
 
 /// Whether a body is an empty list.
 fn is_nothing(body: &[u8]) -> bool
     ensures { result ≡ is_nothing body.now }
 {
-    body == b"[]"
+    body == b"[]".as_slice()
 }

@@ -1,10 +1,11 @@
-//! Runs of an agent, its documents, and what it asks and is answered. Each line of standard input is a row: it names a reader and has what it reads, and is written with the
-//! reader's answer behind it.
+//! Runs and turns of an agent, its documents, and what it asks and is answered. Each line of standard input is a row: it names a reader and has
+//! what it reads, and is written with the reader's answer behind it.
 #![tactic(auto)]
 
 mod documents;
 mod exchanges;
 mod runs;
+mod turns;
 
 use documents::{head, list, memory, said};
 use exchanges::{active, jobs, join, let_go, paths, posted, range, reports, saying, settings};
@@ -12,6 +13,7 @@ use runs::run;
 use std::alloc::{AllocError, Global};
 use std::io::{Read, Write};
 use std::{io, str};
+use turns::take_turns;
 
 fn main(rt: HostRuntime) -> io::Result<()> {
     let mut rows = Vec::new(rt.alloc());
@@ -48,6 +50,7 @@ fn answer_of_exchange(alloc: Global, reader: &str, text: &str) -> Result<String,
         "jobs" => jobs(alloc, text),
         "active" => active(alloc, text),
         "let_go" => let_go(alloc, text),
+        "turns" => take_turns(alloc, text),
         _ => String::from_str(alloc, "no reader"),
     }
 }

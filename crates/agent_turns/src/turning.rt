@@ -29,7 +29,7 @@ fn look<O: Outside>(agent: &mut Agent, outside: &O, at: u64) -> Heard
 {
     let heard = shown_to(agent, outside, at);
     hear(agent, at, &heard);
-    serve(agent, outside, at, &heard);
+    serve(agent, outside, at, is_heard(&heard));
     heard
 }
 
@@ -53,11 +53,18 @@ fn hear(agent: &mut Agent, at: u64, heard: &Heard)
     }
 }
 
-/// Has the agent's lists served, where the allocator was heard.
-fn serve<O: Outside>(agent: &Agent, outside: &O, at: u64, heard: &Heard) {
+/// Whether the allocator was heard.
+fn is_heard(heard: &Heard) -> bool {
     match heard {
-        Heard::Lists(_) | Heard::Gone | Heard::Unknown => outside.serve(agent, at),
-        Heard::Nothing => {}
+        Heard::Lists(_) | Heard::Gone | Heard::Unknown => true,
+        Heard::Nothing => false,
+    }
+}
+
+/// Has the agent's lists served, where the allocator was heard at a time.
+fn serve<O: Outside>(agent: &Agent, outside: &O, at: u64, is_heard: bool) {
+    if is_heard {
+        outside.serve(agent, at);
     }
 }
 
@@ -88,9 +95,10 @@ fn take_at<O: Outside>(agent: &mut Agent, outside: &mut O, at: u64) -> Result<()
     ensures state { Settles at agent.old agent.new }
 {
     let heard = outside.take(at);
+    let is_heard = is_heard(&heard);
     match settle(agent, at, heard) {
         Ok(()) => {
-            outside.serve(agent, at);
+            serve(agent, outside, at, is_heard);
             Ok(())
         }
         Err(error) => Err(error),

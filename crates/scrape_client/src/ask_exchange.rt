@@ -250,11 +250,18 @@ fn answer_of(alloc: Global, head: Parts, all: Collected) -> Result<Answer, Cause
         return Err(Cause::Encoded);
     }
     match copied(alloc, all) {
-        Ok(body) => Ok(Answer {
-            status: head.status.as_u16(),
-            headers: head.headers,
-            body,
-        }),
+        Ok(body) => {
+            let Parts {
+                status,
+                headers,
+                ..
+            } = head;
+            Ok(Answer {
+                status: status.as_u16(),
+                headers,
+                body,
+            })
+        }
         Err(AllocError) => Err(Cause::Memory),
     }
 }
