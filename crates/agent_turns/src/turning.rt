@@ -62,8 +62,8 @@ fn is_heard(heard: &Heard) -> bool {
 }
 
 /// Has the agent's lists served, where the allocator was heard at a time.
-fn serve<O: Outside>(agent: &Agent, outside: &O, at: u64, is_heard: bool) {
-    if is_heard {
+fn serve<O: Outside>(agent: &Agent, outside: &O, at: u64, came: bool) {
+    if came {
         outside.serve(agent, at);
     }
 }
@@ -95,10 +95,10 @@ fn take_at<O: Outside>(agent: &mut Agent, outside: &mut O, at: u64) -> Result<()
     ensures state { Settles at agent.old agent.new }
 {
     let heard = outside.take(at);
-    let is_heard = is_heard(&heard);
+    let came = is_heard(&heard);
     match settle(agent, at, heard) {
         Ok(()) => {
-            serve(agent, outside, at, is_heard);
+            serve(agent, outside, at, came);
             Ok(())
         }
         Err(error) => Err(error),
