@@ -132,7 +132,7 @@ def config(address, jobs=JOBS):
         }
         for job in jobs
     ]
-    return {"global": {"scrape_interval": f"{ROUND}s"}, "scrape_configs": scraped, "allocator": {"settle": "1s", "collector_timeout": "20s", "lifecycle": True, "spread": {}}}
+    return {"global": {"scrape_interval": f"{ROUND}s"}, "scrape_configs": scraped, "allocator": {"settle": "1s", "collector_timeout": "60s", "lifecycle": True, "spread": {}}}
 
 
 class Books:

@@ -31,6 +31,8 @@ pub(crate) struct Edge<'a, R> {
     pub(crate) jobs: Jobs,
     /// How long a round is, in milliseconds. 0 where nobody told.
     pub(crate) round: AtomicU64,
+    /// When the lists were taken last. 0 where they were not.
+    pub(crate) taken: AtomicU64,
     pub(crate) is_allocator_away: AtomicBool,
     pub(crate) is_prometheus_away: AtomicBool,
 }
@@ -51,6 +53,7 @@ impl<'a, R: AllocGlobal + Copy> Edge<'a, R> {
             places,
             jobs: Jobs::new(rt.alloc()),
             round: AtomicU64::new(0),
+            taken: AtomicU64::new(0),
             is_allocator_away: AtomicBool::new(false),
             is_prometheus_away: AtomicBool::new(false),
         }
@@ -114,6 +117,10 @@ where
         self.scrapes()
     }
 
+    fn is_missed(&self, agent: &Agent, at: u64) -> bool {
+        self.is_long_untaken(agent.head(), at)
+    }
+
     fn has_let_go(&self, agent: &Agent) -> bool {
         self.is_let_go(agent)
     }
@@ -144,7 +151,7 @@ where
 
     fn take(&mut self, at: u64) -> Heard {
         let heard = self.hear(at, true);
-        self.note_take(&heard);
+        self.note_take(at, &heard);
         heard
     }
 }

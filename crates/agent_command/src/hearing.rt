@@ -19,6 +19,9 @@ use std::time::Clock;
 /// How often the lists are asked for at most until they are of one allocation and one round.
 const MOST_TRIES: u32 = 4;
 
+/// After so long it takes its lists again though they are the same, in milliseconds: the allocator misses who asks for none.
+const LONGEST_UNTAKEN: u64 = 10_000;
+
 /// What came of one list.
 #[derive(Clone, Copy)]
 enum Came {
@@ -62,6 +65,21 @@ where
             Came::Gone => Some(Heard::Gone),
             Came::Unknown => Some(Heard::Unknown),
             Came::Nothing => Some(Heard::Nothing),
+        }
+    }
+
+    /// Whether the lists were not taken for long, and are still of this head's allocation: that is looked at again, so that no others are taken
+    /// before Prometheus follows.
+    pub(crate) fn is_long_untaken(&self, head: Head, at: u64) -> bool {
+        let passed = at.saturating_sub(self.taken.load(Ordering::SeqCst));
+        if passed < LONGEST_UNTAKEN {
+            return false;
+        }
+        match self.hear(at, false) {
+            Heard::Lists(lists) => {
+                lists.head.epoch == head.epoch && lists.head.number == head.number
+            }
+            Heard::Gone | Heard::Unknown | Heard::Nothing => false,
         }
     }
 
@@ -171,10 +189,13 @@ where
         Some(())
     }
 
-    /// The lists were taken.
-    pub(crate) fn note_take(&self, heard: &Heard) {
+    /// The lists were taken at a time, or what came of that.
+    pub(crate) fn note_take(&self, at: u64, heard: &Heard) {
         match heard {
-            Heard::Lists(_) => count(&self.shelf.counts.takes, 1),
+            Heard::Lists(_) => {
+                self.taken.store(at, Ordering::SeqCst);
+                count(&self.shelf.counts.takes, 1);
+            }
             Heard::Gone | Heard::Unknown => self.join(),
             Heard::Nothing => {}
         }

@@ -119,6 +119,10 @@ impl Outside for Scripted<'_> {
         }
     }
 
+    fn is_missed(&self, _agent: &Agent, _at: u64) -> bool {
+        false
+    }
+
     fn has_let_go(&self, _agent: &Agent) -> bool {
         self.goes
     }

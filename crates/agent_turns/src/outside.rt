@@ -41,6 +41,10 @@ pub trait Outside {
     /// What Prometheus says of its scrapes.
     fn said(&self) -> Option<Said>;
 
+    /// Whether the allocator is to be told again that the agent is there, who holds its current list: the allocator misses who takes none for
+    /// long.
+    fn is_missed(&self, agent: &Agent, at: u64) -> bool;
+
     /// Whether Prometheus scrapes nothing any more of what the agent holds and no longer serves.
     fn has_let_go(&self, agent: &Agent) -> bool;
 

@@ -11,8 +11,8 @@ use std::alloc::{AllocError, Global};
 /// For how long at most it is waited until Prometheus has let go of what is no longer served, in milliseconds.
 pub const LONGEST_FOLLOWING: u64 = 20_000;
 
-/// A turn: looks at the lists, reports what was scraped, and takes a list where the agent holds none, or where there is another one and Prometheus
-/// has let go of what that does not have. Without memory the turn is the shorter by what it lacked.
+/// A turn: looks at the lists, reports what was scraped, and takes the lists where the agent holds none, where it is missed, or where there are others
+/// and Prometheus has let go of what those do not have. Without memory the turn is the shorter by what it lacked.
 pub fn turn<O: Outside>(alloc: Global, agent: &mut Agent, outside: &mut O) -> Result<(), AllocError>
     ensures { Turned O.may_act outside.old outside.new agent.old agent.new }
 {
@@ -83,7 +83,7 @@ fn take<O: Outside>(agent: &mut Agent, outside: &mut O) -> Result<(), AllocError
 fn is_due<O: Outside>(agent: &Agent, outside: &O, at: u64) -> bool {
     match agent.standing() {
         Standing::Nobody => true,
-        Standing::Holding => false,
+        Standing::Holding => outside.is_missed(agent, at),
         Standing::Following(since) => {
             LONGEST_FOLLOWING <= at.saturating_sub(since) || outside.has_let_go(agent)
         }
