@@ -5,10 +5,10 @@ use Rattle.agent_turns.proofs.turning.turn.Goals as goal
 
 pub returns : goal.returns
 returns g c = record {
-  at = c.now.result;
-  shown = c.look.result;
-  outside = c.report.new.outside;
-  agent = c.report.new.agent;
-  reports = subst (λ (s : State). Tried g.O.Outside.may_act c.args.outside.now c.report.new.outside s c.report.new.agent) c.look.ensures c.report.ensures;
-  take = c.take.ensures;
+  at = c.now-at.result;
+  shown = c.look-heard.result;
+  outside = c.report-reported.new.outside;
+  agent = c.report-reported.new.agent;
+  reports = subst (λ (s : State). Tried g.O.Outside.may_act c.args.outside.now c.report-reported.new.outside s c.report-reported.new.agent) c.look-heard.ensures c.report-reported.ensures;
+  take = c.take-took.ensures;
 }
