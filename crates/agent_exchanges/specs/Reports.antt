@@ -1,6 +1,6 @@
 -- What is posted of reports: a list of docs/operate/HTTP.md, which names its epoch.
 use Rattle.std.specs.Prelude.{ℕ, List, true, false, codes}
-use Rattle.serde_json.specs.Data.{Data, object, member, no_members, array, boolean}
+use Rattle.serde_json.specs.Data.{Data, object, member, no_members, boolean}
 use Rattle.json_values.specs.Spelling.{list_data, number_data}
 use Rattle.scrape_books.specs.declared.report.Outcome.{Outcome}
 use Rattle.scrape_books.specs.declared.report.Outcome.TheVariants.{Up, Down}

@@ -1,5 +1,5 @@
 -- A turn of a row may act in any way.
-use Rattle.std.proofs.Common.{◌≡◌, List, [], ◌∷◌, refl}
+use Rattle.std.proofs.Common.{List, [], ◌∷◌, refl}
 use Rattle.std.specs.Prelude.{⊤}
 use Rattle.agent_core.specs.declared.report.Report.{Report}
 use Rattle.agent_turns.specs.Acts.{Runs, posts}

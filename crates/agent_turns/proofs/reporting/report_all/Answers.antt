@@ -1,6 +1,6 @@
-use Rattle.std.proofs.Common.{◌≡◌, ◌⊎◌, ◌∙◌, [], inl, inr, refl, ap}
+use Rattle.std.proofs.Common.{◌≡◌, ◌∙◌, inl, inr, refl, ap}
 use Rattle.serde_json.specs.Written.{compact_text}
-use Rattle.agent_core.specs.Agents.{Asked, Cut, Over, State, next, reported}
+use Rattle.agent_core.specs.Agents.{Asked, Cut, reported}
 use Rattle.agent_core.specs.Told.{Told}
 use Rattle.agent_documents.specs.States.{state_data}
 use Rattle.agent_turns.proofs.ActLemmas.{overs, posted, quiet, told_of, unwritten}

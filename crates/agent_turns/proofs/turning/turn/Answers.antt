@@ -1,4 +1,4 @@
-use Rattle.std.proofs.Common.{◌≡◌, subst}
+use Rattle.std.proofs.Common.{subst}
 use Rattle.agent_core.specs.Agents.{State}
 use Rattle.agent_turns.specs.Turns.{Tried}
 use Rattle.agent_turns.proofs.turning.turn.Goals as goal
