@@ -37,7 +37,7 @@ use Rattle.fleet_events.specs.declared.event.Event.{Event}
 use Rattle.fleet_events.specs.declared.event.Event.TheVariants.{Discover, Join, Leave, Drain, SetLimits, Install, Spread, NextRound, Take, Serve, Release, Report}
 use Rattle.fleet_events.specs.declared.refusal.Refusal.{Refusal}
 use Rattle.fleet_events.specs.declared.refusal.Refusal.TheVariants.{UnknownCollector, Unchanged, NumbersSpent}
-use Rattle.allocation_core.specs.State.{State, allocation_at, current_of, current_pairs, first_state, held_live, instance_at, served_at, was_given}
+use Rattle.allocation_core.specs.State.{State, allocation_at, current_of, current_pairs, first_state, held_live, instance_at, served_at, was_given, with_rounds}
 use Rattle.allocation_core.specs.Steps.{answer_by, answer_of, changed, entry_of, number_refusal, plan_refusal, place_named, place_of, refusal_of, same_pairs, spread_refusal, state_after, unjoined, unless_served, unlisted, with_plan}
 use Rattle.handover.specs.declared.holders.TheConstants.{LAST_NUMBER}
 use Rattle.allocation_core.specs.Runs.{state_of}
@@ -186,6 +186,20 @@ kept_with m taken round booked kept opened begun past =
       from_one = kept.from_one;
       begun = begun;
       past_rounds = past;
+    }
+
+-- of how many rounds reports are booked is of no matter
+pub rounds_kept : (m : State) (report_rounds : ℕ) → IsKept m → IsKept (with_rounds report_rounds m)
+rounds_kept m report_rounds kept =
+    record {
+      fleet = kept.fleet;
+      few_published = kept.few_published;
+      few_slots = kept.few_slots;
+      given_slots = kept.given_slots;
+      opened = kept.opened;
+      from_one = kept.from_one;
+      begun = kept.begun;
+      past_rounds = kept.past_rounds;
     }
 
 changed_kept : (m : State) (e : Event) → IsKept m → refusal_of m e ≡ None → IsKept (changed m e)
