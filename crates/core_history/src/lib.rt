@@ -20,5 +20,5 @@ mod writing;
 pub use error::HistoryError;
 pub use laws::renewed_read_back;
 pub use reading::{history_in, read_history};
-pub use report_rounds::{read_report_rounds, with_report_rounds};
+pub use report_rounds::read_report_rounds;
 pub use writing::{history_value, write_history};

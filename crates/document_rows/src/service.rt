@@ -113,7 +113,16 @@ fn add_rest(alloc: Global, text: &mut String, settings: &Settings) -> Result<(),
     text.push_str(rest_outline(alloc, settings)?.as_str())?;
     text.push_str(doors_outline(alloc, settings)?.as_str())?;
     text.push_str(handover_outline(alloc, settings)?.as_str())?;
-    text.push_str(spread_outline(alloc, settings.spread)?.as_str())
+    text.push_str(spread_outline(alloc, settings.spread)?.as_str())?;
+    text.push_str(rounds_outline(alloc, settings.report_rounds)?.as_str())
+}
+
+/// Of how many rounds reports are booked, where it is not the usual number.
+fn rounds_outline(alloc: Global, report_rounds: u32) -> Result<String, AllocError> {
+    if report_rounds == DEFAULT_REPORT_ROUNDS {
+        return Ok(String::new(alloc));
+    }
+    format!(in alloc; " rounds {report_rounds}")
 }
 
 /// The other settings.

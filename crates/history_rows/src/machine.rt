@@ -76,7 +76,10 @@ fn renew(
 /// Why a renewal is refused. None where it is not.
 fn renew_under(slot: &mut Slot, jobs: Vec<JobSpec>) -> Option<RenewalError> {
     match slot.take() {
-        Some(core) => put(slot, core.renew(jobs)),
+        Some(core) => {
+            let report_rounds = core.report_rounds();
+            put(slot, core.renew(jobs, report_rounds))
+        }
         None => None,
     }
 }
