@@ -7,8 +7,8 @@ use lists::Text;
 use reach_rules::{OwnLimits, Reach};
 use serde_json::Value;
 use service_settings::{
-    Collector, CollectorTimeout, JoiningPattern, ReleaseAfter, Settings, SettingsError, Spread,
-    address_of, duration_of, read_settings,
+    Collector, CollectorTimeout, DEFAULT_REPORT_ROUNDS, JoiningPattern, ReleaseAfter, Settings,
+    SettingsError, Spread, address_of, duration_of, read_settings,
 };
 use std::alloc::{AllocError, Global};
 
