@@ -65,7 +65,11 @@ fn with_rounds(opened: Option<Core>, report_rounds: ReportRounds) -> Option<Core
     }
 }
 
-fn open_history(alloc: Global, value: &Value, jobs: Vec<JobSpec>) -> Result<Option<Core>, AllocError>
+fn open_history(
+    alloc: Global,
+    value: &Value,
+    jobs: Vec<JobSpec>,
+) -> Result<Option<Core>, AllocError>
     ensures { IfOk result (λ o. o ≡ opened_from (get (codes "history") (view value.now)) jobs.items) }
 {
     match value.get("history") {

@@ -18,7 +18,6 @@ pub use reading::{LEAST_CONNECTIONS, MOST_CONNECTIONS, MOST_REPORT_ROUNDS};
 pub use settings::{
     Collector, CollectorTimeout, DEFAULT_CONNECTIONS, DEFAULT_FETCH_TIMEOUT, DEFAULT_GIVE_UP,
     DEFAULT_INTERVAL, DEFAULT_KEEP, DEFAULT_LISTEN, DEFAULT_REPORT_ROUNDS, DEFAULT_SETTLE,
-    DEFAULT_SLACK, Doors, Handover,
-    JobSpread, JoiningPattern, LONGEST_PATTERN, Lifecycle, MOST_SLACK, ReachChanges, ReleaseAfter,
-    Settings, Spread, read_settings,
+    DEFAULT_SLACK, Doors, Handover, JobSpread, JoiningPattern, LONGEST_PATTERN, Lifecycle,
+    MOST_SLACK, ReachChanges, ReleaseAfter, Settings, Spread, read_settings,
 };

@@ -32,7 +32,12 @@ impl Core {
             return Err(NotRenewed { core: self, why });
         }
         match self.carried(jobs) {
-            Ok((fleet, holders, served)) => Ok(self.with_fleet(fleet, holders, served, report_rounds)),
+            Ok((fleet, holders, served)) => Ok(self.with_fleet(
+                fleet,
+                holders,
+                served,
+                report_rounds,
+            )),
             Err(_) => Err(NotRenewed {
                 core: self,
                 why: RenewalError::Memory,
