@@ -3,7 +3,9 @@ use crate::jobs::{jobs_of, many_jobs, number};
 use crate::outline::outline;
 use crate::readers::{READ, fault, history, some};
 use alloc_desk::reallocate;
-use allocation_core::{Answer, Core, Event, JobSpec, NotRenewed, OpenError, RenewalError};
+use allocation_core::{
+    Answer, Core, Event, JobSpec, NotRenewed, OpenError, RenewalError, ReportRounds,
+};
 use core_history::{read_history, write_history};
 use fleet_events::read_event;
 use lists::List;
@@ -28,6 +30,7 @@ pub(crate) fn stepped(
             *twin = None;
             open(alloc, slot, jobs_of(alloc, text))
         }
+        "report_rounds" => book_of(alloc, slot, number(text)),
         "renew" => renew(alloc, slot, jobs_of(alloc, text)),
         "renew_many" => renew(alloc, slot, many_jobs(alloc, number(text))),
         "read_changed" => read_changed(alloc, slot, text),
@@ -59,6 +62,20 @@ fn opened(
             String::from_str(alloc, "opened")
         }
         Err(_) => String::from_str(alloc, "not opened"),
+    }
+}
+
+/// Reports are booked of so many of the last rounds from now on.
+fn book_of(alloc: Global, slot: &mut Slot, count: u32) -> Result<String, AllocError> {
+    match (slot.take(), ReportRounds::read(count)) {
+        (Some(core), Some(report_rounds)) => {
+            *slot = Some(core.with_report_rounds(report_rounds));
+            String::from_str(alloc, "so many")
+        }
+        (core, _) => {
+            *slot = core;
+            String::from_str(alloc, "as before")
+        }
     }
 }
 
