@@ -317,7 +317,7 @@ def name_gone(service, turn):
 
 
 def asked():
-    yield from map(reader, ("/-/healthy", "/-/ready", "/jobs", "/scrape_configs", "/certificate", "/jobs/node/targets", "/jobs/node/uncovered"))
+    yield from map(reader, ("/-/healthy", "/-/ready", "/jobs", "/scrape_configs", "/allocations", "/certificate", "/jobs/node/targets", "/jobs/node/uncovered"))
     yield Asked("`GET /jobs/node/targets?collector_id=a`", lambda _: ("GET", "/jobs/node/targets?collector_id=a", None), again="list")
     yield reader("/jobs/node/targets?collector_id=z")
     yield reader("/jobs/%FF/targets")

@@ -246,7 +246,7 @@ class Stranger(threading.Thread):
             self.enter(self.held[0])
 
     def look(self):
-        path = self.dice.choice(("/metrics", "/", "/certificate", "/jobs", "/scrape_configs", "/jobs/web/uncovered", *[f"/jobs/{job}/targets" for job in JOBS]))
+        path = self.dice.choice(("/metrics", "/", "/allocations", "/certificate", "/jobs", "/scrape_configs", "/jobs/web/uncovered", *[f"/jobs/{job}/targets" for job in JOBS]))
         status, text = self.service.ask("GET", path)
         if status == 200 and path.endswith("/targets"):
             held = [group["labels"]["__meta_allocator_target"] for one in json.loads(text).values() for group in one["targets"]]

@@ -380,7 +380,7 @@ def sources(folder):
     tell("a list of 4,194,304 bytes is taken, and no longer one", (found["longest"], found["longer"]) == (1, 0))
     tell("as many targets as may be are taken, and no list of more", (found["most"], found["more"]) == (16_381, 0))
     with open(f"{folder}/log") as it:
-        faults = dict(re.search(r'refresh failed: ([^"]*)" about="([^"]*)"', line).groups()[::-1] for line in it if "refresh failed" in line)
+        faults = dict(re.search(r'msg="refresh failed" job="([^"]*)" .* why="([^"]*)"$', line).groups() for line in it if "refresh failed" in line)
     too_long = {name: "the answer is too long" for name in ("endless", "long", "longer")}
     tell("the others say why", faults == {**too_long, "more": "too many targets"}, faults)
     memory = service.memory()

@@ -2,7 +2,7 @@
 """Runs `allocd serve` over settings, sources and figures that scripts/try_serve.py does not look at, and tells of each thing whether it holds: try_edge.py [PART ..]
 
 Where it listens and keeps its journal, each job's own rules, reloads with more sources, other orders and too many jobs, who is uncovered,
-names as text, the pages and their links, since when targets are held, what is counted, how long it took, what strangers send and don't send, answers to the byte, rounds over renewals and
+names as text, the pages, their links and their form, since when targets are held, what is counted, how long it took, what strangers send and don't send, answers to the byte, rounds over renewals and
 starts, sources that fall silent beside others, YAML, lists of reports, entity tags, lists that are acknowledged, loads that are made even, sources by name, files of targets. It needs
 Linux and the program (ALLOCD_PROGRAM, or dist/allocd)."""
 
@@ -111,6 +111,12 @@ def relabels(folder):
     reloaded(service, config([*jobs, {"job_name": "three", **found, "relabel_configs": [*drops, bare]}, {"job_name": "four", "http_sd_configs": [url("/none", port=1)]}]))
     tell("and how many have no address then", comes(lambda: of("three") == (0, 1, 1), 20), of("three"))
     tell("nothing where a source gave no list", of("four") == (0, 0, 0), of("four"))
+    sources = [it for job in ("three", "four") for it in json.loads(service.ask("GET", f"/jobs/{job}")[1])["sources"]]
+    told = [[it[name] for name in ("targets", "dropped", "without_address")] for it in sources]
+    tell("each job tells it of its sources, and that a source gave no list", told == [[0, 1, 1], [None] * 3], told)
+    rows = {row[0]: row[3:6] for path in ("/", "/jobs/three", "/jobs/four") for row in seen(service, path)[0].tables["Discovery sources"]}
+    counted, none = [rows[it] for it in ("three/1", url("/rules")["url"])], [rows[it] for it in ("four/1", url("/none", port=1)["url"])]
+    tell("so do the pages", (counted, none) == ([["0", "1", "1"]] * 2, [[""] * 3] * 2), rows)
     ends(service)
 
 
@@ -166,20 +172,24 @@ def texts(folder):
 
 
 class Page(html.parser.HTMLParser):
-    """The title, the links, what needs attention and the tables of a page: rows by a table's caption."""
+    """The title, the links, the forms, what needs attention and the tables of a page: rows by a table's caption."""
 
     def __init__(self, text):
         super().__init__()
-        self.title, self.links, self.needs, self.tables, self.tags, self.inside = "", [], [], {}, set(), []
+        self.title, self.links, self.needs, self.tables, self.tags, self.inside, self.forms, self.inputs = "", [], [], {}, set(), [], [], []
         self.feed(text)
 
     def handle_starttag(self, tag, attributes):
         attributes = dict(attributes)
         self.tags.add(tag)
-        if tag not in ("meta", "br"):
+        if tag not in ("meta", "br", "input"):
             self.inside.append(tag)
         if tag == "a":
             self.links.append(attributes["href"])
+        if tag == "form":
+            self.forms.append(attributes)
+        if tag == "input":
+            self.inputs.append(attributes)
         if tag == "li":
             self.needs.append([attributes.get("class"), ""])
         if tag == "caption":
@@ -309,6 +319,8 @@ def job_pages(folder):
     tell("the first of the media types decides", found == ["application/json"] * 3 + ["application/yaml"] + ["text/html; charset=utf-8"] * 2, found)
     tell("what has no page is told as before", (media(BROWSER, "/jobs"), media(BROWSER, "/collectors")) == ("application/json",) * 2)
     length = len(seen(service, "/jobs/lone")[1].encode())
+    varies = [headers_of(service, "/jobs/lone", accept)[0]["vary"] for accept in (None, BROWSER, "application/yaml")]
+    tell("each form says that there are others", varies == ["accept"] * 3, varies)
     tell("HEAD has the head of the same", head_of(service, "/jobs/lone", BROWSER) == (200, "text/html; charset=utf-8", str(length)), head_of(service, "/jobs/lone", BROWSER))
     reloaded(service, config([static("many", 1500)]))
     comes(lambda: service.ask("GET", "/jobs/many")[0] == 200 and of("many")["covered"] == 1500, 20)
@@ -353,6 +365,40 @@ def collector_pages(folder):
     tell("and that it is emptied", seen(service, "/collectors/1")[0].tables["State"][0][1] == "draining")
     tell("there is no other", answer_of(service, "/collectors/9", {"accept": BROWSER})[::2] == (404, '{"refused":"UnknownCollector"}'))
     tell("who asks for no page has the object", json.loads(service.ask("GET", "/collectors/1")[1])["limits"] == {"n": 2})
+    ends(service)
+
+
+def searches(folder):
+    """The form on the page, and what it leads to in a browser."""
+    odd = "a/b <i>&amp;?#%"
+    reach = [{"allow": True, "test": "equals", "label": "job", "value": job} for job in ("n", odd)]
+    jobs = [static("n", 3, target_limit=2), {"job_name": odd, "static_configs": [{"targets": ["127.0.0.1:9300"], "labels": {"team": "<b>x&y</b> z"}}]}, static("lone", 2, 9500)]
+    service = started(folder, [*jobs, static("many", 120, 10000)], collectors=[{"name": "a", "reach": reach}])
+    has(service, 'allocd_targets_covered{job="n"}', 2)
+    comes(lambda: service.ask("GET", "/-/ready")[0] == 200, 20)
+    page = seen(service, "/")[0]
+    form = {"action": "/targets", "role": "search"}
+    tell("the page has a form that searches", page.forms == [form] and [(it["type"], it["name"], it["value"]) for it in page.inputs] == [("search", "search", "")], (page.forms, page.inputs))
+    policy = headers_of(service, "/", BROWSER)[0]["content-security-policy"]
+    tell("which it may send to the service alone", "form-action 'self'" in policy and "default-src 'none'" in policy, policy)
+    asked = "<b>x&y</b> z"
+    page, text = seen(service, f"/targets?{urllib.parse.urlencode({'search': asked})}")
+    tell("what it leads to has the text in its title and in the same form", (page.title, page.forms, page.inputs[0]["value"]) == (f"allocd: targets with {asked}", [form], asked), (page.title, page.inputs))
+    tell("no text is markup, and it has no script", not {"script", "b", "i"} & page.tags and list(page.tables) == ["Targets"], page.tags)
+    number = {it["target"]: it["labels"]["__meta_allocator_target"] for it in json.loads(service.ask("GET", "/targets?search=127.0.0.1:9")[1])["targets"]}
+    row = page.tables["Targets"][0]
+    tell("a row has the number, the job and who holds it", (len(page.tables["Targets"]), row[:4], row[5]) == (1, ["127.0.0.1:9300", number["127.0.0.1:9300"], odd, "a"], ""), row)
+    tell("and the labels", 'team="<b>x&y</b> z"' in row[6], row)
+    tell("with links that lead somewhere", not (lost := [way for way in page.links if service.ask("GET", way)[0] != 200]) and {"/collectors/1", "/jobs/a%2Fb%20%3Ci%3E%26amp%3B%3F%23%25"} <= set(page.links), lost)
+    of = lambda search: [(row[2], row[3]) for row in seen(service, f"/targets?search={search}")[0].tables["Targets"]]
+    tell("of what nobody holds it is said why", (sorted(of("127.0.0.1:900")), of("127.0.0.1:95")) == (
+        [("n", "a"), ("n", "a"), ("n", "none: who reaches it is full")], [("lone", "none reaches it")] * 2), (of("127.0.0.1:900"), of("127.0.0.1:95")))
+    page, text = seen(service, "/targets?search=127.0.0.1:10")
+    tell("it has 100 targets at most, and says how many there are", len(page.tables["Targets"]) == 100 and "<p>120 live targets have the text" in text and "<p>And 20 more. A longer text" in text, len(page.tables["Targets"]))
+    page, text = seen(service, "/targets?search=nothing+has+it")
+    tell("where nothing is found it says so", page.tables["Targets"] == [] and "<p>0 live targets have the text" in text, text)
+    tell("who asks for no page has the object", json.loads(service.ask("GET", "/targets?search=127.0.0.1:95")[1])["all"] == 2)
+    tell("a search for nothing is refused", answer_of(service, "/targets?search=", {"accept": BROWSER})[::2] == (400, '{"refused":"Shape"}'))
     ends(service)
 
 
@@ -459,7 +505,7 @@ COUNTED = {
     "allocd_journal_broken": 0,
 }
 PROCESS = ("resident_memory_bytes", "virtual_memory_bytes", "cpu_seconds_total", "open_fds", "max_fds")
-READ_ONLY = ("/", "/jobs", "/scrape_configs", "/jobs/n/targets", "/jobs/n/uncovered", "/certificate", "/-/healthy", "/-/ready", "/metrics", "/nothing")
+READ_ONLY = ("/", "/jobs", "/scrape_configs", "/jobs/n/targets", "/jobs/n/uncovered", "/allocations", "/certificate", "/-/healthy", "/-/ready", "/metrics", "/nothing")
 
 
 def kernel_says(pid):
@@ -626,7 +672,7 @@ ROWS = [
 ]
 # To a service whose one target is held by its collector 1, `h`.
 HELD_ROWS = [
-    ("GET", "/jobs/j/targets?collector_id=h", b"", b"200 OK\r\n" + JSON + b"x-allocation-number: 1\r\nx-scrape-round: 1\r\n", b"\r\n\r\n[" + GROUP + b"]"),
+    ("GET", "/jobs/j/targets?collector_id=h", b"", b"200 OK\r\n" + JSON + b"vary: accept\r\nx-allocation-number: 1\r\nx-scrape-round: 1\r\n", b"\r\n\r\n[" + GROUP + b"]"),
     ("GET", "/jobs/j/targets", b"", b"200 OK\r\n" + JSON,
      b'\r\n\r\n{"h":{"_link":"/jobs/j/targets?collector_id=h","targets":[' + GROUP + b"]}}"),
     ("GET", "/certificate", b"", b"200 OK\r\n" + JSON,
@@ -852,10 +898,10 @@ def yaml(folder):
         as_json = headers_of(service, path)[1]
         said = [(headers_of(service, path, accept), accept, is_yaml) for accept, is_yaml in ACCEPTS]
         media = lambda is_yaml: "application/yaml" if is_yaml else "application/json"
-        right = all(text == as_json and headers["content-type"] == media(is_yaml) for (headers, text), _, is_yaml in said)
+        right = all((text, headers["content-type"], headers["vary"]) == (as_json, media(is_yaml), "accept") for (headers, text), _, is_yaml in said)
         tell(f"{path} is YAML for who asks for that, in the same bytes", right)
     headers, text = headers_of(service, "/jobs/none/targets", "application/yaml")
-    tell("a refusal is JSON", (headers["content-type"], text) == ("application/json", '{"refused":"UnknownJob"}'))
+    tell("a refusal is JSON", (headers["content-type"], headers["vary"], text) == ("application/json", None, '{"refused":"UnknownJob"}'))
     ends(service)
 
 
@@ -891,6 +937,35 @@ def lists_of_reports(folder):
     tell("a replay answers as the service did", (status, booked) == (0, [0, 1, 2, 3, 4, 5]), booked)
 
 
+def books_of(service, job):
+    """How many targets of a job were reported as up and as down in the last round, and of how many nothing was reported."""
+    return tuple(service.figure(f'allocd_reports_{what}{{job="{job}"}}') for what in ("up", "down", "missing"))
+
+
+def round_books(folder):
+    """The figures tell what was reported in the last round."""
+    service = started(folder, [static("n", 4), static("m", 2)], interval="4s")
+    tell("before a round is over they are 0", (books_of(service, "n"), books_of(service, "m")) == ((0, 0, 0), (0, 0, 0)))
+    has(service, "allocd_allocation", 1)
+    last = service.figure("allocd_round")
+    changes_from(service, last)
+    for job in "nm":
+        head = headers_of(service, f"/jobs/{job}/targets?collector_id=a")[0]
+    groups = json.loads(headers_of(service, "/jobs/n/targets?collector_id=a&take=false")[1])
+    numbers = [int(group["labels"]["__meta_allocator_target"]) for group in groups]
+    shared = {name: int(head[f"x-{header}"]) for name, header in (("number", "allocation-number"), ("round", "scrape-round"), ("collector", "collector"))}
+    reports = [{"target": numbers[0], "up": True, "samples": 3}, {"target": numbers[1], "up": True, "samples": 3}, {"target": numbers[2], "up": False}]
+    answers = json.loads(service.ask("POST", "/reports", {**shared, "reports": reports})[1])["answers"]
+    tell("three of six are reported", answers == ["Booked"] * 3, answers)
+    changes_from(service, shared["round"])
+    told = comes(lambda: books_of(service, "n") == (2, 1, 1), 2)
+    tell("of a job two are up, one is down and one is missing", told, books_of(service, "n"))
+    tell("of the other both are missing", books_of(service, "m") == (0, 0, 2), books_of(service, "m"))
+    changes_from(service, shared["round"] + 1)
+    tell("in the next round all are missing", comes(lambda: (books_of(service, "n"), books_of(service, "m")) == ((0, 0, 4), (0, 0, 2)), 2), books_of(service, "n"))
+    ends(service)
+
+
 def entity_tags(folder):
     """A list that is the same is not sent again to who shows its tag."""
     service = started(folder, [static("node", 4)])
@@ -902,6 +977,8 @@ def entity_tags(folder):
     status, headers, text = shows(tag)
     tell("who shows it is told that the list is the same", (status, text, headers["etag"], headers["x-allocation-number"]) == (304, "", tag, "1"), (status, text, headers.items()))
     tell("and has taken it", service.figure('allocd_collector_taken_allocation{collector="a"}') == 1)
+    counted = [service.figure('allocd_http_requests_total{route="/jobs/{job}/targets?collector_id",status="%s"}' % status) for status in ("200", "304")]
+    tell("it is counted as 304, and the list before as 200", counted == [1, 1], counted)
     tell("it may stand among others, and be weak", [shows(f'"x", W/{tag}')[0], shows(f'{tag},"y"')[0]] == [304, 304])
     tell("another one is none", [shows(f'"x{tag[1:]}')[0], shows(tag.strip('"'))[0], shows('"x", "y"')[0]] == [200, 200, 200])
     tell("as YAML it has none", (headers_of(service, path, "application/yaml")[0]["etag"], answer_of(service, path, {"accept": "application/yaml", "if-none-match": tag})[0]) == (None, 200))
@@ -1002,6 +1079,27 @@ def spreads(folder):
     wrong.ended()
     with open(f"{folder}/log") as it:
         tell("a slack above 1,000 is refused by name", "allocator.spread.slack: no whole number from 0 to 1000" in it.read())
+
+
+def moves(folder):
+    service = started(folder, [static("n", 4), static("m", 2, 9200)])
+    has(service, 'allocd_targets_covered{job="n"}', 4)
+    last = lambda: json.loads(service.ask("GET", "/allocations")[1])[0]
+    tell("an allocation that gives targets for the first time moves none", [last()[name] for name in ("covered", "moved", "moves", "more_moves")] == [6, 0, [], 0], last())
+    service.ask("POST", "/collectors", {"name": "<b>", "reach": ANY})
+    service.ask("POST", "/collectors/1/drain", {})
+    rows = [{"count": 2, "from": "a", "job": "m", "to": "<b>"}, {"count": 4, "from": "a", "job": "n", "to": "<b>"}]
+    tell("what moves is told by job, and from whom to whom", comes(lambda: last()["moves"] == rows, 10) and last()["moved"] == 6 == service.figure("allocd_allocation_moved"), last())
+    cell = Page(service.ask("GET", "/")[1]).tables["Last allocations"][0][-1]
+    with open(f"{folder}/log") as it:
+        line = [line for line in it if 'msg="allocation published"' in line][-1]
+    tell("how many moved is in the log", re.search(r" allocation=\d+ covered=6 moved=6 left=0 duration=\d+ms$", line), line)
+    tell("so it is on the page", cell == "6 targets2 of m from a to <b>4 of n from a to <b>", cell)
+    service.ask("DELETE", "/collectors/1")
+    service.ask("PUT", "/collectors/2/limits", {"limits": {"m": 1}})
+    tell("what nobody holds any more moved to nobody", comes(lambda: last()["moves"] == [{"count": 1, "from": "<b>", "job": "m", "to": None}], 10), last())
+    tell("who only looks at its head is answered too", service.ask("HEAD", "/allocations")[0] == 200)
+    ends(service)
 
 
 def spreads_by_job(folder):
@@ -1117,7 +1215,7 @@ def names(folder):
     tell("a source by name is asked", has(service, 'allocd_targets_covered{job="n"}', 2))
     tell("by the name that its URL has", Source.hosts["/named"] == f"LOCALHOST:{SOURCE.server_port}", Source.hosts["/named"])
     tell("a name without an address fails, and says why", comes(lambda: "no such name" in fault_of(service, "n/2"), 10), fault_of(service, "n/2"))
-    tell("its log line too", "refresh failed: no such name" in open(f"{folder}/log").read())
+    tell("its log line too", re.search(r'msg="refresh failed" job="n" source=2 url="http://no-such-host.invalid/sd" why="no such name"$', open(f"{folder}/log").read(), re.M))
     Source.lists["/named"] = ["127.0.0.1:7401"]
     tell("a source by name is asked again", has(service, 'allocd_targets{job="n"}', 1))
     began = time.monotonic()
@@ -1163,6 +1261,10 @@ def files(folder):
     tell("a pattern without a file is an empty list and no failure", service.figure('allocd_refresh_failures_total{source="f/1"}') == 0, service.figure('allocd_refresh_failures_total{source="f/1"}'))
     put("a.json", [group(7501, zone="x"), group(7502)])
     tell("a file that appears is read", has(service, 'allocd_targets_covered{job="f"}', 2))
+    line = re.compile(r'^ts=\S+ level=info msg="targets discovered" job="f" source=1 url="file:[^" ]*targets/\*\.json%0A[^" ]*more\.json%0A" added=2 removed=0$', re.M)
+    with open(f"{folder}/log") as it:
+        told = it.read()
+    tell("its URL with both paths is in one line of the log", line.search(told), told)
     listed = {g["targets"][0]: g["labels"].get("from") for g in json.loads(service.ask("GET", "/jobs/f/targets?collector_id=a")[1])}
     tell("its targets have its path, and no URL", set(listed.values()) == {path("a.json")}, listed)
     put("b.json", [group(7503)])
@@ -1198,5 +1300,5 @@ def files(folder):
 SOURCE = http.server.ThreadingHTTPServer(("127.0.0.1", 0), Source)
 SOURCE.daemon_threads = True
 threading.Thread(target=SOURCE.serve_forever, daemon=True).start()
-PARTS = (settings, relabels, reloads, uncovered, texts, page, job_pages, collector_pages, since, series, figures, process, takes, talks, requests, lifecycles, held_rows, stalls, rounds, rounds_kept, silences, yaml, lists_of_reports, entity_tags, acknowledge, spreads, spreads_by_job, evens, evens_in_turn, names, files)
+PARTS = (settings, relabels, reloads, uncovered, texts, page, job_pages, collector_pages, searches, since, series, figures, process, takes, talks, requests, lifecycles, held_rows, stalls, rounds, rounds_kept, silences, yaml, lists_of_reports, round_books, entity_tags, acknowledge, spreads, moves, spreads_by_job, evens, evens_in_turn, names, files)
 run_parts(PARTS, sys.argv[1:])

@@ -10,6 +10,7 @@ and a source that gives none keeps its list.
 import http.server
 import json
 import os
+import re
 import socket
 import struct
 import subprocess
@@ -271,7 +272,7 @@ def lists(folder):
     found = [answer for event, answer in pairs if event["event"] == "discover"]
     tell("a list stays where its source fails, and changes where it lists anew", (status, found) == (0, wanted), found)
     with open(f"{folder}/log") as it:
-        faults = [line.split("refresh failed: ")[1].split('"')[0] for line in it if "refresh failed: " in line]
+        faults = [re.search(r' why="([^"]*)"$', line)[1] for line in it if 'msg="refresh failed"' in line]
     tell("the log says why each failed", faults == [said for _, said in ANSWERS if not said.startswith("Discovered")], faults)
 
 

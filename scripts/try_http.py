@@ -57,7 +57,7 @@ def without_times(lines):
     # What is another one at each time.
     times = re.compile(r"^(date: \w{3}, \d\d \w{3} \d{4} \d\d:\d\d:\d\d GMT|x-allocator-epoch: \d+|x-scrape-round-age: \d+)$")
     lines = [line.partition(":")[0] if times.match(line) else line for line in lines]
-    return [re.sub(r'("__param_epoch":"|"last_take":)\d+', r"\1", line) for line in lines]
+    return [re.sub(r'("__param_epoch":"|"last_take":|"milliseconds":|"published":")[\d:TZ-]+', r"\1", line) for line in lines]
 
 
 def transcript(folder, config=CONFIG, title="Each with an answer"):

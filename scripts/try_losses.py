@@ -103,7 +103,7 @@ class Started(Service):
         return exchange(self.port, method, path, headers, None if body is None else json.dumps(body).encode())
 
     def jobs(self):
-        """The jobs that are followed: a connection may end as another desk is opened."""
+        """The jobs that are followed: a connection may end at a renewal."""
         found = []
         comes(lambda: found.append(self.ask("GET", "/jobs")[1]) or found[-1], 5)
         return sorted(json.loads(found[-1]))
@@ -566,6 +566,14 @@ GHOST = {"name": "ghost", "reach": ANY}
 row("a join of a page of another site (origin): 403", method="POST", path="/collectors", body=GHOST, status=(403,), headers={"origin": "http://evil.example"})(strange)
 row("a drain of a page of another site (sec-fetch-site): 403", method="POST", path="/collectors/1/drain", body=None, status=(403,),
     headers={"sec_fetch_site": "cross-site"})(strange)
+LIST = "/jobs/node/targets?collector_id=a"
+row("a list that a page of another site would take (sec-fetch-site): 403", method="GET", path=LIST, body=None, status=(403,), headers={"sec_fetch_site": "cross-site"})(strange)
+row("and (origin): 403", method="GET", path=LIST, body=None, status=(403,), headers={"origin": "http://evil.example"})(strange)
+row("a list that it tells to be followed: 403", method="GET", path="/acknowledged?collector=1&epoch=1&job=node&list=1", body=None, status=(403,), headers={"sec_fetch_site": "cross-site"})(strange)
+row("a path without a route, of a page of another site: 403", method="GET", path="/nothing", body=None, status=(403,), headers={"sec_fetch_site": "cross-site"})(strange)
+row("a list that it only looks at: shown", method="GET", path=LIST + "&take=false", body=None, status=(200,), headers={"sec_fetch_site": "cross-site"})(strange)
+row("a page that it links to: shown", method="GET", path="/jobs/node", body=None, status=(200,), headers={"sec_fetch_site": "cross-site", "origin": "http://evil.example"})(strange)
+row("and by the method HEAD: shown", method="HEAD", path=LIST, body=None, status=(200,), headers={"sec_fetch_site": "cross-site"})(strange)
 row("a join under a name that was rebound (host): refused", method="POST", path="/collectors", body=GHOST, status=(400, 403, 421), headers={"host": "evil.example"})(strange)
 row("a list under a name that was rebound (host): refused", method="GET", path="/jobs", body=None, status=(400, 403, 421), headers={"host": "evil.example"})(strange)
 

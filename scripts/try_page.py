@@ -1,7 +1,7 @@
 #!/usr/bin/env python3
 """Has headless Chromium lay out the pages of a service of 7,280 targets and 60 collectors at four widths: try_page.py [FOLDER]
 
-They are the page of the service, and those of a job with more targets than a page has rows, and of a collector. At none of the widths one scrolls sideways.
+They are the page of the service, and those of a job with more targets than a page has rows, of a collector, and of a search. At none of the widths one scrolls sideways.
 On a screen that is wide enough for its tables the service's is less than 3,000 pixels high. In a folder that is named it leaves pictures of each: wide,
 narrow, and dark. It needs Debian's package chromium and the program (ALLOCD_PROGRAM, or dist/allocd)."""
 
@@ -84,7 +84,7 @@ def main():
         service = Service(folder, config())
         service.is_up()
         tell("7,280 targets have a collector", comes(lambda: sum(service.figure(f'allocd_targets_covered{{job="{name}"}}') or 0 for name in JOBS) == 7280, 60))
-        for kind, path in (("the service", "/"), ("a job", f"/jobs/{JOBS[0]}"), ("a collector", "/collectors/8")):
+        for kind, path in (("the service", "/"), ("a job", f"/jobs/{JOBS[0]}"), ("a collector", "/collectors/8"), ("a search", "/targets?search=10.")):
             look(folder, service, kind, path)
         tell("the service ends", service.quit() == (200, 0))
     return tell.end()

@@ -3,7 +3,7 @@
 
 Each path that a page names, in backquotes or by a link, is in the repository, and each section that it names of a page. No sentence of README, of
 docs/operate and of docs/understand has more than 30 words: what stands in backquotes is one word, and each cell of a table is a passage of its own.
-README and docs/operate say nothing by a word that only the sources have. Of the sources docs/operate/HTTP.md has each route, SERVE.md each metric, and
+README, docs/operate and what the program writes say nothing by a word that only the sources have. Of the sources docs/operate/HTTP.md has each route, SERVE.md each metric, and
 CONFIG.md's example each member that is read. Each constant of LIMITS.md stands where it says, with its number. README has a screen or two. It needs git,
 and no program."""
 
@@ -107,6 +107,15 @@ def inner_words(name):
     return [one for one in sentences(text_of(name)) if INNER.search(one)]
 
 
+def inner_texts():
+    """Texts of the program, as log lines, answers and help, that say such a word. Comments are none."""
+    for path in sorted(glob.glob(f"{ROOT}/crates/*/src/**/*.rt", recursive=True)):
+        code = "\n".join(line for line in text_of(os.path.relpath(path, ROOT)).split("\n") if not line.lstrip().startswith(("//", "ghost ")))
+        for literal in re.findall(r'"((?:[^"\\]|\\.)*)"', code):
+            if INNER.search(literal):
+                yield f"{os.path.relpath(path, ROOT)}: {literal}"
+
+
 def limits():
     """The rows of docs/operate/LIMITS.md: the numbers of each, its constants, and the crates and files in which it says that they stand."""
     for line in text_of("docs/operate/LIMITS.md").split("\n"):
@@ -177,6 +186,7 @@ def rows():
         yield f"{name}: no sentence has more than {MOST_WORDS} words", long_sentences(name)
     for name in for_operators():
         yield f"{name}: no word that only the sources have", inner_words(name)
+    yield "no text of the sources says a word that only they have", list(inner_texts())
     yield "docs/operate/CONFIG.md: its example has each member that is read", sorted(members_read() - members_shown())
     yield "docs/operate/SERVE.md: its table has each metric of the sources, and no other", sorted(set.symmetric_difference(*metrics()))
     yield "docs/operate/HTTP.md: its table has each route of the sources, and no other", sorted(set.symmetric_difference(*routes()))

@@ -110,6 +110,8 @@ def tried(folder, it, port):
     tell("a drain, from a page of the same site", drained.status == 200 and json.loads(drained.text) == {"answer": "Draining"}, drained.text)
     foreign = got("POST", "/collectors/1/drain", PASSWORD, headers={"Origin": "https://evil.example", "Sec-Fetch-Site": "cross-site"})
     tell("and from another site: 403 Origin", (foreign.status, foreign.text) == (403, '{"refused":"Origin"}'), foreign.text)
+    linked = got("GET", "/jobs/node", PASSWORD, headers={"Sec-Fetch-Site": "cross-site", "Sec-Fetch-Mode": "navigate"})
+    tell("a link from another site leads to its page: 200", linked.status == 200, linked.status)
     for path in ("/-/quit", "/-/reload"):
         refused = got("POST", path, PASSWORD)
         tell(f"{path}: 403 of nginx", refused.status == 403 and "<html>" in refused.text, refused.text)

@@ -100,7 +100,7 @@ def texts_of(cell):
 
 
 def causes():
-    """Why a source gave no list, as a log line says it behind `refresh failed:`, but for what a body or a file is at fault in."""
+    """Why a source gave no list, as a log line says it behind `why=`, but for what a body or a file is at fault in."""
     with open(f"{ROOT}/crates/http_get/src/cause.rt") as it:
         found = re.findall(r'Cause::\w+ => "([^"]*)"', it.read())
     for name in ("http_get/src/error.rt", "file_configs/src/fault.rt"):

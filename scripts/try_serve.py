@@ -221,7 +221,7 @@ def routes(folder):
     tell("it is ready", comes(lambda: ask(port, "GET", "/-/ready")[0] == 200))
     rows = [
         ("GET", "/-/healthy", None, 200), ("GET", "/livez", None, 200), ("GET", "/readyz", None, 200),
-        ("GET", "/scrape_configs", None, 200), ("GET", "/jobs", None, 200), ("GET", "/certificate", None, 200),
+        ("GET", "/scrape_configs", None, 200), ("GET", "/jobs", None, 200), ("GET", "/allocations", None, 200), ("GET", "/certificate", None, 200),
         ("GET", "/jobs/node/targets", None, 200), ("GET", "/jobs/node/targets?collector_id=a", None, 200),
         ("GET", "/jobs/node/targets?collector_id=z", None, 404), ("GET", "/nothing", None, 404), ("GET", "/", None, 200),
         ("GET", "/jobs/node/uncovered", None, 200), ("GET", "/jobs/z/uncovered", None, 404),
@@ -1006,7 +1006,7 @@ class Newcomers:
 
 
 def newcomers_at_the_end(folder):
-    """Ends, and desks that are opened anew, while connections come all the time."""
+    """Ends, and renewals, while connections come all the time."""
     journal = f"{folder}/journal"
     configs = [with_jobs(), with_jobs(MORE)]
     seen, cut, wrong, longest, statuses = [], 0, [], 0, set()

@@ -118,7 +118,7 @@ class Supervised:
         return comes(now, 10)
 
     def jobs(self):
-        """The jobs that are followed: a connection may end as another desk is opened."""
+        """The jobs that are followed: a connection may end at a renewal."""
         found = []
         comes(lambda: found.append(ask(self.port, "GET", "/jobs", seconds=5)[1]) or found[-1], 5)
         return sorted(json.loads(found[-1]))

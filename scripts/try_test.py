@@ -18,6 +18,7 @@ ROWS = (
     ("relabel", b"UnknownAction", b"UnknownActiom"),
     ("replay", b"Joined ", b"Joinee "),
     ("audit", b"consistent files=", b"consistent filet="),
+    ("books", b',"samples":', b',"samplet":'),
     ("session", b"AlreadyJoined", b"AlreadyJoimed"),
     ("words", b"a similar subcommand exists", b"a similar subcommand exisst"),
     ("http", b"allocd is healthy", b"allocd is wealthy"),

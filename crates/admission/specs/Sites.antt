@@ -6,7 +6,7 @@ use Rattle.std.specs.Char.{to_ascii_lowercase}
 use Rattle.http_header.specs.FieldValue.{FieldValue}
 use Rattle.http_header.specs.HeaderMap.{Entries, get, get_all}
 use Rattle.sd_routes.specs.declared.ask.Ask.{Ask}
-use Rattle.sd_routes.specs.declared.ask.Ask.TheVariants.{Status}
+use Rattle.sd_routes.specs.declared.ask.Ask.TheVariants.{Status, ScrapeConfigs, Jobs, Job, JobTargets, CollectorTargets, Uncovered, FindTargets, Acknowledged, Allocations, Certificate, Collectors, Collector, Join, Leave, Drain, Release, SetLimits, Report, Healthy, Live, Ready, Metrics, Reload, Quit}
 
 -- they differ in nothing but the case of letters
 abbrev pub same_letters : List ℕ → List ℕ → Bool
@@ -44,13 +44,41 @@ is_other_site site = not (bytes_eq site.bytes (codes "same-origin")) && not (byt
 abbrev pub is_from_other_site : Entries FieldValue → Bool
 is_from_other_site fields = option_map_or is_other_site (get fields (codes "sec-fetch-site")) false
 
-abbrev pub is_page : Option Ask → Bool
-is_page (Some Status) = true
-is_page _ = false
+-- ---- what may be asked from everywhere
 
--- somebody follows a link to the page for people
-abbrev pub is_visit : Option Ask → Entries FieldValue → Bool
-is_visit asked fields = option_map_or (λ (mode : FieldValue). is_page asked && bytes_eq mode.bytes (codes "navigate")) (get fields (codes "sec-fetch-mode")) false
+-- nothing is changed by it, no list is taken, and none is noted as followed
+abbrev pub only_shows : Ask → Bool
+only_shows Status = true
+only_shows (ScrapeConfigs rules) = true
+only_shows Jobs = true
+only_shows (Job job) = true
+only_shows (JobTargets job) = true
+only_shows (CollectorTargets job name takes) = not takes
+only_shows (Uncovered job) = true
+only_shows (FindTargets text) = true
+only_shows (Acknowledged told counts) = not counts
+only_shows Allocations = true
+only_shows Certificate = true
+only_shows Collectors = true
+only_shows (Collector collector) = true
+only_shows Join = false
+only_shows (Leave collector) = false
+only_shows (Drain collector) = false
+only_shows (Release collector) = false
+only_shows (SetLimits collector) = false
+only_shows Report = false
+only_shows Healthy = true
+only_shows Live = true
+only_shows Ready = true
+only_shows Metrics = true
+only_shows Reload = false
+only_shows Quit = false
 
+-- a request that has no place shows nothing
+abbrev pub is_shown : Option Ask → Bool
+is_shown None = false
+is_shown (Some asked) = only_shows asked
+
+-- a page of another site asks for more than to be shown something
 abbrev pub is_foreign : Option Ask → Entries FieldValue → Bool
-is_foreign asked fields = not (has_own_origin fields) || (is_from_other_site fields && not (is_visit asked fields))
+is_foreign asked fields = not (is_shown asked) && (not (has_own_origin fields) || is_from_other_site fields)

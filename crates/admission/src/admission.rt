@@ -36,7 +36,7 @@ impl Admission {
     }
 
     /// Why a request is refused by its head, whatever its body. Where several refusals hold, the first of these is given: a foreign host, a
-    /// page of another site, no token, a transfer coding, an expectation, a length, a media type. A request that has no place
+    /// change by a page of another site, no token, a transfer coding, an expectation, a length, a media type. A request that has no place
     /// is asked for no token.
     pub fn refusal(&self, ask: Option<&Ask>, fields: &HeaderMap) -> Option<RequestError>
         ensures { result ≡ refusal_of self.now (option_copied ask.entry) fields.now }

@@ -29,6 +29,7 @@ pub(crate) fn is_allowed(
         | Ask::Uncovered(_)
         | Ask::FindTargets(_)
         | Ask::Acknowledged { told: _, counts: _ }
+        | Ask::Allocations
         | Ask::Certificate
         | Ask::Collectors
         | Ask::Collector(_)

@@ -1,7 +1,7 @@
 //! Under which name a service is asked, and by pages of which site.
 ghost use Rattle.std.specs.Prelude.{◌≡◌, ◌==◌, option_copied};
 ghost use Rattle.std.specs.List.{before_first};
-ghost use Rattle.admission.specs.Sites.{same_letters as same_letters_of, is_own_host as is_own_host_of, are_own_hosts as are_own_hosts_of, is_origin_of as is_origin_at, is_own_origin as is_own_origin_of, has_own_origin as has_own_origin_of, is_visit as is_visit_of, is_from_other_site as is_from_other_site_of, is_foreign as is_foreign_of};
+ghost use Rattle.admission.specs.Sites.{same_letters as same_letters_of, is_own_host as is_own_host_of, are_own_hosts as are_own_hosts_of, is_origin_of as is_origin_at, is_own_origin as is_own_origin_of, has_own_origin as has_own_origin_of, only_shows as only_shows_of, is_shown as is_shown_of, is_from_other_site as is_from_other_site_of, is_foreign as is_foreign_of};
 
 use http_header::{HOST, HeaderMap, ORIGIN};
 use lists::{List, Text};
@@ -53,12 +53,59 @@ pub(crate) fn same_letters(one: &[u8], other: &[u8]) -> bool
     one.eq_ignore_ascii_case(other)
 }
 
-/// Whether a request comes from a page of another site (Fetch Standard, section 3.2; Fetch Metadata Request Headers, section 2). That somebody
-/// follows a link to what is for all to read is no fault.
+/// Whether a request that changes something comes from a page of another site (Fetch Standard, section 3.2; Fetch Metadata Request Headers,
+/// section 2). What is only shown is no fault: such a page may link to it, and reads nothing of it.
 pub(crate) fn is_foreign(ask: Option<&Ask>, fields: &HeaderMap) -> bool
     ensures { result ≡ is_foreign_of (option_copied ask.entry) fields.now }
 {
-    !has_own_origin(fields) || (is_from_other_site(fields) && !is_visit(ask, fields))
+    !is_shown(ask) && (!has_own_origin(fields) || is_from_other_site(fields))
+}
+
+/// Whether a request has a place, and what it asks for is only shown.
+fn is_shown(ask: Option<&Ask>) -> bool
+    ensures { result ≡ is_shown_of (option_copied ask.entry) }
+{
+    match ask {
+        Some(ask) => only_shows(ask),
+        None => false,
+    }
+}
+
+/// Whether nothing is changed by what is asked for, no list is taken and none is noted as followed.
+fn only_shows(ask: &Ask) -> bool
+    ensures { result ≡ only_shows_of ask.now }
+{
+    match ask {
+        Ask::Status
+        | Ask::ScrapeConfigs { rules: _ }
+        | Ask::Jobs
+        | Ask::Job(_)
+        | Ask::JobTargets(_)
+        | Ask::Uncovered(_)
+        | Ask::FindTargets(_)
+        | Ask::Allocations
+        | Ask::Certificate
+        | Ask::Collectors
+        | Ask::Collector(_)
+        | Ask::Healthy
+        | Ask::Live
+        | Ask::Ready
+        | Ask::Metrics => true,
+        Ask::CollectorTargets {
+            job: _,
+            name: _,
+            takes,
+        } => !*takes,
+        Ask::Acknowledged { told: _, counts } => !*counts,
+        Ask::Join
+        | Ask::Leave(_)
+        | Ask::Drain(_)
+        | Ask::Release(_)
+        | Ask::SetLimits(_)
+        | Ask::Report
+        | Ask::Reload
+        | Ask::Quit => false,
+    }
 }
 
 /// Whether each origin that is told is the service itself.
@@ -105,18 +152,6 @@ fn is_from_other_site(fields: &HeaderMap) -> bool
     match fields.get("sec-fetch-site") {
         Some(site) => site.as_bytes() != b"same-origin".as_slice()
             && site.as_bytes() != b"none".as_slice(),
-        None => false,
-    }
-}
-
-/// Whether somebody follows a link to what is for all to read.
-fn is_visit(ask: Option<&Ask>, fields: &HeaderMap) -> bool
-    ensures { result ≡ is_visit_of (option_copied ask.entry) fields.now }
-{
-    let is_page = matches!(ask, Some(Ask::Status));
-    let mode = fields.get("sec-fetch-mode");
-    match mode {
-        Some(mode) => is_page && mode.as_bytes() == b"navigate".as_slice(),
         None => false,
     }
 }

@@ -1,5 +1,5 @@
 //! The program `allocd`: what it writes to standard output is a stated function of what it reads from standard input, or of the files of an
-//! audit or a seal; but for `session` and `serve`.
+//! audit, a table of books or a seal; but for `session` and `serve`.
 #![tactic(auto)]
 
 mod fleet_session;
@@ -7,7 +7,9 @@ mod fleet_session;
 use command_words::{Asked, read_words};
 use fleet_session::run_session;
 use log_queue::{Queued, start_log};
-use offline_commands::{Ending, Status, Stop, audit_files, run, seal_file, write_last, write_stop};
+use offline_commands::{
+    Ending, Status, Stop, audit_files, books_of_files, run, seal_file, write_last, write_stop,
+};
 use scrape_client::start_lookups;
 use serve_command::{Machine, serve};
 use std::alloc::{AllocGlobal, Global};
@@ -89,6 +91,9 @@ where
         Asked::Answer(command) => status_of(run(alloc, *command, &mut rt.reader(), &mut writer)),
         Asked::Session => status_of(run_session(rt, alloc, &mut rt.reader(), &mut writer)),
         Asked::Audit(paths) => status_of(audit_files(rt, alloc, paths.as_slice(), &mut writer)),
+        Asked::Books(paths) => {
+            status_of(books_of_files(rt, alloc, paths.as_slice(), &mut writer))
+        }
         Asked::Seal(path) => status_of(seal_file(rt, alloc, path, &mut writer)),
         // It is served by `main`, where the program's own handle may wait.
         Asked::Serve(_) => status_of(Ending::Answered(Status::Unreadable)),

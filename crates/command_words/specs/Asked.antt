@@ -20,6 +20,8 @@ pub data Said : Type 0 where
   RunsSession : Said
   -- the paths
   Audits : List Text → Said
+  -- the paths
+  Books : List Text → Said
   -- the path
   Seals : Text → Said
   -- the configuration, the address, the journal, and whether only to check
@@ -53,6 +55,9 @@ plans_by rows = option_map_or
 abbrev pub audits_by : List Row → Option Said
 audits_by rows = option_map Audits (all_of (codes "FILE") rows)
 
+abbrev pub books_by : List Row → Option Said
+books_by rows = option_map Books (all_of (codes "FILE") rows)
+
 abbrev pub seals_by : List Row → Option Said
 seals_by rows = option_map Seals (first_of (codes "FILE") rows)
 
@@ -70,6 +75,7 @@ named name rows =
     else if bytes_eq name (codes "replay") then Some (Answers Replay)
     else if bytes_eq name (codes "session") then Some RunsSession
     else if bytes_eq name (codes "audit") then audits_by rows
+    else if bytes_eq name (codes "books") then books_by rows
     else if bytes_eq name (codes "seal") then seals_by rows
     else if bytes_eq name (codes "serve") then serves_by rows
     else None
@@ -111,6 +117,7 @@ abbrev pub said : Asked → Option Said
 said (asked.Answer command) = Some (Answers command)
 said asked.Session = Some RunsSession
 said (asked.Audit paths) = Some (Audits (map (λ s. s.now) paths.items))
+said (asked.Books paths) = Some (Books (map (λ s. s.now) paths.items))
 said (asked.Seal path) = Some (Seals path.now)
 said (asked.Serve o) = Some (Serves o.config.now (text_of o.listen) (text_of o.journal) o.check_config)
 said (asked.Shown text) = None

@@ -49,6 +49,9 @@ session = new_app (codes "session")
 abbrev pub audit : App
 audit = with_rule (new_app (codes "audit")) (required_rule (file_rule (codes "FILE")))
 
+abbrev pub books : App
+books = with_rule (new_app (codes "books")) (required_rule (file_rule (codes "FILE")))
+
 abbrev pub seal : App
 seal = with_rule (new_app (codes "seal")) (required_rule (one_file_rule (codes "FILE")))
 
@@ -80,7 +83,7 @@ with_readers a =
 
 -- The commands that read files.
 abbrev pub with_others : App → App
-with_others a = with_subcommand (with_subcommand (with_subcommand a audit.top) seal.top) serve.top
+with_others a = with_subcommand (with_subcommand (with_subcommand (with_subcommand a audit.top) books.top) seal.top) serve.top
 
 abbrev pub program : App
 program = with_others (with_readers alone)

@@ -1,7 +1,7 @@
 //! What a command line asks for.
-ghost use Rattle.std.specs.Prelude.{◌≡◌, ◌⊎◌, None, Some, true, IfOk, IfSome, map, option_map, string_bytes};
-ghost use Rattle.clap.specs.Words.{found_of, rows_of, subcommand_rows_of};
-ghost use Rattle.command_words.specs.Asked.{Answers, are_taken, asked_by, asked_in, audits_by, command_in, is_set as is_set_by, named, number_or_zero, plans_alone_by, plans_by, said, seals_by, serves_by, spread_by, text_of};
+ghost use Rattle.std.specs.Prelude.{◌≡◌, ◌⊎◌, None, Some, true, IfOk, IfSome, codes, map, option_map, string_bytes};
+ghost use Rattle.clap.specs.Words.{all_of, found_of, rows_of, subcommand_rows_of};
+ghost use Rattle.command_words.specs.Asked.{Answers, are_taken, asked_by, asked_in, audits_by, books_by, command_in, is_set as is_set_by, named, number_or_zero, plans_alone_by, plans_by, said, seals_by, serves_by, spread_by, text_of};
 
 use crate::commands::program;
 use crate::refusal::{no_command, no_spread, refused};
@@ -16,6 +16,8 @@ pub enum Asked<'a> {
     Session,
     /// The paths of the journals of an audit, one at the least.
     Audit(Vec<&'a str>),
+    /// The paths of the journals whose books are told, one at the least.
+    Books(Vec<&'a str>),
     /// The path of a journal that is to have its digests anew.
     Seal(&'a str),
     Serve(ServeOptions<'a>),
@@ -97,6 +99,7 @@ fn command_named<'a>(
         "replay" => Ok(Asked::Answer(InputCommand::Replay)),
         "session" => Ok(Asked::Session),
         "audit" => audit_of(alloc, matches),
+        "books" => books_of(alloc, matches),
         "seal" => seal_of(alloc, matches),
         "serve" => serve_of(alloc, matches),
         _ => no_command(alloc),
@@ -159,13 +162,32 @@ fn number_in(text: &str) -> u32
 fn audit_of<'a>(alloc: Global, matches: &ArgMatches<'a>) -> Result<Asked<'a>, AllocError>
     ensures { IfOk result (λ a. said a ≡ audits_by (rows_of (found_of matches.now))) }
 {
+    match paths_of(alloc, matches)? {
+        Some(paths) => Ok(Asked::Audit(paths)),
+        None => no_command(alloc),
+    }
+}
+
+fn books_of<'a>(alloc: Global, matches: &ArgMatches<'a>) -> Result<Asked<'a>, AllocError>
+    ensures { IfOk result (λ a. said a ≡ books_by (rows_of (found_of matches.now))) }
+{
+    match paths_of(alloc, matches)? {
+        Some(paths) => Ok(Asked::Books(paths)),
+        None => no_command(alloc),
+    }
+}
+
+/// The paths of the files that are named, if some are.
+fn paths_of<'a>(alloc: Global, matches: &ArgMatches<'a>) -> Result<Option<Vec<&'a str>>, AllocError>
+    ensures { IfOk result (λ o. option_map (λ v. map (λ s. s.now) v.items) o ≡ all_of (codes "FILE") (rows_of (found_of matches.now))) }
+{
     match matches.get_strs("FILE") {
         Some(paths) => {
             let mut files = Vec::new(alloc);
             files.extend_from_slice(paths)?;
-            Ok(Asked::Audit(files))
+            Ok(Some(files))
         }
-        None => no_command(alloc),
+        None => Ok(None),
     }
 }
 

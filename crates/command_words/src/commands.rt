@@ -1,7 +1,7 @@
 //! The commands of `allocd`, with their help.
 ghost use Rattle.std.specs.Prelude.{◌≡◌, IfOk};
 ghost use Rattle.clap.specs.Words.{app_of, new_app};
-ghost use Rattle.command_words.specs.Commands.{alone as alone_app, audit as audit_app, plan as plan_app, program as program_app, seal as seal_app, serve as serve_app, with_others as with_others_app, with_readers as with_readers_app};
+ghost use Rattle.command_words.specs.Commands.{alone as alone_app, audit as audit_app, books as books_app, plan as plan_app, program as program_app, seal as seal_app, serve as serve_app, with_others as with_others_app, with_readers as with_readers_app};
 
 use crate::limits::{GREATEST_NUMBER, MOST_BINS_IN_A_ROW, MOST_PERCENT};
 use crate::options::{file, files, flag, number_option, option, required_option};
@@ -14,7 +14,7 @@ pub const VERSION: &str = "0.1.0";
 const PROGRAM: &str = "Allocates the scrape targets of Prometheus to its collectors";
 
 const PROGRAM_ENDS: &str = "\
-All commands but audit, seal and serve read standard input; docs/understand/FORMATS.md tells what they read and write.
+All commands but audit, books, seal and serve read standard input; docs/understand/FORMATS.md tells what they read and write.
 
 Exit status of all commands:
   0  it is done, or what was to be judged is right
@@ -98,6 +98,16 @@ Exit status:
 
 const JOURNALS: &str = "The journals, in their order";
 
+const BOOKS: &str = "Tells what is booked of each target in some journals";
+
+const BOOKS_ENDS: &str = "\
+Standard output: an object of JSON in a line for each target that a journal knows.
+
+Exit status:
+  0  each journal is read
+  2  the words are wrong, a journal is not read, as the last line says, or a file is too long
+  3  a file is not read, as standard error says, no memory was left, or a write failed";
+
 const SEAL: &str = "Writes a journal that somebody mended, with its digests anew";
 
 const SEAL_ENDS: &str = "\
@@ -172,6 +182,7 @@ fn with_others<'a>(alloc: Global, command: Command<'a>) -> Result<Command<'a>, A
 {
     command
         .subcommand(audit(alloc)?)?
+        .subcommand(books(alloc)?)?
         .subcommand(seal(alloc)?)?
         .subcommand(serve(alloc)?)
 }
@@ -196,6 +207,12 @@ fn audit<'a>(alloc: Global) -> Result<Command<'a>, AllocError>
     ensures { IfOk result (λ c. app_of c ≡ audit_app) }
 {
     told(alloc, "audit", AUDIT, AUDIT_ENDS).arg(files(alloc, "FILE", JOURNALS))
+}
+
+fn books<'a>(alloc: Global) -> Result<Command<'a>, AllocError>
+    ensures { IfOk result (λ c. app_of c ≡ books_app) }
+{
+    told(alloc, "books", BOOKS, BOOKS_ENDS).arg(files(alloc, "FILE", JOURNALS))
 }
 
 fn seal<'a>(alloc: Global) -> Result<Command<'a>, AllocError>

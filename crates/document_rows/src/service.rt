@@ -55,6 +55,7 @@ fn asked_for(alloc: Global, asked: &Asked<'_>) -> Result<String, AllocError> {
         Asked::Answer(command) => format!(in alloc; "{command:?}"),
         Asked::Session => String::from_str(alloc, "Session"),
         Asked::Audit(paths) => format!(in alloc; "Audit {paths:?}"),
+        Asked::Books(paths) => format!(in alloc; "Books {paths:?}"),
         Asked::Seal(path) => format!(in alloc; "Seal {path}"),
         Asked::Serve(options) => options_of(alloc, options),
         Asked::Shown(text) => format!(in alloc; "shown: {}", first_line(text)),

@@ -8,7 +8,7 @@ use std::fmt::{Display, Formatter};
 use std::time::Clock;
 
 /// Writes each record to the standard error of `R`, a line of logfmt for each: `ts`, `level`, `msg`, and the record's pairs. Messages
-/// have no quotation marks; a text from outside is a pair with a `Quoted` value.
+/// have no quotation marks; a text from outside is a pair with a `Quoted` value, and a URL one with a `QuotedUrl`.
 #[derive(Clone, Copy, Debug, Drop)]
 pub struct Logfmt<R>(pub R);
 

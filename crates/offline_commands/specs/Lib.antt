@@ -7,6 +7,7 @@ pub mod Check
 pub mod Plan
 pub mod Replay
 pub mod Audit
+pub mod BookTable
 pub mod Seal
 pub mod Relabelling
 pub mod Commands

@@ -4,8 +4,8 @@ ghost use Rattle.replay_lines.specs.Replays.{unreadable_line};
 ghost use Rattle.offline_commands.specs.Seal.{IsTold, Seals};
 
 use crate::answer::Answer;
-use crate::auditing::{read_journal, stop_at};
 use crate::ending::{Ending, Status, Stop};
+use crate::journals::{read_journal, stop_at};
 use crate::output::{write_answer, write_last, write_stop};
 use crate::unreadable::Unreadable;
 use durable_journal::{MOST_JOURNAL, sealed_by_hand};

@@ -140,6 +140,7 @@ fn spelled(alloc: Global, ask: &Ask) -> Result<String, AllocError> {
         Ask::Uncovered(job) => format!(in alloc; "uncovered of <{}>", job.as_str()),
         Ask::FindTargets(text) => format!(in alloc; "targets with <{}>", text.as_str()),
         Ask::Acknowledged { told, counts } => spelled_acknowledgement(alloc, told, *counts),
+        Ask::Allocations => String::from_str(alloc, "allocations"),
         Ask::Certificate => String::from_str(alloc, "certificate"),
         Ask::Collectors => String::from_str(alloc, "collectors"),
         Ask::Collector(which) => of_collector(alloc, "collector", which),

@@ -8,6 +8,7 @@
 mod answers;
 mod asks;
 mod fleet_pages;
+mod job_rows;
 mod numbers;
 mod pages;
 mod readers;

@@ -1,6 +1,7 @@
 //! The readers by name.
 use crate::asks::request;
 use crate::fleet_pages::{collector, collectors, found};
+use crate::job_rows::job_row;
 use crate::pages::{job, jobs, targets};
 use crate::responses::response;
 use crate::scrapes::{get, get_in_job, host, url};
@@ -29,6 +30,7 @@ fn said_of_text(alloc: Global, name: &str, text: &str) -> Result<Option<String>,
         "get_in" => get_in_job(alloc, text),
         "host" => host(alloc, text),
         "job_page" => job(alloc, text),
+        "job_row_page" => job_row(alloc, text),
         "jobs_page" => jobs(alloc, text),
         "refreshes" => refreshes(alloc, text),
         "reply" => reply(alloc, text),

@@ -9,7 +9,7 @@ use Rattle.sd_routes.specs.declared.found_targets.FoundTarget.{FoundTarget}
 use Rattle.sd_routes.proofs.CollectorFloats.{number_no_float}
 use Rattle.sd_routes.proofs.Floats.{labels_data_no_float}
 
-holder_no_float : (holder : Option (List ℕ)) → has_float (holder_data holder) ≡ false
+pub holder_no_float : (holder : Option (List ℕ)) → has_float (holder_data holder) ≡ false
 holder_no_float None = refl
 holder_no_float (Some name) = refl
 

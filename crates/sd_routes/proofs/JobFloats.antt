@@ -14,7 +14,9 @@ fault_no_float None = refl
 fault_no_float (Some text) = refl
 
 source_no_float : (source : SourceRow) → has_float (source_data source) ≡ false
-source_no_float source = or_from _ _ (fault_no_float source.fault) (or_from _ _ (number_no_float source.last_success) refl)
+source_no_float source =
+    or_from _ _ (number_no_float source.dropped) (or_from _ _ (fault_no_float source.fault) (or_from _ _ (number_no_float source.last_success)
+    (or_from _ _ (number_no_float source.targets) (or_from _ _ refl (or_from _ _ (number_no_float source.without_address) refl)))))
 
 pub job_row_no_float : (row : JobRow) → has_float (job_row_data row) ≡ false
 job_row_no_float row =

@@ -8,3 +8,4 @@ pub mod Acknowledged
 pub mod Escapes
 pub mod CollectorFloats
 pub mod FoundFloats
+pub mod AllocationFloats

@@ -11,7 +11,7 @@ use Rattle.sd_routes.specs.Table.{place_of}
 use Rattle.sd_routes.specs.declared.decimal.TheConstants.{MOST_OF_32_BITS, MOST_OF_64_BITS}
 use Rattle.sd_routes.specs.declared.acknowledgement.Acknowledgement.{Acknowledgement}
 use Rattle.sd_routes.specs.declared.ask.Ask.{Ask}
-use Rattle.sd_routes.specs.declared.ask.Ask.TheVariants.{Status, ScrapeConfigs, Jobs, Job, JobTargets, CollectorTargets, Uncovered, FindTargets, Acknowledged, Certificate, Collectors, Collector, Join, Leave, Drain, Release, SetLimits, Report, Healthy, Live, Ready, Metrics, Reload, Quit}
+use Rattle.sd_routes.specs.declared.ask.Ask.TheVariants.{Status, ScrapeConfigs, Jobs, Job, JobTargets, CollectorTargets, Uncovered, FindTargets, Acknowledged, Allocations, Certificate, Collectors, Collector, Join, Leave, Drain, Release, SetLimits, Report, Healthy, Live, Ready, Metrics, Reload, Quit}
 use Rattle.sd_routes.specs.declared.place.Place.{Place}
 use Rattle.sd_routes.specs.declared.place.Place.TheVariants as place
 use Rattle.sd_routes.specs.declared.purpose.Purpose.{Purpose}
@@ -151,6 +151,7 @@ asked_at place.JobTargets purpose path query = job_targets_asked purpose path qu
 asked_at place.Uncovered purpose path query = uncovered_asked path
 asked_at place.Targets purpose path query = targets_asked query
 asked_at place.Acknowledged purpose path query = acknowledged_asked purpose query
+asked_at place.Allocations purpose path query = Ok Allocations
 asked_at place.Certificate purpose path query = Ok Certificate
 asked_at place.Collectors purpose path query = Ok (collectors_asked purpose)
 asked_at place.Collector purpose path query = collector_asked purpose path

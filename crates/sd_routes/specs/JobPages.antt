@@ -11,12 +11,15 @@ abbrev pub fault_or_null : Option (List ℕ) → Data
 fault_or_null None = null
 fault_or_null (Some fault) = string fault
 
--- a source: why it fails, and when it last gave its list
+-- a source: why it fails, when it last gave its list, how many targets that has, and how many are left out of it
 abbrev pub source_data : SourceRow → Data
 source_data source =
-    object (member (codes "fault") (fault_or_null source.fault)
+    object (member (codes "dropped") (number_or_null source.dropped)
+    (member (codes "fault") (fault_or_null source.fault)
     (member (codes "last_success") (number_or_null source.last_success)
-    (member (codes "url") (string source.url) no_members)))
+    (member (codes "targets") (number_or_null source.targets)
+    (member (codes "url") (string source.url)
+    (member (codes "without_address") (number_or_null source.without_address) no_members))))))
 
 -- where its targets are
 abbrev pub links_data : List ℕ → Data

@@ -20,4 +20,5 @@ pub mod Notices
 pub mod Pages
 pub mod CollectorPages
 pub mod FoundPages
+pub mod AllocationPages
 pub mod Acknowledging

@@ -43,14 +43,22 @@ with_no_other fields = (codes "x-content-type-options", plain_value (codes "nosn
 abbrev pub media_headers : List ℕ → Entries FieldValue
 media_headers media = (codes "content-type", plain_value media ∷ []) ∷ with_no_other []
 
--- a page for people: what it may load (Content Security Policy Level 3)
+-- what is told has the form that is accepted (RFC 9110, section 12.5.5)
+abbrev pub with_accept : Entries FieldValue → Entries FieldValue
+with_accept fields = insert fields (codes "vary") (plain_value (codes "accept"))
+
+-- a page for people: what it may load, and whom its form asks (Content Security Policy Level 3)
 abbrev pub document_headers : Entries FieldValue
 document_headers =
-    (codes "content-type", plain_value (codes "text/html; charset=utf-8") ∷ [])
-    ∷ with_no_other ((codes "content-security-policy", plain_value (codes "default-src 'none'; style-src 'unsafe-inline'; form-action 'none'; frame-ancestors 'none'") ∷ []) ∷ [])
+    with_accept ((codes "content-type", plain_value (codes "text/html; charset=utf-8") ∷ [])
+    ∷ with_no_other ((codes "content-security-policy", plain_value (codes "default-src 'none'; style-src 'unsafe-inline'; form-action 'self'; frame-ancestors 'none'") ∷ []) ∷ []))
 
 abbrev pub json_headers : Entries FieldValue
 json_headers = media_headers (codes "application/json")
+
+-- a page or a list in JSON
+abbrev pub page_headers : Entries FieldValue
+page_headers = with_accept json_headers
 
 -- a number in decimal under this name, behind the others
 abbrev pub with_number : List ℕ → ℕ → Entries FieldValue → Entries FieldValue
@@ -74,7 +82,7 @@ abbrev pub with_times : ListHead → Entries FieldValue → Entries FieldValue
 with_times head fields = with_number (codes "x-scrape-round-length") head.length (with_number (codes "x-scrape-round-age") head.age fields)
 
 abbrev pub list_headers : ListHead → Entries FieldValue
-list_headers head = with_times head (with_collector head (with_left_out head.left_out (with_allocation head json_headers)))
+list_headers head = with_times head (with_collector head (with_left_out head.left_out (with_allocation head page_headers)))
 
 -- where the path has other methods, these (RFC 9110, section 15.5.6); where a token is needed, how one is shown (section 11.6.1)
 abbrev pub refused_headers : RequestError → Entries FieldValue
@@ -121,6 +129,7 @@ status_said (Reloaded changes) = 200
 status_said (NotReloaded fault) = 500
 
 abbrev pub headers_said : Said → Entries FieldValue
+headers_said (Page text) = page_headers
 headers_said (ListOf head groups) = list_headers head
 headers_said (Refused error) = refused_headers error
 headers_said (Noticed notice) = media_headers (codes "text/plain; charset=utf-8")

@@ -34,6 +34,8 @@ pub enum Ask {
         told: Acknowledgement,
         counts: bool,
     },
+    /// The allocations that were published last, and what moved with each from whom to whom.
+    Allocations,
     /// The certificate of the last published allocation.
     Certificate,
     /// The live collectors.

@@ -39,6 +39,12 @@ pub struct SourceRow {
     pub last_success: Option<u64>,
     /// Why the last refresh failed, if it did.
     pub fault: Option<Text>,
+    /// How many targets its last list has. None where it gave none, as below.
+    pub targets: Option<u64>,
+    /// How many a rule drops of that list.
+    pub dropped: Option<u64>,
+    /// How many of that list have no address after the rules.
+    pub without_address: Option<u64>,
 }
 
 /// A job: an object.
@@ -102,8 +108,18 @@ fn source_value(alloc: Global, source: &SourceRow) -> Result<Value, AllocError>
 {
     let fault = fault_value(alloc, &source.fault)?;
     let last_success = number_or_null(source.last_success);
+    let targets = number_or_null(source.targets);
+    let dropped = number_or_null(source.dropped);
+    let without_address = number_or_null(source.without_address);
     let url = source.url.as_str();
-    json!(in alloc; {"fault": fault, "last_success": last_success, "url": url})
+    json!(in alloc; {
+        "dropped": dropped,
+        "fault": fault,
+        "last_success": last_success,
+        "targets": targets,
+        "url": url,
+        "without_address": without_address
+    })
 }
 
 fn fault_value(alloc: Global, fault: &Option<Text>) -> Result<Value, AllocError>

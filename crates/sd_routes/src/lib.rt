@@ -7,6 +7,7 @@
 
 mod acknowledgement;
 mod acknowledging;
+mod allocation_row;
 mod answers_text;
 mod ask;
 mod change;
@@ -34,6 +35,7 @@ mod which_collector;
 
 pub use acknowledgement::Acknowledgement;
 pub use acknowledging::acknowledged_list;
+pub use allocation_row::{AllocationRow, MoveRow, allocations_page};
 pub use ask::Ask;
 pub use change::{Change, Wanted};
 pub use collector_row::{CollectorRow, collector_page, collectors_page};

@@ -16,6 +16,7 @@ pub enum Place {
     Uncovered,
     Targets,
     Acknowledged,
+    Allocations,
     Certificate,
     Collectors,
     Collector,
@@ -46,6 +47,7 @@ impl Place {
             | Place::Uncovered
             | Place::Targets
             | Place::Acknowledged
+            | Place::Allocations
             | Place::Certificate
             | Place::Healthy
             | Place::Live
@@ -88,6 +90,7 @@ impl Place {
             | Place::Uncovered
             | Place::Targets
             | Place::Acknowledged
+            | Place::Allocations
             | Place::Certificate
             | Place::Collectors
             | Place::Collector
@@ -117,6 +120,7 @@ impl Place {
             | Place::Uncovered
             | Place::Targets
             | Place::Acknowledged
+            | Place::Allocations
             | Place::Certificate
             | Place::Healthy
             | Place::Live

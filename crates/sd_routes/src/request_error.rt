@@ -15,7 +15,7 @@ pub enum RequestError {
     Method(Place),
     /// The host that is asked is none of the service's names.
     Host,
-    /// The request comes from a page of another site.
+    /// The request comes from a page of another site, and asks for more than to be shown something.
     Origin,
     /// No token is shown that may ask for this.
     Token,

@@ -3,7 +3,7 @@ ghost use Rattle.std.specs.Prelude.{◌≡◌, IfOk, OnOk, IsTrue, true, string_
 ghost use Rattle.http.specs.Response.{head_of, body_of};
 ghost use Rattle.http_header.specs.FieldValue.{is_visible_text};
 ghost use Rattle.sd_routes.specs.Errors.{status_of};
-ghost use Rattle.sd_routes.specs.Responses.{IsResponse, IsHead, closing, json_headers, media_headers, document_headers, list_headers, with_allocation, with_collector, with_left_out, with_number, with_times, refused_headers, refused_text, status_answered, status_said, headers_said, body_said};
+ghost use Rattle.sd_routes.specs.Responses.{IsResponse, IsHead, closing, json_headers, media_headers, page_headers, document_headers, list_headers, with_accept, with_allocation, with_collector, with_left_out, with_number, with_times, refused_headers, refused_text, status_answered, status_said, headers_said, body_said};
 
 use crate::answers_text::{answer_text, answers_text};
 use crate::list_head::ListHead;
@@ -13,7 +13,7 @@ use crate::request_error::RequestError;
 use bytes::Bytes;
 use fleet_events::{Answer, Refusal, Round};
 use http::header::{
-    ALLOW, CONNECTION, CONTENT_SECURITY_POLICY, CONTENT_TYPE, HeaderName, HeaderValue,
+    ALLOW, CONNECTION, CONTENT_SECURITY_POLICY, CONTENT_TYPE, HeaderName, HeaderValue, VARY,
     WWW_AUTHENTICATE, X_CONTENT_TYPE_OPTIONS,
 };
 use http::response::Parts;
@@ -22,9 +22,9 @@ use http_body_util::Full;
 use lists::{List, Text};
 use std::alloc::{AllocError, Global};
 
-/// What the page for people may load (Content Security Policy Level 3): nothing but the style in it.
+/// What a page for people may load (Content Security Policy Level 3): nothing but the style in it. Its form asks the service itself.
 const POLICY: &str =
-    "default-src 'none'; style-src 'unsafe-inline'; form-action 'none'; frame-ancestors 'none'";
+    "default-src 'none'; style-src 'unsafe-inline'; form-action 'self'; frame-ancestors 'none'";
 
 /// What a request is answered with.
 #[derive(Debug, Drop)]
@@ -58,23 +58,6 @@ pub enum Said {
     Reloaded(Text),
     /// Why the configuration that was to be read again is not taken, in a line of plain text.
     NotReloaded(Text),
-}
-
-impl Said {
-    /// The status code of the response that says it (RFC 9110, section 15).
-    pub fn status(&self) -> StatusCode
-        ensures { result ≡ status_said self.now }
-    {
-        match self {
-            Said::Answer(answer) => status_of(answer),
-            Said::Answers { .. } | Said::Page(_) | Said::List { .. } => StatusCode::OK,
-            Said::Refused(error) => error.status(),
-            Said::Misshapen(_) => StatusCode::BAD_REQUEST,
-            Said::Notice(notice) => notice.status(),
-            Said::Metrics(_) | Said::Document(_) | Said::Reloaded(_) => StatusCode::OK,
-            Said::NotReloaded(_) => StatusCode::INTERNAL_SERVER_ERROR,
-        }
-    }
 }
 
 /// The response that says it. What is not plain text has the media type `application/json`. Where the request has a body that is not read, the
@@ -115,7 +98,7 @@ fn response_of(alloc: Global, said: Said) -> Result<Response<Full<Bytes>>, Alloc
             let text = answers_text(alloc, answers.as_slice(), round)?;
             response(json_head(alloc, StatusCode::OK)?, text)
         }
-        Said::Page(text) => response(json_head(alloc, StatusCode::OK)?, text.into_string()),
+        Said::Page(text) => response(page_head(alloc)?, text.into_string()),
         Said::List { head, groups } => Ok(response_with(list_parts(alloc, &head)?, groups)),
         Said::Refused(error) => {
             let head = refused_head(alloc, error)?;
@@ -199,6 +182,27 @@ fn head_with(alloc: Global, status: StatusCode, media: &'static str) -> Result<P
     Ok(head)
 }
 
+/// The head of a page or a list in JSON.
+fn page_head(alloc: Global) -> Result<Parts, AllocError>
+    ensures { IfOk result (IsHead 200 page_headers) }
+{
+    let mut head = json_head(alloc, StatusCode::OK)?;
+    push_accept(&mut head)?;
+    Ok(head)
+}
+
+/// What is told has the form that is accepted (RFC 9110, section 12.5.5).
+fn push_accept(head: &mut Parts) -> Result<(), AllocError>
+    ensures status { OnOk result (head.new.status ≡ head.old.status) }
+    ensures headers { OnOk result (head.new.headers ≡ with_accept head.old.headers) }
+{
+    let accept = HeaderValue::from_static("accept");
+    match head.headers.insert(VARY, accept) {
+        Ok(_) => Ok(()),
+        Err(_) => Err(AllocError),
+    }
+}
+
 /// The head of a page for people. The page may load nothing, and has its style in itself.
 fn document_head(alloc: Global) -> Result<Parts, AllocError>
     ensures { IfOk result (IsHead 200 document_headers) }
@@ -212,6 +216,7 @@ fn document_head(alloc: Global) -> Result<Parts, AllocError>
     {
         return Err(AllocError);
     }
+    push_accept(&mut head)?;
     Ok(head)
 }
 
@@ -241,7 +246,7 @@ fn refused_head(alloc: Global, error: RequestError) -> Result<Parts, AllocError>
 fn list_parts(alloc: Global, told: &ListHead) -> Result<Parts, AllocError>
     ensures { IfOk result (IsHead 200 (list_headers told.now)) }
 {
-    let mut head = json_head(alloc, StatusCode::OK)?;
+    let mut head = page_head(alloc)?;
     push_allocation(alloc, &mut head, told)?;
     push_left_out(alloc, &mut head, told.left_out)?;
     push_collector(alloc, &mut head, told)?;

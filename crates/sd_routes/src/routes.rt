@@ -66,6 +66,7 @@ fn desk_router(alloc: Global) -> Result<Router<Place>, InsertError>
 {
     let mut router = job_router(alloc)?;
     router.insert("/acknowledged", Place::Acknowledged)?;
+    router.insert("/allocations", Place::Allocations)?;
     router.insert("/certificate", Place::Certificate)?;
     router.insert("/collectors", Place::Collectors)?;
     router.insert("/collectors/{id}", Place::Collector)?;

@@ -58,6 +58,7 @@ fn ask_at(
         Place::Uncovered => uncovered(alloc, path),
         Place::Targets => targets(alloc, query),
         Place::Acknowledged => acknowledged(alloc, purpose, query),
+        Place::Allocations => Ok(Ask::Allocations),
         Place::Certificate => Ok(Ask::Certificate),
         Place::Collectors => Ok(collectors(purpose)),
         Place::Collector => collector(alloc, purpose, path),

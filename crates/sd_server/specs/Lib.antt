@@ -1,3 +1,4 @@
+pub mod Allocations
 pub mod Replies
 pub mod Entries
 pub mod Says

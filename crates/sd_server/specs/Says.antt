@@ -1,5 +1,5 @@
 -- What a request is told.
-use Rattle.std.specs.Prelude.{◌≡◌, ◌⊎◌, ◌≤◌, ℕ, List, [], ◌∷◌, Option, Some, None, Result, Ok, Err, IsSome, codes, length, if◌then◌else◌}
+use Rattle.std.specs.Prelude.{◌≡◌, ◌⊎◌, ◌≤◌, ℕ, List, [], ◌∷◌, Option, Some, None, Result, Ok, Err, IsSome, codes, length, map, if◌then◌else◌}
 use Rattle.fleet.specs.Fleet.{id_named, is_joined}
 use Rattle.fleet_events.specs.declared.event.Event.{Event}
 use Rattle.fleet_events.specs.declared.event.Event.TheVariants.{Take, Serve}
@@ -15,6 +15,7 @@ use Rattle.alloc_desk.specs.declared.receipt.Receipt.{Receipt}
 use Rattle.alloc_desk.specs.declared.view.NumberedTarget.{NumberedTarget}
 use Rattle.serde_json.specs.Written.{compact_text}
 use Rattle.json_values.specs.Spelling.{list_data}
+use Rattle.sd_routes.specs.AllocationPages.{allocation_data}
 use Rattle.sd_routes.specs.Changes.{change_event}
 use Rattle.sd_routes.specs.CollectorPages.{collector_data}
 use Rattle.sd_routes.specs.Events.{event_said}
@@ -38,7 +39,9 @@ use Rattle.sd_routes.specs.declared.request_error.RequestError.{RequestError}
 use Rattle.sd_routes.specs.declared.request_error.RequestError.TheVariants.{NoRoute, Shape, JournalFull, NotKept, Memory}
 use Rattle.sd_routes.specs.declared.responding.Said.{Said}
 use Rattle.sd_routes.specs.declared.responding.Said.TheVariants.{Answer as Answered, Answers, Page, List as ListOf, Refused, Misshapen, Notice as Noticed, Metrics, Document, Reloaded, NotReloaded}
+use Rattle.service_pages.specs.declared.notes.AllocationNote.{AllocationNote}
 use Rattle.service_state.specs.Jobs.{place_of}
+use Rattle.sd_server.specs.Allocations.{allocation_row}
 use Rattle.sd_server.specs.Keeping.{FindsKept}
 use Rattle.sd_server.specs.Looks.{HeadIs, IsLook}
 use Rattle.sd_server.specs.declared.look.Look.{Look}
@@ -290,10 +293,23 @@ abbrev pub IsFoundText : List ℕ → Type 0
 IsFoundText text =
     (all : ℕ) × ((found : List FoundTarget) × (length found ≤ MOST_FOUND) × (text ≡ compact_text (found_data all found)))
 
+-- the same in JSON, or a page for people
 abbrev pub SaysFound : Said → Type 0
 SaysFound (Page page) = IsFoundText page
+SaysFound (Document text) = Unit {0}
 SaysFound (Refused error) = error ≡ Memory
 SaysFound _ = ⊥
+
+-- ---- allocations that were published
+
+-- the page of some noted allocations, with an entry for each
+abbrev pub IsAllocationsText : List ℕ → Type 0
+IsAllocationsText text = (notes : List AllocationNote) × (text ≡ compact_text (list_data allocation_data (map allocation_row notes)))
+
+abbrev pub SaysAllocations : Said → Type 0
+SaysAllocations (Page page) = IsAllocationsText page
+SaysAllocations (Refused error) = error ≡ Memory
+SaysAllocations _ = ⊥
 
 -- ---- all of them
 
@@ -301,6 +317,7 @@ SaysFound _ = ⊥
 abbrev pub SaysPage : State → ConfigPages → Ask → Said → Type 0
 SaysPage opening pages (ask.ScrapeConfigs rules) said = SaysCopy (if rules then pages.as_read else pages.scrape_configs) said
 SaysPage opening pages ask.Jobs said = SaysCopy pages.jobs said
+SaysPage opening pages ask.Allocations said = SaysAllocations said
 SaysPage opening pages ask.Certificate said = SaysText opening certificate_text said
 SaysPage opening pages ask.Healthy said = said ≡ Noticed Healthy
 SaysPage opening pages ask.Live said = SaysLive said

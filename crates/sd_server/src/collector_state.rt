@@ -67,7 +67,7 @@ fn rows_of(alloc: Global, core: &Core, id: CollectorId) -> Result<Vec<TargetRow>
 }
 
 /// Whether a target is handed over. They stand in order of number.
-fn is_waiting(waiting: &[HandingOver], target: TargetId) -> bool {
+pub(crate) fn is_waiting(waiting: &[HandingOver], target: TargetId) -> bool {
     waiting
         .binary_search_by(|one| one.target.cmp(&target))
         .is_ok()

@@ -1,10 +1,10 @@
 //! What counts a request.
-use sd_routes::Said;
+use http::StatusCode;
 use service_state::{Route, ServiceState};
 use std::sync::{Arc, Wait};
 use std::time::{Clock, Instant};
 
-/// What counts a request of a route by what it is told.
+/// What counts a request of a route by the status of its response.
 #[derive(Drop)]
 pub(crate) struct Counter<R> {
     pub(crate) rt: R,
@@ -15,10 +15,9 @@ pub(crate) struct Counter<R> {
 }
 
 impl<R: Wait + Clock> Counter<R> {
-    /// The request is told this.
-    pub(crate) fn count(&self, said: &Said) {
-        let status = said.status().as_u16();
+    /// The request is answered with this status.
+    pub(crate) fn count(&self, status: StatusCode) {
         self.state
-            .count_request(&self.rt, self.route, status, self.begun);
+            .count_request(&self.rt, self.route, status.as_u16(), self.begun);
     }
 }

@@ -1,19 +1,23 @@
-//! The pages for people of jobs and collectors, and what is told of a job in JSON.
+//! The pages for people of jobs, of collectors and of searches, and what is told of a job in JSON.
 ghost use Rattle.std.specs.Prelude.{◌≡◌, [], IfOk, IfSome};
 ghost use Rattle.std.specs.Arc.{arc_value};
 ghost use Rattle.service_state.specs.Jobs.{place_of};
-ghost use Rattle.sd_server.specs.Says.{IsJobRowText, Says, SaysCollectorPage, SaysOneJob};
+ghost use Rattle.sd_server.specs.Says.{IsJobRowText, Says, SaysCollectorPage, SaysFound, SaysOneJob};
 ghost use Rattle.sd_routes.specs.declared.which_collector.WhichCollector.{WhichCollector};
 
 use crate::collector_state::{CollectorState, collector_state};
+use crate::found_state::{FoundState, found_state};
 use crate::handler::Handler;
 use crate::job_state::{JobState, held_by_name, job_state, source_rows};
 use alloc_desk::DeskName;
 use allocation_core::{Answer, Refusal};
+use fleet_events::TargetId;
 use json_values::{Spelled, text_of};
 use lists::{List, Text};
 use sd_routes::{Ask, JobRow, RequestError, Said, SourceRow, WhichCollector, job_row_page};
-use service_pages::{MOST_ROWS, Rows, ShownCollector, ShownJob, collector_document, job_document};
+use service_pages::{
+    MOST_ROWS, Rows, ShownCollector, ShownJob, collector_document, found_document, job_document,
+};
 use std::alloc::AllocError;
 use std::sync::Wait;
 use std::sync::ledger::Ledger;
@@ -27,7 +31,29 @@ impl<R: Wait + Clock + Copy, L: Ledger, B: Ledger, N: DeskName> Handler<R, L, B,
         match ask {
             Ask::Job(job) => Some(self.job_document(job.as_str())),
             Ask::Collector(which) => Some(self.collector_document(which)),
-            _ => None,
+            Ask::FindTargets(text) => Some(self.found_document(text.as_str())),
+            Ask::Status
+            | Ask::ScrapeConfigs { rules: _ }
+            | Ask::Jobs
+            | Ask::JobTargets(_)
+            | Ask::CollectorTargets { .. }
+            | Ask::Uncovered(_)
+            | Ask::Acknowledged { .. }
+            | Ask::Allocations
+            | Ask::Certificate
+            | Ask::Collectors
+            | Ask::Join
+            | Ask::Leave(_)
+            | Ask::Drain(_)
+            | Ask::Release(_)
+            | Ask::SetLimits(_)
+            | Ask::Report
+            | Ask::Healthy
+            | Ask::Live
+            | Ask::Ready
+            | Ask::Metrics
+            | Ask::Reload
+            | Ask::Quit => None,
         }
     }
 
@@ -173,5 +199,30 @@ impl<R: Wait + Clock + Copy, L: Ledger, B: Ledger, N: DeskName> Handler<R, L, B,
             standing: &standing,
         };
         collector_document(self.alloc, &shown)
+    }
+
+    fn found_document(&self, text: &str) -> Said
+        ensures { SaysFound result }
+    {
+        match self.found_document_text(text) {
+            Ok(text) => Said::Document(text),
+            Err(_) => Said::Refused(RequestError::Memory),
+        }
+    }
+
+    fn found_document_text(&self, text: &str) -> Result<Text, AllocError> {
+        let numbers = self.matching(text)?;
+        let state = self.found_state(numbers.as_slice())?;
+        let shown = state.shown(text);
+        found_document(self.alloc, &shown)
+    }
+
+    fn found_state(&self, numbers: &[TargetId]) -> Result<FoundState, AllocError> {
+        let mut pass = self.pass.lock(&self.rt);
+        self.desk.read(
+            &self.rt,
+            &mut *pass,
+            |record| found_state(self.alloc, record.core(), numbers),
+        )
     }
 }

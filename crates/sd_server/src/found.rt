@@ -4,7 +4,7 @@ ghost use Rattle.sd_server.specs.declared.found.TheConstants.{MOST_FOUND};
 
 use alloc_desk::NumberedTarget;
 use allocation_core::Core;
-use fleet_events::{Round, TargetId};
+use fleet_events::{CollectorId, Round, TargetId};
 use label_sets::Target;
 use lists::{List, Plain, Text};
 use memchr::memmem::Finder;
@@ -111,7 +111,7 @@ fn found_target(
     handing_over: bool,
 ) -> Result<FoundTarget, AllocError> {
     let job = job.copy()?;
-    let collector = holder_of(core, number)?;
+    let collector = holder_name(core, number)?;
     let since = if collector.is_some() {
         core.held_since(number)
     } else {
@@ -136,16 +136,23 @@ pub(crate) fn last_round(core: &Core, number: TargetId) -> Option<Round> {
     }
 }
 
-/// The live collector that holds a target, if one does.
-fn holder_of(core: &Core, number: TargetId) -> Result<Option<CollectorName>, AllocError> {
+/// The collector that holds a target, if one does. It may have left.
+pub(crate) fn holder_of(core: &Core, number: TargetId) -> Option<CollectorId> {
     let pairs = core.allocation();
     let Ok(place) = pairs.binary_search_by(|pair| pair.0.cmp(&number)) else {
+        return None;
+    };
+    match pairs.get(place) {
+        Some(pair) => Some(pair.1),
+        None => None,
+    }
+}
+
+/// The name of the live collector that holds a target, if one does.
+fn holder_name(core: &Core, number: TargetId) -> Result<Option<CollectorName>, AllocError> {
+    let Some(holder) = holder_of(core, number) else {
         return Ok(None);
     };
-    let Some(pair) = pairs.get(place) else {
-        return Ok(None);
-    };
-    let holder = pair.1;
     let collectors = core.collectors();
     match collectors.binary_search_by(|collector| collector.id.cmp(&holder)) {
         Ok(place) => match collectors.get(place) {

@@ -224,10 +224,21 @@ fn source_row(url: &Text, note: &SourceNote) -> Result<SourceRow, AllocError> {
         0 => None,
         seconds => Some(seconds),
     };
+    let (targets, dropped, without_address) = match note.counts {
+        Some(counts) => (
+            Some(counts.targets),
+            Some(counts.dropped),
+            Some(counts.without_address),
+        ),
+        None => (None, None, None),
+    };
     Ok(SourceRow {
         url,
         last_success,
         fault,
+        targets,
+        dropped,
+        without_address,
     })
 }
 

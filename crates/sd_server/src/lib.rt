@@ -7,6 +7,7 @@
 
 mod accept;
 mod acknowledging;
+mod allocation_rows;
 mod by_loops;
 mod certificate_page;
 mod collector_lists;
@@ -16,6 +17,7 @@ mod counter;
 mod documents;
 mod entry;
 mod found;
+mod found_state;
 mod handler;
 mod job_state;
 mod keeping;

@@ -35,7 +35,7 @@ pub struct Reply<R, L: Ledger, B: Ledger, N: DeskName, I> {
     alloc: Global,
     stage: Stage<R, L, B, N, I>,
     manner: Manner,
-    /// What counts the request once it is told something.
+    /// What counts the request once it is answered.
     counter: Option<Counter<R>>,
     /// The entity tags that are known.
     tags: Option<Tags<R, N>>,
@@ -103,10 +103,16 @@ impl<R: Wait + Clock + Copy, L: Ledger, B: Ledger, N: DeskName, I: Drop> Reply<R
     fn answered(&self, said: Said) -> Result<Response<Full<Bytes>>, AllocError>
         ensures { IfOk result (Writes self.now.manner said) }
     {
-        if let Some(counter) = &self.counter {
-            counter.count(&said);
+        let written = self.manner.written(self.alloc, &self.tags, said);
+        self.count(&written);
+        written
+    }
+
+    /// The request is counted by the status of its response, if there is one.
+    fn count(&self, written: &Result<Response<Full<Bytes>>, AllocError>) {
+        if let (Some(counter), Ok(response)) = (&self.counter, written) {
+            counter.count(response.status());
         }
-        self.manner.written(self.alloc, &self.tags, said)
     }
 }
 

@@ -1,8 +1,9 @@
-//! The pages of collectors, and of targets that are searched for.
+//! The pages of collectors, of targets that are searched for, and of the last allocations.
 ghost use Rattle.std.specs.Prelude.{◌≡◌, ◌≤◌, length, Some, IfOk, IfSome};
-ghost use Rattle.sd_server.specs.Says.{IsCollectorText, IsCollectorsText, IsFoundText, OfSome, SaysCollectorPage, SaysCollectors, SaysFound, id_meant};
+ghost use Rattle.sd_server.specs.Says.{IsAllocationsText, IsCollectorText, IsCollectorsText, IsFoundText, OfSome, SaysAllocations, SaysCollectorPage, SaysCollectors, SaysFound, id_meant};
 ghost use Rattle.sd_server.specs.declared.found.TheConstants.{MOST_FOUND};
 
+use crate::allocation_rows::allocations_text;
 use crate::collector_rows::{row_meant, rows_of};
 use crate::found::{Found, LOOKED_AT_ONCE, found_of, matching};
 use crate::handler::Handler;
@@ -82,6 +83,23 @@ impl<R: Wait + Clock + Copy, L: Ledger, B: Ledger, N: DeskName> Handler<R, L, B,
         )
     }
 
+    /// The page of the allocations that were published last, the latest first.
+    pub(crate) fn allocations(&self) -> Said
+        ensures { SaysAllocations result }
+    {
+        match self.allocations_page() {
+            Ok(text) => Said::Page(text),
+            Err(_) => Said::Refused(RequestError::Memory),
+        }
+    }
+
+    fn allocations_page(&self) -> Result<Text, AllocError>
+        ensures { IfOk result IsAllocationsText }
+    {
+        let notes = self.state.notes(&self.rt, self.alloc)?;
+        allocations_text(self.alloc, notes.allocations.as_slice())
+    }
+
     /// The page of the live targets that have a text.
     pub(crate) fn found(&self, text: &str) -> Said
         ensures { SaysFound result }
@@ -101,7 +119,7 @@ impl<R: Wait + Clock + Copy, L: Ledger, B: Ledger, N: DeskName> Handler<R, L, B,
     }
 
     /// The numbers of the known targets that have a text. What is known is never changed, so they are looked at by and by.
-    fn matching(&self, text: &str) -> Result<Vec<TargetId>, AllocError> {
+    pub(crate) fn matching(&self, text: &str) -> Result<Vec<TargetId>, AllocError> {
         let mut numbers = Vec::new(self.alloc);
         let times = self.known_count() / LOOKED_AT_ONCE + 1;
         for time in 0..times {

@@ -1,5 +1,6 @@
 //! Live targets as rows of a page for people.
-use crate::found::last_round;
+use crate::found::{holder_of, last_round};
+use crate::uncovered::is_reached;
 use allocation_core::Core;
 use fleet_events::{AllocationNumber, CollectorId, TargetId};
 use label_sets::Target;
@@ -44,6 +45,33 @@ fn keeper_of(
     }
 }
 
+/// Adds the row of a live target, whoever holds it, or why nobody does.
+pub(crate) fn push_live(
+    alloc: Global,
+    core: &Core,
+    number: TargetId,
+    awaits: bool,
+    rows: &mut Vec<TargetRow>,
+) -> Result<(), AllocError> {
+    let holder = match holder_of(core, number) {
+        Some(holder) => keeper_of(alloc, core, holder, awaits)?,
+        None => None,
+    };
+    match holder {
+        Some(keeper) => push_row(alloc, core, number, keeper, rows),
+        None => push_row(alloc, core, number, why_unheld(core, number), rows),
+    }
+}
+
+/// Why nobody holds a live target.
+fn why_unheld(core: &Core, number: TargetId) -> Keeper {
+    if is_reached(core, number as usize) {
+        Keeper::Full
+    } else {
+        Keeper::Unreached
+    }
+}
+
 /// Adds the row of a target.
 pub(crate) fn push_row(
     alloc: Global,
@@ -75,6 +103,7 @@ fn row_of(
     let labels = labels_of(alloc, target)?;
     let since = since_of(core, number, &keeper);
     Ok(Some(TargetRow {
+        number,
         address,
         job,
         labels,

@@ -77,7 +77,7 @@ fn is_live(core: &Core, collector: CollectorId) -> bool {
 }
 
 /// Whether some collector reaches a target and is not draining.
-fn is_reached(core: &Core, number: usize) -> bool {
+pub(crate) fn is_reached(core: &Core, number: usize) -> bool {
     core.fleet().collectors().iter().enumerate().any(|(place, collector)| !collector.draining
         && core.fleet().reaches(place, number))
 }

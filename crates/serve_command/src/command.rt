@@ -10,9 +10,9 @@ use crate::running::serve_journal;
 use crate::standard_streams::hold_streams;
 use command_words::{ServeOptions, VERSION};
 use journal_files::{Fault, is_same_file};
-use log::error;
+use log::{error, info};
 use log_queue::LogQueue;
-use logfmt::Logfmt;
+use logfmt::{Logfmt, Quoted};
 use sd_documents::Job;
 use service_tasks::Service;
 use std::alloc::{AllocError, AllocGlobal, Global};
@@ -94,6 +94,29 @@ fn status_of(fault: &Fault) -> ExitCode {
 
 fn log_failure<R: Eprint + Clock + Copy>(rt: &R, error: &io::Error) {
     error!(Logfmt(*rt); "the service ended: {error}");
+}
+
+/// The first line of the log: which program begins, and over what.
+fn log_begin<R: Eprint + Clock + Copy>(
+    rt: &R,
+    configuration: &str,
+    journal: &Option<String>,
+    service: &Service,
+) {
+    let version = Quoted(VERSION);
+    let configuration = Quoted(configuration);
+    let journal = Quoted(path_or_none(journal));
+    let jobs = service.jobs().len();
+    let collectors = service.collectors();
+    info!(Logfmt(*rt); version:% = version, configuration:% = configuration, journal:% = journal, jobs, collectors; "allocd begins");
+}
+
+/// A path, which is empty where there is none.
+fn path_or_none(path: &Option<String>) -> &str {
+    match path {
+        Some(path) => path.as_str(),
+        None => "",
+    }
 }
 
 fn written<R: Print>(rt: &R, text: &str) -> Result<(), Fault> {
@@ -229,6 +252,7 @@ where
         + Copy
         + Drop,
 {
+    log_begin(rt, options.config, &journal, &service);
     let mut service = service;
     let most = most_connections(rt, rt.alloc())?;
     warn_of_fewer(rt, service.connections(), most);

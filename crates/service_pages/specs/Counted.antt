@@ -4,6 +4,7 @@ use Rattle.std.specs.List.{count_by, sum_by}
 use Rattle.service_pages.specs.declared.figures.Figures.{Figures}
 use Rattle.service_pages.specs.declared.figures.JobFigures.{JobFigures}
 use Rattle.service_pages.specs.declared.figures.CollectorFigures.{CollectorFigures}
+use Rattle.service_pages.specs.declared.notes.MoveNote.{MoveNote}
 use Rattle.service_pages.specs.declared.notes.SourceNote.{SourceNote}
 use Rattle.service_pages.specs.declared.standing.Standing.{Standing}
 use Rattle.service_pages.specs.declared.counted.Counted.{Counted}
@@ -21,6 +22,10 @@ handing_over j = j.handing_over
 -- a source whose last refresh has a fault
 abbrev pub fails : SourceNote → Bool
 fails s = not (nat_eq (length s.fault) 0)
+
+-- how many moved targets a row tells
+abbrev pub told : MoveNote → ℕ
+told row = row.count
 
 -- a collector whose list is of an earlier allocation
 abbrev pub is_behind : ℕ → CollectorFigures → Bool

@@ -16,18 +16,21 @@ caption{text-align:left;font-weight:600;font-size:1.2rem;padding:.3rem 0}
 th,td{padding:.12rem .6rem;text-align:right;border-bottom:1px solid var(--line);vertical-align:top}
 th:first-child{text-align:left}
 td,thead th{white-space:nowrap}
-td.long{white-space:normal;text-align:left}
+td.long{white-space:normal;text-align:left;min-width:9rem}
+#targets td.bad{white-space:normal;min-width:12rem}
 .bad,.bad a{color:var(--bad);font-weight:600}
 meter{width:6rem;vertical-align:middle}
 summary{cursor:pointer;white-space:nowrap}
 @media (max-width:68rem){thead{display:none}table,caption,tbody,tr,th,td{display:block}tr{border-bottom:1px solid var(--line);padding:.3rem 0}th,td{border:0;padding:0 .8rem 0 0;text-align:left}td{display:inline-block;white-space:normal}td:empty{display:none}td::before{content:attr(data-h) \" \";opacity:.7;font-weight:400}}
 pre{white-space:pre-wrap}
+form{margin-top:.6rem}
+input,button{font:inherit;max-width:100%}
 </style></head>
 <body>
 ";
 
 const LINKS: &str =
-    "<nav><a href=\"/\">overview</a><a href=\"/jobs\">jobs</a><a href=\"/collectors\">collectors</a><a href=\"/scrape_configs\">scrape configs</a><a href=\"/scrape_configs?rules=true\">as read</a><a href=\"/certificate\">certificate</a><a href=\"/metrics\">metrics</a><a href=\"/-/ready\">ready</a><a href=\"/livez\">live</a><a href=\"/-/healthy\">healthy</a></nav>\n";
+    "<nav><a href=\"/\">overview</a><a href=\"/jobs\">jobs</a><a href=\"/collectors\">collectors</a><a href=\"/scrape_configs\">scrape configs</a><a href=\"/scrape_configs?rules=true\">as read</a><a href=\"/allocations\">allocations</a><a href=\"/certificate\">certificate</a><a href=\"/metrics\">metrics</a><a href=\"/-/ready\">ready</a><a href=\"/livez\">live</a><a href=\"/-/healthy\">healthy</a></nav>\n";
 
 /// Begins a page, as far as its title, which begins with the program's name.
 pub(crate) fn begin_title(page: &mut Hypertext) -> Result<(), AllocError> {

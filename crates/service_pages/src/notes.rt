@@ -1,5 +1,9 @@
 //! What a service tells of its sources and of its last allocations.
-use lists::{Plain, Text};
+ghost use Rattle.std.specs.Prelude.{◌≡◌, ◌-◌};
+ghost use Rattle.std.specs.List.{sum_by};
+ghost use Rattle.service_pages.specs.Counted.{fails, told};
+
+use lists::{List, Plain, Text};
 use std::alloc::{AllocError, Global};
 
 /// What is told of a discovery source.
@@ -38,12 +42,28 @@ pub struct AllocationNote {
     pub at: Text,
     /// How many targets somebody holds.
     pub covered: u64,
-    /// How many targets another live collector held before.
+    /// How many live targets a live collector held before and does not hold any more.
     pub moved: u64,
     /// How many targets are left with a draining collector.
     pub left: u64,
     /// How long it took to find and publish, in milliseconds.
     pub milliseconds: u64,
+    /// What moved from whom to whom: the first rows.
+    pub moves: List<MoveNote>,
+    /// How many of the moved targets no row of `moves` tells.
+    pub more_moves: u64,
+}
+
+/// Targets of a job that moved alike.
+#[derive(Debug, Drop)]
+pub struct MoveNote {
+    pub job: Text,
+    /// The collector that held them.
+    pub from: Text,
+    /// The one that holds them now. None where nobody does.
+    pub to: Option<Text>,
+    /// How many they are.
+    pub count: u64,
 }
 
 /// How many targets a collector is to hold, where loads are made even.
@@ -58,9 +78,6 @@ pub struct LoadNote {
 }
 
 impl SourceNote {
-    ghost use Rattle.std.specs.Prelude.{◌≡◌};
-    ghost use Rattle.service_pages.specs.Counted.{fails};
-
     /// What is told of a source that was not asked yet.
     pub fn unasked(alloc: Global, job: Text, number: u32) -> SourceNote {
         SourceNote {
@@ -102,6 +119,7 @@ impl SourceNote {
 impl AllocationNote {
     pub fn copy(&self) -> Result<AllocationNote, AllocError> {
         let at = self.at.copy()?;
+        let moves = self.moves.copy()?;
         Ok(AllocationNote {
             number: self.number,
             at,
@@ -109,6 +127,40 @@ impl AllocationNote {
             moved: self.moved,
             left: self.left,
             milliseconds: self.milliseconds,
+            moves,
+            more_moves: self.more_moves,
         })
     }
+}
+
+impl Plain for MoveNote {
+    fn copy(&self) -> Result<MoveNote, AllocError> {
+        let job = self.job.copy()?;
+        let from = self.from.copy()?;
+        let to = self.to.copy()?;
+        Ok(MoveNote {
+            job,
+            from,
+            to,
+            count: self.count,
+        })
+    }
+
+    fn same(&self, other: &MoveNote) -> bool {
+        self.job.same(&other.job)
+            && self.from.same(&other.from)
+            && self.to.same(&other.to)
+            && self.count == other.count
+    }
+}
+
+/// How many of so many moved targets no row tells.
+pub fn untold_moves(moved: u64, rows: &[MoveNote]) -> u64
+    ensures { result ≡ moved - sum_by told rows.now }
+{
+    let mut untold = moved;
+    for row in rows {
+        untold = untold.saturating_sub(row.count);
+    }
+    untold
 }

@@ -9,6 +9,7 @@ use crate::frame::{begin_title, end_page, end_title, finished, write_links};
 use crate::jobs::write_jobs;
 use crate::needs::count_needs;
 use crate::notes::{AllocationNote, LoadNote, SourceNote};
+use crate::search_form::write_search;
 use crate::sources::write_sources;
 use crate::standing::Standing;
 use hypertext::Hypertext;
@@ -63,12 +64,13 @@ fn write_title(page: &mut Hypertext, needs: usize) -> Result<(), AllocError> {
     })
 }
 
-/// The name, the links, and which allocation is the current one.
+/// The name, the links, the search, and which allocation is the current one.
 fn write_top(page: &mut Hypertext, shown: &Shown<'_>) -> Result<(), AllocError> {
     page.markup("<h1>allocd <small>")?;
     page.text(shown.standing.version)?;
     page.markup("</small></h1>\n")?;
     write_links(page)?;
+    write_search(page, "")?;
     page.markup("<p>Allocation ")?;
     page.number(u128::from(shown.figures.allocation))?;
     write_published(page, shown.allocations)?;

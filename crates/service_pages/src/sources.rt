@@ -1,13 +1,13 @@
 //! The discovery sources: those that fail first.
 use crate::cells::{begin_bad_cell, begin_cell, end_cell, length_of_time, number_cell, text_cell};
-use crate::notes::SourceNote;
+use crate::notes::{ListCounts, SourceNote};
 use crate::standing::Standing;
 use hypertext::Hypertext;
 use lists::Text;
 use std::alloc::AllocError;
 
 const HEAD: &str =
-    "<table id=\"sources\"><caption>Discovery sources</caption><thead><tr><th scope=\"col\">Source</th><th scope=\"col\">Asked</th><th scope=\"col\">Failed</th><th scope=\"col\">Last list</th><th scope=\"col\">Last refresh</th><th scope=\"col\">Last fault</th></tr></thead><tbody>\n";
+    "<table id=\"sources\"><caption>Discovery sources</caption><thead><tr><th scope=\"col\">Source</th><th scope=\"col\">Asked</th><th scope=\"col\">Failed</th><th scope=\"col\">Targets</th><th scope=\"col\">Dropped</th><th scope=\"col\">Without address</th><th scope=\"col\">Last list</th><th scope=\"col\">Last refresh</th><th scope=\"col\">Last fault</th></tr></thead><tbody>\n";
 
 pub(crate) fn write_sources(
     page: &mut Hypertext,
@@ -76,10 +76,23 @@ fn write_rest(
     page.markup("</th>")?;
     number_cell(page, "Asked", source.refreshes)?;
     number_cell(page, "Failed", source.failures)?;
+    write_counts(page, source.counts)?;
     write_last_list(page, standing.seconds_since(source.succeeded))?;
     text_cell(page, "Last refresh", source.at.as_str())?;
     write_fault(page, source)?;
     page.markup("</tr>\n")
+}
+
+/// What its last list has, and what is left out of it. Nothing where it gave none.
+fn write_counts(page: &mut Hypertext, counts: Option<ListCounts>) -> Result<(), AllocError> {
+    match counts {
+        Some(counts) => {
+            number_cell(page, "Targets", counts.targets)?;
+            number_cell(page, "Dropped", counts.dropped)?;
+            number_cell(page, "Without address", counts.without_address)
+        }
+        None => page.markup("<td></td><td></td><td></td>"),
+    }
 }
 
 fn write_last_list(page: &mut Hypertext, ago: Option<u64>) -> Result<(), AllocError> {

@@ -1,8 +1,8 @@
 //! Targets, one a row.
 ghost use Rattle.std.specs.Prelude.{◌≡◌, ◌-◌, length};
 
-use crate::cells::{begin_bad_cell, begin_cell, end_cell, text_cell};
-use crate::links::collector_link;
+use crate::cells::{begin_bad_cell, begin_cell, end_cell, number_cell, text_cell};
+use crate::links::{collector_link, job_link};
 use hypertext::Hypertext;
 use lists::Text;
 use std::alloc::AllocError;
@@ -13,6 +13,7 @@ pub const MOST_ROWS: usize = 1_000;
 /// What is told of a live target.
 #[derive(Debug, Drop)]
 pub struct TargetRow {
+    pub number: u32,
     pub address: Text,
     pub job: Text,
     /// Its labels, without those whose names begin with two underscores.
@@ -51,6 +52,8 @@ pub struct Rows<'a> {
 pub(crate) enum Beside {
     Keeper,
     Job,
+    /// Its number, its job and its keeper.
+    All,
 }
 
 const BEGIN: &str =
@@ -77,13 +80,14 @@ pub(crate) fn write_targets(
     page.markup(match beside {
         Beside::Keeper => "Collector",
         Beside::Job => "Job",
+        Beside::All => "Number</th><th scope=\"col\">Job</th><th scope=\"col\">Collector",
     })?;
     page.markup(END)?;
     for row in rows.first {
         write_row(page, row, beside)?;
     }
     page.markup("</tbody></table>\n")?;
-    write_left_out(page, rows)
+    write_left_out(page, rows, beside)
 }
 
 fn write_row(page: &mut Hypertext, row: &TargetRow, beside: Beside) -> Result<(), AllocError> {
@@ -93,6 +97,7 @@ fn write_row(page: &mut Hypertext, row: &TargetRow, beside: Beside) -> Result<()
     match beside {
         Beside::Keeper => write_keeper(page, &row.keeper)?,
         Beside::Job => write_job(page, row)?,
+        Beside::All => write_all(page, row)?,
     }
     write_number(page, "Since allocation", row.since)?;
     write_number(page, "Last report in round", row.last_round)?;
@@ -111,6 +116,15 @@ fn write_job(page: &mut Hypertext, row: &TargetRow) -> Result<(), AllocError> {
         }
         _ => text_cell(page, "Job", row.job.as_str()),
     }
+}
+
+/// Its number, its job, and who holds it or why nobody does.
+fn write_all(page: &mut Hypertext, row: &TargetRow) -> Result<(), AllocError> {
+    number_cell(page, "Number", u64::from(row.number))?;
+    page.markup("<td class=\"long\" data-h=\"Job\">")?;
+    job_link(page, row.job.as_str())?;
+    end_cell(page)?;
+    write_keeper(page, &row.keeper)
 }
 
 /// Who holds it, or why nobody does.
@@ -164,14 +178,16 @@ fn write_labels(page: &mut Hypertext, labels: &[(Text, Text)]) -> Result<(), All
 }
 
 /// How many have no row, and how one of them is found.
-fn write_left_out(page: &mut Hypertext, rows: Rows<'_>) -> Result<(), AllocError> {
+fn write_left_out(page: &mut Hypertext, rows: Rows<'_>, beside: Beside) -> Result<(), AllocError> {
     let left_out = rows.left_out();
     if left_out == 0 {
         return Ok(());
     }
     page.markup("<p>And ")?;
     page.number(u128::from(left_out))?;
-    page.markup(
-        " more. <code>/targets?search=TEXT</code> finds those that have the text in their address or in the value of a label.</p>\n",
-    )
+    page.markup(match beside {
+        Beside::Keeper | Beside::Job =>
+            " more. <code>/targets?search=TEXT</code> finds those that have the text in their address or in the value of a label.</p>\n",
+        Beside::All => " more. A longer text finds fewer.</p>\n",
+    })
 }

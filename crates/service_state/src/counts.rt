@@ -5,11 +5,11 @@ use exposition::Durations;
 use fleet_events::Answer;
 
 /// How many status codes are told apart.
-const STATUS_COUNT: usize = 15;
+const STATUS_COUNT: usize = 16;
 
 /// The status codes of responses, and 0 for any other.
 pub(crate) const STATUSES: [u16; STATUS_COUNT] = [
-    200, 400, 401, 403, 404, 405, 409, 413, 415, 417, 500, 501, 503, 507, 0,
+    200, 304, 400, 401, 403, 404, 405, 409, 413, 415, 417, 500, 501, 503, 507, 0,
 ];
 
 /// What is counted of the requests of a route.

@@ -146,7 +146,7 @@ fn count_one(core: &Core, target: TargetId, collector: CollectorId, figures: &mu
 
 /// Whether the last list of a job that a collector was given has a target that it holds: where its list is served in order, that list, and
 /// else what it held in the allocation that it took last.
-fn is_taken(core: &Core, job: usize, target: TargetId, holder: CollectorId) -> bool {
+pub(crate) fn is_taken(core: &Core, job: usize, target: TargetId, holder: CollectorId) -> bool {
     if core.slots().get(target as usize) == Some(&holder) {
         return true;
     }

@@ -21,6 +21,7 @@ mod notes;
 mod open_round;
 mod process_figures;
 mod reloading;
+mod round_books;
 mod routes;
 mod service_state;
 mod takers;
@@ -37,7 +38,10 @@ pub use notes::Notes;
 pub use open_round::{RoundStart, RoundTimes};
 pub use process_figures::ProcessFigures;
 pub use reloading::{Reloading, unanswered};
+pub use round_books::{BookCounts, JobBooks, RoundBooks, books_of_round};
 pub use routes::Route;
-pub use service_pages::{AllocationNote, Figures, ListCounts, LoadNote, SourceNote};
+pub use service_pages::{
+    AllocationNote, Figures, ListCounts, LoadNote, MoveNote, SourceNote, untold_moves,
+};
 pub use service_settings::Lifecycle;
 pub use service_state::ServiceState;

@@ -3,6 +3,7 @@ use crate::counts::{Counts, EventCounts, RequestCounts, STATUSES};
 use crate::kinds::{DONE, KINDS, REFUSALS};
 use crate::notes::Notes;
 use crate::process_figures::ProcessFigures;
+use crate::round_books::RoundBooks;
 use crate::routes::ROUTES;
 use crate::service_state::ServiceState;
 use exposition::{Exposition, Kind};
@@ -31,6 +32,7 @@ pub fn metrics_page(
         figures.collectors.as_slice(),
         notes.loads.as_slice(),
     )?;
+    write_books(&mut page, figures.jobs.as_slice(), &notes.books)?;
     write_allocation(&mut page, figures)?;
     write_last_allocation(&mut page, notes)?;
     write_waiting(&mut page, figures, state)?;
@@ -231,7 +233,7 @@ fn write_allocation(page: &mut Exposition, figures: &Figures) -> Result<(), Allo
     write_gauge(
         page,
         "allocd_journal_entries",
-        "Entries of the desk's journal.",
+        "Entries of the journal since the last start, reload or renewal.",
         entries,
     )?;
     let samples = "allocd_samples_booked_total";
@@ -241,6 +243,71 @@ fn write_allocation(page: &mut Exposition, figures: &Figures) -> Result<(), Allo
         "Samples of all booked reports.",
         figures.samples,
     )
+}
+
+/// What was booked in the last round that is over. 0 where none is.
+fn write_books(
+    page: &mut Exposition,
+    jobs: &[JobFigures],
+    books: &RoundBooks,
+) -> Result<(), AllocError> {
+    write_reported_up(page, jobs, books)?;
+    write_reported_down(page, jobs, books)?;
+    write_missing(page, jobs, books)
+}
+
+fn write_reported_up(
+    page: &mut Exposition,
+    jobs: &[JobFigures],
+    books: &RoundBooks,
+) -> Result<(), AllocError> {
+    let name = "allocd_reports_up";
+    page.family(
+        name,
+        Kind::Gauge,
+        "Scrapes of the last round that were reported as answered.",
+    )?;
+    for (place, job) in jobs.iter().enumerate() {
+        let count = u128::from(books.of_job(place, job.name.as_str()).up);
+        page.labelled_sample(name, "job", job.name.as_str(), count)?;
+    }
+    Ok(())
+}
+
+fn write_reported_down(
+    page: &mut Exposition,
+    jobs: &[JobFigures],
+    books: &RoundBooks,
+) -> Result<(), AllocError> {
+    let name = "allocd_reports_down";
+    page.family(
+        name,
+        Kind::Gauge,
+        "Scrapes of the last round that were reported as not answered.",
+    )?;
+    for (place, job) in jobs.iter().enumerate() {
+        let count = u128::from(books.of_job(place, job.name.as_str()).down);
+        page.labelled_sample(name, "job", job.name.as_str(), count)?;
+    }
+    Ok(())
+}
+
+fn write_missing(
+    page: &mut Exposition,
+    jobs: &[JobFigures],
+    books: &RoundBooks,
+) -> Result<(), AllocError> {
+    let name = "allocd_reports_missing";
+    page.family(
+        name,
+        Kind::Gauge,
+        "Targets in the last lists of collectors of which the last round has no report.",
+    )?;
+    for (place, job) in jobs.iter().enumerate() {
+        let count = u128::from(books.of_job(place, job.name.as_str()).missing);
+        page.labelled_sample(name, "job", job.name.as_str(), count)?;
+    }
+    Ok(())
 }
 
 /// What holds up the handing over of targets.
@@ -410,7 +477,7 @@ fn write_last_allocation(page: &mut Exposition, notes: &Notes) -> Result<(), All
     write_gauge(
         page,
         "allocd_allocation_moved",
-        "Targets that another collector held before the last published allocation.",
+        "Targets that the last published allocation took from the collector that held them.",
         u128::from(moved),
     )?;
     write_gauge(

@@ -1,6 +1,7 @@
 //! What a service tells of its sources and of its last allocations.
 use crate::counts::Counts;
 use crate::process_figures::ProcessFigures;
+use crate::round_books::RoundBooks;
 use exposition::Durations;
 use fleet_events::CollectorId;
 use lists::Plain;
@@ -27,6 +28,8 @@ pub struct Notes {
     pub asked: Vec<(CollectorId, u64)>,
     /// What the last search that made loads even told of them. Empty where there was none.
     pub loads: Vec<LoadNote>,
+    /// What was booked in the last round that is over.
+    pub(crate) books: RoundBooks,
 }
 
 impl Notes {
@@ -40,6 +43,7 @@ impl Notes {
             process: ProcessFigures::unknown(),
             asked: Vec::new(alloc),
             loads: Vec::new(alloc),
+            books: RoundBooks::none(alloc),
         }
     }
 
@@ -58,6 +62,7 @@ impl Notes {
             process: self.process,
             asked,
             loads: copied_loads(alloc, self.loads.as_slice())?,
+            books: self.books.copy(alloc)?,
         })
     }
 

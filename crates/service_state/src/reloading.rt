@@ -7,7 +7,7 @@ use tokio::sync::oneshot;
 use tokio::sync::oneshot::{Receiver, Sender};
 
 const CLOSED: &str =
-    "The service ends, or opens another desk, which reads its configuration at once: ask again to be told.\n";
+    "The service ends, or is just renewed and reads its configuration at once: ask again to be told.\n";
 
 /// How a request has the service read its configuration again: it is told what became of it once the service has done so.
 #[derive(Drop)]

@@ -28,6 +28,7 @@ pub enum Route {
     Collectors,
     Collector,
     Job,
+    Allocations,
     /// What has no route.
     NoRoute,
 }
@@ -61,6 +62,7 @@ pub(crate) const ROUTES: [Route; ROUTE_COUNT] = [
     Route::Collectors,
     Route::Collector,
     Route::Job,
+    Route::Allocations,
     Route::NoRoute,
 ];
 
@@ -100,6 +102,7 @@ impl Route {
             Route::Collectors => "/collectors",
             Route::Collector => "/collectors/{id}",
             Route::Job => "/jobs/{job}",
+            Route::Allocations => "/allocations",
             Route::NoRoute => "none",
         }
     }
@@ -114,6 +117,7 @@ fn asked(ask: &Ask) -> Route {
         Ask::CollectorTargets { .. } => Route::CollectorTargets,
         Ask::Uncovered(_) => Route::Uncovered,
         Ask::Acknowledged { .. } => Route::Acknowledged,
+        Ask::Allocations => Route::Allocations,
         Ask::Certificate => Route::Certificate,
         Ask::Join => Route::Join,
         Ask::Leave(_) => Route::Leave,

@@ -8,6 +8,7 @@ use crate::notes::Notes;
 use crate::open_round::{OpenRound, RoundStart, RoundTimes};
 use crate::process_figures::ProcessFigures;
 use crate::reloading::Reloading;
+use crate::round_books::RoundBooks;
 use crate::routes::Route;
 use crate::takers::Takers;
 use fleet_events::{Answer, CollectorId, TargetId};
@@ -428,6 +429,11 @@ impl ServiceState {
     /// The last search told this of the collectors' loads. Nothing where it did not make them even.
     pub fn note_loads(&self, rt: &impl Wait, loads: Vec<LoadNote>) {
         self.notes.lock(rt).loads = loads;
+    }
+
+    /// A round is over, in which this was booked.
+    pub fn note_books(&self, rt: &impl Wait, books: RoundBooks) {
+        self.notes.lock(rt).books = books;
     }
 
     /// A search for an allocation that began then is over.

@@ -349,7 +349,7 @@ impl<R: Wait + Clock + Eprint + Copy, L: Ledger, B: Ledger, N: DeskName> Shared<
         let job = None;
         if let Some(answer) = self.enter(pass, Event::Release { collector, job }) {
             warn!(Logfmt(self.rt); collector; "a collector asked for nothing for long: its lists count as let go");
-            self.log_answer("an absent collector", &answer);
+            self.log_of_number(collector, &answer);
         }
     }
 
@@ -400,7 +400,7 @@ impl<R: Wait + Clock + Eprint + Copy, L: Ledger, B: Ledger, N: DeskName> Shared<
             Some(answer) => {
                 self.note_dismissal(attendance, collector, &answer);
                 self.log_absence(collector);
-                self.log_answer("an absent collector", &answer);
+                self.log_of_number(collector, &answer);
             }
         }
     }

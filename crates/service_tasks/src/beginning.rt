@@ -2,6 +2,7 @@
 use crate::office::Office;
 use crate::service::Service;
 use crate::shared::Shared;
+use crate::told_source::ToldSource;
 use alloc_desk::{DeskName, Pass};
 use allocation_core::Core;
 use fleet_events::Event;
@@ -86,7 +87,10 @@ impl<R: Wait + Clock + Eprint + Copy, L: Ledger, B: Ledger, N: DeskName> Shared<
             source: 0,
             targets,
         };
-        self.enter_first(pass, job.name.as_str(), event)
+        match self.enter_list(pass, ToldSource::of_groups(job.name.as_str()), event) {
+            Some(_) => Ok(()),
+            None => Err(AllocError),
+        }
     }
 
     /// Whether just these targets are listed by the static groups of the job at a place.

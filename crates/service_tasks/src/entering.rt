@@ -2,10 +2,11 @@
 use crate::control::Ending;
 use crate::logging::log_warning;
 use crate::shared::Shared;
+use crate::told_source::ToldSource;
 use alloc_desk::{DeskName, EnterError, Pass};
-use fleet_events::{Answer, Event};
+use fleet_events::{Answer, CollectorId, Event};
 use log::{info, warn};
-use logfmt::{Logfmt, Quoted};
+use logfmt::{Logfmt, Quoted, QuotedUrl};
 use service_state::EventKind;
 use std::alloc::AllocError;
 use std::sync::Wait;
@@ -36,28 +37,65 @@ impl<R: Wait + Clock + Eprint + Copy, L: Ledger, B: Ledger, N: DeskName> Shared<
         }
     }
 
-    /// Enters an event about something, logs what it is answered, and says whether it was entered.
-    pub(crate) fn enter_told(&self, pass: &mut Pass<L, B, N>, about: &str, event: Event) -> bool {
+    /// Enters an event of the collector of a name, logs what it is answered, and says whether it was entered.
+    pub(crate) fn enter_told(
+        &self,
+        pass: &mut Pass<L, B, N>,
+        collector: &str,
+        event: Event,
+    ) -> bool {
         match self.enter(pass, event) {
             Some(answer) => {
-                self.log_answer(about, &answer);
+                self.log_of_name(collector, &answer);
                 true
             }
             None => false,
         }
     }
 
-    /// Enters what a service begins with. It does not begin without it.
+    /// The same of the collector of a number, which may have left.
+    pub(crate) fn enter_numbered(
+        &self,
+        pass: &mut Pass<L, B, N>,
+        collector: CollectorId,
+        event: Event,
+    ) -> bool {
+        match self.enter(pass, event) {
+            Some(answer) => {
+                self.log_of_number(collector, &answer);
+                true
+            }
+            None => false,
+        }
+    }
+
+    /// Enters what a collector of the configuration begins with. The service does not begin without it.
     pub(crate) fn enter_first(
         &self,
         pass: &mut Pass<L, B, N>,
-        about: &str,
+        collector: &str,
         event: Event,
     ) -> Result<(), AllocError> {
-        if self.enter_told(pass, about, event) {
+        if self.enter_told(pass, collector, event) {
             Ok(())
         } else {
             Err(AllocError)
+        }
+    }
+
+    /// Enters what a source lists, and logs what it changes. Whether it was refused; None where it was not entered.
+    pub(crate) fn enter_list(
+        &self,
+        pass: &mut Pass<L, B, N>,
+        source: ToldSource<'_>,
+        event: Event,
+    ) -> Option<bool> {
+        match self.enter(pass, event) {
+            Some(answer) => {
+                self.log_of_source(source, &answer);
+                Some(is_refused(&answer))
+            }
+            None => None,
         }
     }
 
@@ -69,25 +107,78 @@ impl<R: Wait + Clock + Eprint + Copy, L: Ledger, B: Ledger, N: DeskName> Shared<
         }
     }
 
-    /// Logs what an event about something was answered: a refusal as a warning.
-    pub(crate) fn log_answer(&self, about: &str, answer: &Answer) {
+    /// Logs what the event of a collector was answered: a refusal as a warning.
+    fn log_of_name(&self, collector: &str, answer: &Answer) {
         if let Ok(line) = answer.line(self.alloc) {
-            match answer {
-                Answer::Not(_) => self.log_refusal(about, line.as_str()),
-                _ => self.log_entry(about, line.as_str()),
+            if is_refused(answer) {
+                self.log_refusal_of_name(collector, line.as_str());
+            } else {
+                self.log_entry_of_name(collector, line.as_str());
             }
         }
     }
 
-    fn log_refusal(&self, about: &str, answer: &str) {
-        let about = Quoted(about);
+    fn log_refusal_of_name(&self, collector: &str, answer: &str) {
+        let collector = Quoted(collector);
         let answer = Quoted(answer);
-        warn!(Logfmt(self.rt); about:% = about, answer:% = answer; "refused");
+        warn!(Logfmt(self.rt); collector:% = collector, answer:% = answer; "refused");
     }
 
-    fn log_entry(&self, about: &str, answer: &str) {
-        let about = Quoted(about);
+    fn log_entry_of_name(&self, collector: &str, answer: &str) {
+        let collector = Quoted(collector);
         let answer = Quoted(answer);
-        info!(Logfmt(self.rt); about:% = about, answer:% = answer; "entered");
+        info!(Logfmt(self.rt); collector:% = collector, answer:% = answer; "entered");
     }
+
+    /// The same of the collector of a number.
+    pub(crate) fn log_of_number(&self, collector: CollectorId, answer: &Answer) {
+        if let Ok(line) = answer.line(self.alloc) {
+            if is_refused(answer) {
+                self.log_refusal_of_number(collector, line.as_str());
+            } else {
+                self.log_entry_of_number(collector, line.as_str());
+            }
+        }
+    }
+
+    fn log_refusal_of_number(&self, collector: CollectorId, answer: &str) {
+        let answer = Quoted(answer);
+        warn!(Logfmt(self.rt); collector, answer:% = answer; "refused");
+    }
+
+    fn log_entry_of_number(&self, collector: CollectorId, answer: &str) {
+        let answer = Quoted(answer);
+        info!(Logfmt(self.rt); collector, answer:% = answer; "entered");
+    }
+
+    /// Logs what a list of a source changed, if it did, and a refusal as a warning.
+    fn log_of_source(&self, source: ToldSource<'_>, answer: &Answer) {
+        if let Answer::Discovered { added, removed } = answer {
+            self.log_discovered(source, *added, *removed);
+        } else if let Ok(line) = answer.line(self.alloc) {
+            self.log_refused_list(source, line.as_str());
+        }
+    }
+
+    fn log_discovered(&self, source: ToldSource<'_>, added: u32, removed: u32) {
+        if added == 0 && removed == 0 {
+            return;
+        }
+        let job = Quoted(source.job);
+        let url = QuotedUrl(source.url);
+        let number = source.number;
+        info!(Logfmt(self.rt); job:% = job, source = number, url:% = url, added, removed; "targets discovered");
+    }
+
+    fn log_refused_list(&self, source: ToldSource<'_>, answer: &str) {
+        let job = Quoted(source.job);
+        let url = QuotedUrl(source.url);
+        let answer = Quoted(answer);
+        let number = source.number;
+        warn!(Logfmt(self.rt); job:% = job, source = number, url:% = url, answer:% = answer; "refused");
+    }
+}
+
+fn is_refused(answer: &Answer) -> bool {
+    matches!(answer, Answer::Not(_))
 }

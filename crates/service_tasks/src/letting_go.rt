@@ -18,11 +18,7 @@ impl<R: Wait + Clock + Eprint + Copy, L: Ledger, B: Ledger, N: DeskName> Shared<
         for collector in collectors.iter() {
             let collector = *collector;
             let job = None;
-            self.enter_told(
-                pass,
-                "lists that were served in order",
-                Event::Release { collector, job },
-            );
+            self.enter_numbered(pass, collector, Event::Release { collector, job });
         }
         Ok(())
     }

@@ -7,6 +7,7 @@
 mod answers;
 mod attendance;
 mod beginning;
+mod booking;
 mod changing;
 mod configuration;
 mod control;
@@ -23,6 +24,7 @@ mod journal_file;
 mod keeping;
 mod letting_go;
 mod logging;
+mod moves;
 mod office;
 mod patience;
 mod process;
@@ -39,6 +41,7 @@ mod shared;
 mod sighting;
 mod source;
 mod sources;
+mod told_source;
 
 pub use beginning::found_in_static_groups;
 pub use configuration::Configuration;

@@ -1,27 +1,33 @@
 //! What is noted of an allocation that was published.
-use crate::logging::log_warning;
-use crate::scheduling::Schedule;
+ghost use Rattle.std.specs.Prelude.{◌≡◌, IfOk};
+ghost use Rattle.price_certificate.specs.Faults.{verdict_of};
+ghost use Rattle.alloc_desk.specs.Reached.{Reached};
+ghost use Rattle.service_tasks.specs.Published.{changes_at, changes_in};
+
+use crate::logging::{log_error, log_warning};
+use crate::moves::moves_of;
 use crate::shared::Shared;
 use alloc_desk::{DeskName, Pass};
-use allocation_core::{Answer, Core};
-use fleet_events::{CollectorId, TargetId};
-use lists::{Text, copies};
-use logfmt::timestamp;
-use service_state::AllocationNote;
-use std::alloc::AllocError;
+use allocation_core::Answer;
+use lists::{List, Text};
+use log::info;
+use logfmt::{Logfmt, Milliseconds, timestamp};
+use price_certificate::{Instance, Plan, Verdict, check};
+use service_state::{AllocationNote, MoveNote, untold_moves};
+use std::alloc::{AllocError, Global};
 use std::sync::Wait;
 use std::sync::ledger::Ledger;
 use std::time::{Clock, Instant};
 
-/// What an allocation comes to beside the one before it.
+/// What an allocation comes to beside the one before it, as the checker counts it.
 #[derive(Clone, Copy, Drop)]
-struct Changes {
+pub(crate) struct Changes {
     /// How many targets somebody holds.
-    covered: u64,
-    /// How many targets another live collector held before.
-    moved: u64,
+    pub(crate) covered: u64,
+    /// How many live targets a live collector held before and does not hold any more.
+    pub(crate) moved: u64,
     /// How many targets are with a draining collector.
-    left: u64,
+    pub(crate) left: u64,
 }
 
 impl<R: Wait + Clock + Eprint + Copy, L: Ledger, B: Ledger, N: DeskName> Shared<R, L, B, N> {
@@ -37,31 +43,86 @@ impl<R: Wait + Clock + Eprint + Copy, L: Ledger, B: Ledger, N: DeskName> Shared<
     }
 
     /// Notes for those who look at the service what was published.
-    pub(crate) fn note_published<C>(
-        &self,
-        pass: &mut Pass<L, B, N>,
-        schedule: &mut Schedule<C>,
-        number: u32,
-        milliseconds: u64,
-    ) {
+    pub(crate) fn note_published(&self, pass: &mut Pass<L, B, N>, number: u32, milliseconds: u64) {
         self.state
             .count_event(&self.rt, self.published_by(), &Answer::Published(number));
-        let changes = self.desk.read(&self.rt, pass, |record| {
-            changes_of(record.core(), schedule.held.as_slice())
-        });
-        self.remember_held(pass, schedule);
-        if self.note_changes(number, changes, milliseconds).is_err() {
+        match self.last_changes(pass) {
+            Ok(Some(changes)) => {
+                self.log_published(number, changes, milliseconds);
+                self.note_or_warn(pass, number, changes, milliseconds);
+            }
+            Ok(None) => {
+                self.log_uncounted(number, milliseconds);
+                log_error(
+                    &self.rt,
+                    "the checker refuses an allocation that was published",
+                );
+            }
+            Err(AllocError) => {
+                self.log_uncounted(number, milliseconds);
+                log_warning(&self.rt, "no memory to note an allocation");
+            }
+        }
+    }
+
+    fn log_published(&self, allocation: u32, changes: Changes, milliseconds: u64) {
+        let (covered, moved, left) = (changes.covered, changes.moved, changes.left);
+        let duration = Milliseconds(milliseconds);
+        info!(Logfmt(self.rt); allocation, covered, moved, left, duration:% = duration; "allocation published");
+    }
+
+    /// The same without what it comes to, which is not known.
+    fn log_uncounted(&self, allocation: u32, milliseconds: u64) {
+        let duration = Milliseconds(milliseconds);
+        info!(Logfmt(self.rt); allocation, duration:% = duration; "allocation published");
+    }
+
+    /// What the allocation that was published last comes to beside the one before it: what the checker's verdict over its certificate counts.
+    /// None where the checker refuses it. The lock is held while the certificate is copied, and not while it is checked.
+    fn last_changes(&self, pass: &mut Pass<L, B, N>) -> Result<Option<Changes>, AllocError>
+        ensures { IfOk result (λ changes. Reached N.opening pass.old (λ h. changes ≡ changes_at h.state)) }
+    {
+        let (instance, plan) = self.desk.certificate(&self.rt, pass)?;
+        changes_of(self.alloc, &instance, &plan)
+    }
+
+    fn note_or_warn(
+        &self,
+        pass: &mut Pass<L, B, N>,
+        number: u32,
+        changes: Changes,
+        milliseconds: u64,
+    ) {
+        let noted = match self.last_moves(pass, number) {
+            Ok(moves) => self.note_changes(number, changes, moves, milliseconds),
+            Err(AllocError) => Err(AllocError),
+        };
+        if noted.is_err() {
             log_warning(&self.rt, "no memory to note an allocation");
         }
+    }
+
+    /// What moved from whom to whom with the current allocation, which has this number.
+    fn last_moves(
+        &self,
+        pass: &mut Pass<L, B, N>,
+        number: u32,
+    ) -> Result<List<MoveNote>, AllocError> {
+        let alloc = self.alloc;
+        self.desk.read(&self.rt, pass, |record| {
+            moves_of(alloc, record.core(), number)
+        })
     }
 
     fn note_changes(
         &self,
         number: u32,
         changes: Changes,
+        moves: List<MoveNote>,
         milliseconds: u64,
     ) -> Result<(), AllocError> {
         let at = timestamp(&self.rt, self.alloc).ok_or(AllocError)?;
+        let more_moves = untold_moves(changes.moved, moves.as_slice());
         let note = AllocationNote {
             number,
             at: Text::from_string(at),
@@ -69,64 +130,39 @@ impl<R: Wait + Clock + Eprint + Copy, L: Ledger, B: Ledger, N: DeskName> Shared<
             moved: changes.moved,
             left: changes.left,
             milliseconds,
+            moves,
+            more_moves,
         };
         self.state.note_allocation(&self.rt, note)
     }
-
-    /// Remembers who holds what in the current allocation.
-    pub(crate) fn remember_held<C>(&self, pass: &mut Pass<L, B, N>, schedule: &mut Schedule<C>) {
-        let held = self.desk.read(&self.rt, pass, |record| {
-            copies(self.alloc, record.core().allocation())
-        });
-        match held {
-            Ok(held) => schedule.held = held,
-            Err(_) => log_warning(&self.rt, "no memory to note who holds what"),
-        }
-    }
 }
 
-/// What the current allocation comes to beside those who held what before it.
-fn changes_of(core: &Core, before: &[(TargetId, CollectorId)]) -> Changes {
-    let mut changes = Changes {
-        covered: 0,
-        moved: 0,
-        left: 0,
-    };
-    for (target, collector) in core.allocation() {
-        changes.covered = changes.covered.saturating_add(1);
-        if is_moved(core, before, *target, *collector) {
-            changes.moved = changes.moved.saturating_add(1);
-        }
-        if is_draining(core, *collector) {
-            changes.left = changes.left.saturating_add(1);
-        }
-    }
-    changes
+/// What the checker's verdict over a plan counts. None where it refuses the plan.
+fn changes_of(
+    alloc: Global,
+    instance: &Instance,
+    plan: &Plan,
+) -> Result<Option<Changes>, AllocError>
+    ensures { IfOk result (λ changes. changes ≡ changes_in (verdict_of instance.now plan.now.pairs plan.now.item_prices plan.now.bin_prices)) }
+{
+    let verdict = check(alloc, instance, plan)?;
+    Ok(changes_in(verdict))
 }
 
-/// Whether another collector held the target, which is live still.
-fn is_moved(
-    core: &Core,
-    before: &[(TargetId, CollectorId)],
-    target: TargetId,
-    collector: CollectorId,
-) -> bool {
-    match before.binary_search_by(|pair| pair.0.cmp(&target)) {
-        Ok(place) => match before.get(place) {
-            Some((_, holder)) => *holder != collector && core.fleet().is_joined(*holder),
-            None => false,
-        },
-        Err(_) => false,
-    }
-}
-
-fn is_draining(core: &Core, collector: CollectorId) -> bool {
-    let collectors = core.collectors();
-    match collectors.binary_search_by(|other| other.id.cmp(&collector)) {
-        Ok(place) => match collectors.get(place) {
-            Some(collector) => collector.draining,
-            None => false,
-        },
-        Err(_) => false,
+/// What a verdict counts. None where it is a refusal.
+fn changes_in(verdict: Verdict) -> Option<Changes>
+    ensures { result ≡ changes_in verdict }
+{
+    match verdict {
+        Verdict::Best {
+            covered,
+            left,
+            moved,
+        } => Some(Changes {
+            covered,
+            moved,
+            left,
+        }),
+        Verdict::Refused(_) => None,
     }
 }

@@ -4,13 +4,14 @@ use crate::logging::{log_warning, log_warning_of};
 use crate::shared::Shared;
 use crate::source::{Listed, Source};
 use crate::sources::Sources;
+use crate::told_source::ToldSource;
 use alloc_desk::{DeskName, Pass};
 use file_configs::{ReadFiles, patterns_of};
-use fleet_events::{Answer, Event};
+use fleet_events::Event;
 use http_get::{Asker, Cause, FetchSeveral, Get, Listing, Next, Reply, get_of_source};
 use lists::{List, Plain, Text};
 use log::warn;
-use logfmt::{Logfmt, Quoted, timestamp};
+use logfmt::{Logfmt, Quoted, QuotedUrl, timestamp};
 use sd_documents::Job;
 use service_state::{ListCounts, SourceNote};
 use std::alloc::{AllocError, Global};
@@ -208,7 +209,7 @@ impl<R: Wait + Clock + Eprint + Copy, L: Ledger, B: Ledger, N: DeskName> Shared<
         match list {
             Ok(listing) => {
                 let listed = &mut source.listed;
-                self.submit_news(pass, job.name.as_str(), listed, listing.event);
+                self.submit_news(pass, told_source(job, number), listed, listing.event);
             }
             Err(_told) => {}
         }
@@ -224,15 +225,17 @@ impl<R: Wait + Clock + Eprint + Copy, L: Ledger, B: Ledger, N: DeskName> Shared<
             return;
         };
         if list.is_err() {
-            self.log_failure(job, number, fault.as_str());
+            self.log_failure(told_source(job, number), fault.as_str());
         }
         self.note_refresh(job, number, counts_in(list), fault);
     }
 
-    fn log_failure(&self, job: &Job, number: u32, fault: &str) {
-        let about = Quoted(job.name.as_str());
-        let url = Quoted(url_of(job, number));
-        warn!(Logfmt(self.rt); about:% = about, source = number, url:% = url; "refresh failed: {fault}");
+    fn log_failure(&self, source: ToldSource<'_>, fault: &str) {
+        let job = Quoted(source.job);
+        let url = QuotedUrl(source.url);
+        let why = Quoted(fault);
+        let number = source.number;
+        warn!(Logfmt(self.rt); job:% = job, source = number, url:% = url, why:% = why; "refresh failed");
     }
 
     /// Notes for those who look at the service how a refresh ended.
@@ -276,7 +279,13 @@ impl<R: Wait + Clock + Eprint + Copy, L: Ledger, B: Ledger, N: DeskName> Shared<
     }
 
     /// Submits a list that is another one than the last.
-    fn submit_news(&self, pass: &mut Pass<L, B, N>, job: &str, listed: &mut Listed, event: Event) {
+    fn submit_news(
+        &self,
+        pass: &mut Pass<L, B, N>,
+        source: ToldSource<'_>,
+        listed: &mut Listed,
+        event: Event,
+    ) {
         let Ok(text) = event.to_json(self.alloc) else {
             log_warning(&self.rt, "no memory for a list of targets");
             return;
@@ -285,9 +294,7 @@ impl<R: Wait + Clock + Eprint + Copy, L: Ledger, B: Ledger, N: DeskName> Shared<
             return;
         }
         self.listed.fetch_add(targets_in(&event), Ordering::SeqCst);
-        if let Some(answer) = self.enter(pass, event) {
-            self.log_answer(job, &answer);
-            let is_refused = matches!(answer, Answer::Not(_));
+        if let Some(is_refused) = self.enter_list(pass, source, event) {
             listed.submitted(text, is_refused);
         }
     }
@@ -298,6 +305,15 @@ fn wanted_over_http(alloc: Global, job: &Job, number: u32) -> Option<Wanted> {
     match get_of_source(alloc, job, number) {
         Ok(Some(get)) => Some(Wanted::Get(get)),
         Ok(None) | Err(AllocError) => None,
+    }
+}
+
+/// A job's source, as log lines name it.
+fn told_source(job: &Job, number: u32) -> ToldSource<'_> {
+    ToldSource {
+        job: job.name.as_str(),
+        number,
+        url: url_of(job, number),
     }
 }
 

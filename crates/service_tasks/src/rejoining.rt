@@ -82,8 +82,8 @@ impl<R: Wait + Clock + Eprint + Copy, L: Ledger, B: Ledger, N: DeskName> Shared<
 
     fn exchange(&self, pass: &mut Pass<L, B, N>, collector: CollectorId, joins: Event) {
         info!(Logfmt(self.rt); collector; "a collector that was absent asks again: it joins anew");
-        if self.enter_told(pass, "an absent collector", Event::Leave(collector)) {
-            self.enter_told(pass, "an absent collector", joins);
+        if self.enter_numbered(pass, collector, Event::Leave(collector)) {
+            self.enter_numbered(pass, collector, joins);
         }
     }
 

@@ -11,10 +11,10 @@ use crate::service::JobText;
 use crate::shared::Shared;
 use alloc_desk::{DeskName, MOST_ENTRIES, Pass, Reallocated};
 use fleet::MOST_KNOWN_TARGETS;
-use fleet_events::{Answer, CollectorId, Event, TargetId};
+use fleet_events::{Answer, Event};
 use lists::List;
-use log::info;
-use logfmt::Logfmt;
+use log::{info, warn};
+use logfmt::{Logfmt, Quoted};
 use service_state::RoundStart;
 use std::alloc::Global;
 use std::sync::atomic::Ordering;
@@ -58,8 +58,6 @@ pub struct Schedule<C> {
     pub(crate) failed_accepts: FailedAccepts,
     /// When it was looked at the process last.
     pub(crate) process_seen: Option<Instant>,
-    /// Who holds what, as the last allocation had it.
-    pub(crate) held: Vec<(TargetId, CollectorId)>,
 }
 
 impl<C> Schedule<C> {
@@ -84,7 +82,6 @@ impl<C> Schedule<C> {
             broken: None,
             failed_accepts: FailedAccepts::new(),
             process_seen: None,
-            held: Vec::new(alloc),
         }
     }
 
@@ -108,8 +105,6 @@ impl<R: Wait + Clock + Eprint + Copy, L: Ledger, B: Ledger, N: DeskName> Shared<
     }
 
     fn take_turns<C: Configuration>(&self, pass: &mut Pass<L, B, N>, schedule: &mut Schedule<C>) {
-        schedule.held.clear();
-        self.remember_held(pass, schedule);
         self.remember_names(pass);
         schedule.handovers.look_anew();
         for _ in self.rt.forever() {
@@ -163,8 +158,11 @@ impl<R: Wait + Clock + Eprint + Copy, L: Ledger, B: Ledger, N: DeskName> Shared<
         };
         schedule.start = RoundStart::open_for(now, self.age_of_next(open));
         self.note_round(schedule);
+        if let Answer::RoundOpen(round) = &answer {
+            self.note_books(pass, round.saturating_sub(1));
+        }
         if matches!(answer, Answer::Not(_)) {
-            self.log_answer("the next round", &answer);
+            self.log_refused_round(&answer);
         }
     }
 
@@ -214,8 +212,7 @@ impl<R: Wait + Clock + Eprint + Copy, L: Ledger, B: Ledger, N: DeskName> Shared<
         match found {
             Ok(Reallocated::Published(number)) => {
                 schedule.is_evening = self.bounds_moves();
-                self.log_published(number);
-                self.note_published(pass, schedule, number, milliseconds);
+                self.note_published(pass, number, milliseconds);
             }
             Ok(Reallocated::Unchanged(_)) => schedule.is_evening = false,
             Err(NotReallocated::Overtaken) => {
@@ -249,11 +246,14 @@ impl<R: Wait + Clock + Eprint + Copy, L: Ledger, B: Ledger, N: DeskName> Shared<
         }
     }
 
-    fn log_published(&self, number: u32) {
-        info!(Logfmt(self.rt); number; "allocation published");
+    fn log_refused_round(&self, answer: &Answer) {
+        if let Ok(line) = answer.line(self.alloc) {
+            let answer = Quoted(line.as_str());
+            warn!(Logfmt(self.rt); answer:% = answer; "the next round is refused");
+        }
     }
 
     fn log_full(&self, entries: usize, known: usize) {
-        info!(Logfmt(self.rt); entries, known; "nearly full: the allocator is renewed, and another desk is opened");
+        info!(Logfmt(self.rt); entries, known; "nearly full: the allocator is renewed, and connections end once");
     }
 }

@@ -143,6 +143,11 @@ impl Service {
         self.jobs.as_slice()
     }
 
+    /// How many collectors the configuration names.
+    pub fn collectors(&self) -> usize {
+        self.settings.collectors.as_slice().len()
+    }
+
     /// Where the settings say to listen.
     pub fn listen(&self) -> Address {
         self.settings.listen

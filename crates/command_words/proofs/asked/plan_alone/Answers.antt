@@ -1,9 +1,9 @@
-use Rattle.std.proofs.Common.{◌≡◌, ◌∙◌, Option, None, Some, ap, codes, if◌then◌else◌}
+use Rattle.std.proofs.Common.{◌∙◌, Option, None, Some, ap, codes, if◌then◌else◌}
 use Rattle.std.specs.Prelude.{is_some}
 use Rattle.std.proofs.lemmas.Result.{IfOk-weaker}
-use Rattle.clap.specs.Words.{Row, Text, first_of, found_of, rows_of}
+use Rattle.clap.specs.Words.{Text, first_of, found_of, rows_of}
 use Rattle.clap.proofs.WalkLemmas.{first_value-rows}
-use Rattle.command_words.specs.Asked.{Answers, Said, plans_alone_by}
+use Rattle.command_words.specs.Asked.{Answers, Said}
 use Rattle.command_words.specs.declared.asked.InputCommand.TheVariants.{Plan}
 use Rattle.command_words.proofs.asked.plan_alone.Goals as goal
 

@@ -10,3 +10,7 @@ returns-in-Job g c = rw c.in-Job.is (0, inl (rw (← c.as_str.ensures) c.job_doc
 pub returns-in-Collector : goal.returns-in-Collector
 unfolding SaysIn
 returns-in-Collector g c = rw c.in-Collector.is (0, inl c.collector_document.ensures)
+
+pub returns-in-FindTargets : goal.returns-in-FindTargets
+unfolding SaysIn
+returns-in-FindTargets g c = rw c.in-FindTargets.is (0, inl c.found_document.ensures)
