@@ -9,7 +9,7 @@ use agent_exchanges::{
 };
 use agent_turns::Heard;
 use scrape_client::{Answer, Method};
-use std::alloc::AllocGlobal;
+use std::alloc::{AllocError, AllocGlobal};
 use std::net::Net;
 use std::random::RandomSource;
 use std::sync::Wait;
@@ -96,7 +96,23 @@ where
             tell_refused(&self.rt, answer.status);
             return None;
         }
-        read_jobs(self.alloc, answer.body.as_slice()).ok()
+        self.links_in(answer.body.as_slice())
+    }
+
+    /// Reads which jobs there are, and notes their names: where the collector holds nothing, that is told of each of them.
+    fn links_in(&self, body: &[u8]) -> Option<Vec<JobLink>> {
+        let links = read_jobs(self.alloc, body).ok()?;
+        match self.note_jobs(links.as_slice()) {
+            Ok(()) => Some(links),
+            Err(AllocError) => None,
+        }
+    }
+
+    fn note_jobs(&self, links: &[JobLink]) -> Result<(), AllocError> {
+        for link in links {
+            let _index = self.jobs.index_of(&self.rt, link.job.as_str())?;
+        }
+        Ok(())
     }
 
     /// Gathers the lists, up to the first that is not of the head of those before.
