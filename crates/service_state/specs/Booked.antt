@@ -1,5 +1,5 @@
 -- Of which rounds is told what was booked, and what a report counts.
-use Rattle.std.specs.Prelude.{◌≡◌, ◌+◌, ◌-◌, ◌==◌, ◌&&◌, ◌||◌, ℕ, nat_le, nat_lt, min, Bool, List, [], map, Option, Some, None, if◌then◌else◌}
+use Rattle.std.specs.Prelude.{◌≡◌, ◌+◌, ◌-◌, ◌^◌, ◌==◌, ◌&&◌, ◌||◌, ℕ, nat_le, nat_lt, min, Bool, List, [], map, Option, Some, None, if◌then◌else◌}
 use Rattle.std.specs.List.{list_any}
 use Rattle.allocation_core.specs.State.{State}
 use Rattle.fleet.specs.declared.job.JobSpec.{JobSpec}
@@ -39,7 +39,7 @@ IsBooks m asked (Some row) = (round_told m.round m.booked asked ≡ Some row.rou
 
 -- the number, or the greatest of 64 bits
 abbrev pub saturated : ℕ → ℕ
-saturated n = min n 18446744073709551615
+saturated n = min n (2 ^ 64 - 1)
 
 -- the counts with one more report
 abbrev pub counted : BookCounts → Outcome → BookCounts
