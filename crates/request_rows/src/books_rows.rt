@@ -15,7 +15,7 @@ pub(crate) fn books(alloc: Global, text: &str) -> Result<String, AllocError> {
 fn row_in(alloc: Global, head: &str, job: &str) -> Result<BooksRow, AllocError> {
     let (open, round) = first_word(head);
     Ok(BooksRow {
-        open: number(open),
+        open_round: number(open),
         round: round_in(round),
         jobs: jobs_in(alloc, job)?,
     })

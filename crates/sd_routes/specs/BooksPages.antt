@@ -32,5 +32,5 @@ job_books_data row =
 abbrev pub books_data : BooksRow → Data
 books_data row =
     object (member (codes "jobs") (list_data job_books_data row.jobs)
-    (member (codes "open") (number_data row.open)
+    (member (codes "open") (number_data row.open_round)
     (member (codes "round") (number_or_null row.round) no_members)))

@@ -17,7 +17,7 @@ use std::alloc::{AllocError, Global};
 #[derive(Debug, Drop)]
 pub struct BooksRow {
     /// The round that is open.
-    pub open: Round,
+    pub open_round: Round,
     /// The round that is told of. None where no round is over that the books have.
     pub round: Option<Round>,
     /// The jobs, in the order of the configuration.
@@ -70,8 +70,8 @@ fn books_value(alloc: Global, row: &BooksRow) -> Result<Value, AllocError>
 {
     let jobs = Value::Array(job_values(alloc, row.jobs.as_slice())?);
     let round = small_or_null(row.round);
-    let open = row.open;
-    json!(in alloc; {"jobs": jobs, "open": open, "round": round})
+    let open_round = row.open_round;
+    json!(in alloc; {"jobs": jobs, "open": open_round, "round": round})
 }
 
 fn job_values(alloc: Global, rows: &[JobBooks]) -> Result<Vec<Value>, AllocError>

@@ -74,7 +74,7 @@ impl<R: Wait + Clock + Copy, L: Ledger, B: Ledger, N: DeskName> Handler<R, L, B,
         let lines = lines_of(self.alloc, row.jobs.as_slice())?;
         let shown = ShownBooks {
             round: row.round,
-            open: row.open,
+            open: row.open_round,
             lines: lines.as_slice(),
         };
         books_document(self.alloc, &shown)

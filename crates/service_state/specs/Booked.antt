@@ -16,16 +16,16 @@ has_up_to round booked = list_any (λ (p : ℕ × Entry). nat_le p.1.round round
 
 -- the round is the open one, or is over and not before the first of which a report is booked
 abbrev pub is_told : ℕ → List (ℕ × Entry) → ℕ → Bool
-is_told open booked round = (round == open) || (nat_lt round open && has_up_to round booked)
+is_told open_round booked round = (round == open_round) || (nat_lt round open_round && has_up_to round booked)
 
 -- the last round that is over, where it is not before that
 abbrev pub last_over : ℕ → List (ℕ × Entry) → Option ℕ
-last_over open booked = if nat_lt 0 open && has_up_to (open - 1) booked then Some (open - 1) else None
+last_over open_round booked = if nat_lt 0 open_round && has_up_to (open_round - 1) booked then Some (open_round - 1) else None
 
 -- the round that is told of: the one that is asked for, or the last one that is over, if there is one
 abbrev pub round_told : ℕ → List (ℕ × Entry) → Option ℕ → Option (Option ℕ)
-round_told open booked None = Some (last_over open booked)
-round_told open booked (Some round) = if is_told open booked round then Some (Some round) else None
+round_told open_round booked None = Some (last_over open_round booked)
+round_told open_round booked (Some round) = if is_told open_round booked round then Some (Some round) else None
 
 -- there is a row for each job, in order, where a round is told of
 abbrev pub AreOfJobs : List JobSpec → Option ℕ → List JobBooks → Type 0
@@ -35,7 +35,7 @@ AreOfJobs jobs (Some round) rows = map (λ (row : JobBooks). row.job) rows ≡ m
 -- what is told of a state, where the round that is asked for is to be told of
 abbrev pub IsBooks : State → Option ℕ → Option BooksRow → Type 0
 IsBooks m asked None = round_told m.round m.booked asked ≡ None
-IsBooks m asked (Some row) = (round_told m.round m.booked asked ≡ Some row.round) × ((row.open ≡ m.round) × AreOfJobs m.fleet.jobs row.round row.jobs)
+IsBooks m asked (Some row) = (round_told m.round m.booked asked ≡ Some row.round) × ((row.open_round ≡ m.round) × AreOfJobs m.fleet.jobs row.round row.jobs)
 
 -- the number, or the greatest of 64 bits
 abbrev pub saturated : ℕ → ℕ

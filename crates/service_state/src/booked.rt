@@ -44,34 +44,34 @@ pub fn books_asked(
 
 /// The round that is told of, if one is that is over. None where the one that is asked for is not to be told of.
 fn round_told(
-    open: Round,
+    open_round: Round,
     entries: &[(TargetId, Entry)],
     asked: Option<Round>,
 ) -> Option<Option<Round>>
-    ensures { result ≡ round_told open entries.now asked }
+    ensures { result ≡ round_told open_round entries.now asked }
 {
     match asked {
-        None => Some(last_over(open, entries)),
-        Some(round) if is_told(open, entries, round) => Some(Some(round)),
+        None => Some(last_over(open_round, entries)),
+        Some(round) if is_told(open_round, entries, round) => Some(Some(round)),
         Some(_) => None,
     }
 }
 
 /// The last round that is over, where the books have it.
-fn last_over(open: Round, entries: &[(TargetId, Entry)]) -> Option<Round>
-    ensures { result ≡ last_over open entries.now }
+fn last_over(open_round: Round, entries: &[(TargetId, Entry)]) -> Option<Round>
+    ensures { result ≡ last_over open_round entries.now }
 {
-    if open > 0 && has_up_to(entries, open - 1) {
-        return Some(open - 1);
+    if open_round > 0 && has_up_to(entries, open_round - 1) {
+        return Some(open_round - 1);
     }
     None
 }
 
 /// Whether a round is the open one, or is over and not before the first of which the books have a report.
-fn is_told(open: Round, entries: &[(TargetId, Entry)], round: Round) -> bool
-    ensures { result ≡ is_told open entries.now round }
+fn is_told(open_round: Round, entries: &[(TargetId, Entry)], round: Round) -> bool
+    ensures { result ≡ is_told open_round entries.now round }
 {
-    round == open || (round < open && has_up_to(entries, round))
+    round == open_round || (round < open_round && has_up_to(entries, round))
 }
 
 /// Whether a report of a round is booked, or of one before.
@@ -87,14 +87,14 @@ fn has_up_to(entries: &[(TargetId, Entry)], round: Round) -> bool
 }
 
 fn books_told(alloc: Global, core: &Core, round: Option<Round>) -> Result<BooksRow, AllocError>
-    ensures { IfOk result (λ row. (row.round ≡ round) × ((row.open ≡ core.now.round) × AreOfJobs core.now.fleet.jobs round row.jobs)) }
+    ensures { IfOk result (λ row. (row.round ≡ round) × ((row.open_round ≡ core.now.round) × AreOfJobs core.now.fleet.jobs round row.jobs)) }
 {
     let jobs = match round {
         Some(round) => job_books(alloc, core, round)?,
         None => List::new(alloc),
     };
     Ok(BooksRow {
-        open: core.round(),
+        open_round: core.round(),
         round,
         jobs,
     })
@@ -114,8 +114,8 @@ pub(crate) fn job_books(
 }
 
 /// What is counted before anything is. What is missing is known of the open round and of the last one that is over: lists are told as they are now.
-fn nothing_of(open: Round, round: Round) -> BookCounts {
-    let missing = if open.saturating_sub(round) <= 1 {
+fn nothing_of(open_round: Round, round: Round) -> BookCounts {
+    let missing = if open_round.saturating_sub(round) <= 1 {
         Some(0)
     } else {
         None
