@@ -39,7 +39,7 @@ pub(crate) fn response_to<R: Wait + Clock>(
     path: &str,
     fields: &HeaderMap,
 ) -> Result<Response<Full<Bytes>>, AllocError> {
-    match wanted(method, path, fields) {
+    match wanted_by(method, path, fields) {
         Wanted::List(segment) => list_response(rt, alloc, shelf, segment),
         Wanted::Health => plain(alloc, StatusCode::OK, b"allocd agent is healthy.\n"),
         Wanted::Metrics => metrics_response(alloc, shelf),
@@ -57,7 +57,7 @@ pub(crate) fn response_to<R: Wait + Clock>(
     }
 }
 
-fn wanted<'a>(method: &str, path: &'a str, fields: &HeaderMap) -> Wanted<'a> {
+fn wanted_by<'a>(method: &str, path: &'a str, fields: &HeaderMap) -> Wanted<'a> {
     if !is_own_host(fields) {
         return Wanted::Host;
     }
@@ -97,7 +97,7 @@ fn list_response<R: Wait + Clock>(
     segment: &str,
 ) -> Result<Response<Full<Bytes>>, AllocError> {
     let now = millis_now(rt);
-    match found(rt, alloc, shelf, segment, now)? {
+    match found_for(rt, alloc, shelf, segment, now)? {
         Found::List(list) => {
             count_one(&shelf.counts.lists);
             response(alloc, StatusCode::OK, "application/json", list)
@@ -116,7 +116,7 @@ fn list_response<R: Wait + Clock>(
 }
 
 /// What is served of the job that a segment stands for.
-fn found<R: Wait>(
+fn found_for<R: Wait>(
     rt: &R,
     alloc: Global,
     shelf: &Shelf,

@@ -38,7 +38,7 @@ fn take_turn(
     line: &mut String,
     text: &str,
 ) -> Result<(), AllocError> {
-    let mut outside = scripted(alloc, text);
+    let mut outside = outside_of(alloc, text);
     turn(alloc, agent, &mut outside)?;
     let trace = outside.trace.replace(String::new(alloc));
     line.push_str(trace.as_str())?;
@@ -47,7 +47,7 @@ fn take_turn(
     line.push_str(behind.as_str())
 }
 
-fn scripted(alloc: Global, text: &str) -> Scripted<'_> {
+fn outside_of(alloc: Global, text: &str) -> Scripted<'_> {
     let mut words = text.splitn(7, ';');
     Scripted {
         alloc,
