@@ -22,7 +22,7 @@ import threading
 import time
 import urllib.parse
 
-from allocd_service import PROGRAM, ROOT, Service, comes, events_in, free_port, lines_of
+from allocd_service import PROGRAM, ROOT, Service, ask, comes, events_in, free_port, lines_of
 from told_rows import Teller
 
 ANY = [{"allow": True, "test": "any"}]
@@ -112,6 +112,11 @@ class Pair:
         self.start_server()
         self.start_agent()
 
+    def figure(self, name):
+        """A figure of the agent's metrics, by its name."""
+        text = ask(self.lists, "GET", "/metrics")[1] or ""
+        return next((line.rsplit(" ", 1)[1] for line in text.split("\n") if line.startswith(f"{name} ")), None)
+
     def stop(self):
         for it in (self.agent, self.server):
             if it and it.poll() is None:
@@ -164,16 +169,17 @@ class Books:
 
 
 def matched(scrapes, booked):
-    """How many reports are scrapes in their order, each once; and those that are none."""
-    place, good, wrong = 0, 0, 0
+    """The places of the scrapes that reports are of, in their order and each once; and how many reports are of none."""
+    places, wrong, place = set(), 0, 0
     numbers = [samples for _, _, samples in scrapes]
     for samples in booked:
         if samples in numbers[place:]:
-            place = numbers.index(samples, place) + 1
-            good += 1
+            at = numbers.index(samples, place)
+            places.add(at)
+            place = at + 1
         else:
             wrong += 1
-    return good, wrong
+    return places, wrong
 
 
 class Fleet:
@@ -187,24 +193,37 @@ class Fleet:
         self.targets = [f"{job}{i}" for job in JOBS for i in range(EACH)]
         self.books = Books(f"{folder}/journal")
 
-    def compare(self, what, least, share):
-        """Tells whether the reports so far are scrapes, and enough of them."""
+    def found(self, since):
+        """Of the scrapes since a time how many are booked, how many are not and wait no more, and how many reports are of none."""
         self.books.learn(self.service)
         booked = self.books.read()
-        good = wrong = all_scrapes = 0
+        good = lost = wrong = 0
         for target in self.targets:
             scrapes = LOG.of(target)
-            one, other = matched(scrapes, booked.get(target, []))
-            good, wrong, all_scrapes = good + one, wrong + other, all_scrapes + len(scrapes)
-        waiting = WAITING * len(self.targets)
-        tell(f"{what}: no report is of another scrape, or of one that was booked", wrong == 0, f"{wrong} of {good + wrong}")
-        tell(f"{what}: {share} of 100 scrapes are booked", good >= least and 100 * good >= share * (all_scrapes - waiting), f"{good} of {all_scrapes}")
+            places, other = matched(scrapes, booked.get(target, []))
+            wrong += other
+            for place, (time_of, _, _) in enumerate(scrapes):
+                if time_of >= since:
+                    good += place in places
+                    lost += place not in places and place < len(scrapes) - WAITING
+        return good, lost, wrong
 
-    def phase(self, what, act, seconds):
+    def phase(self, what, act, seconds, most=0):
+        """Does something, and tells what is booked of the scrapes since: at most so many of 100 are not."""
+        since = time.time()
         act()
         self.books.learn(self.service)
         time.sleep(seconds)
-        self.compare(what, 1, 99)
+        good, lost, wrong = self.found(since)
+        tell(f"{what}: no report is of another scrape, or of one that was booked", wrong == 0, f"{wrong}")
+        tell(f"{what}: {100 - most} of 100 scrapes are booked", good and 100 * lost <= most * (good + lost), f"{good}, and {lost} are not")
+        print(f"   {what}: {good} booked, {lost} not", flush=True)
+
+    def is_even(self):
+        """Whether each collector holds its share, and each agent serves all of it."""
+        held = [int(pair.figure("allocd_agent_targets_held") or 0) for pair in self.pairs.values()]
+        served = [int(pair.figure("allocd_agent_targets_served") or 0) for pair in self.pairs.values()]
+        return held == served and sum(held) == len(self.targets) and max(held) - min(held) <= len(JOBS)
 
 
 def texts_of_the_agent():
@@ -244,7 +263,8 @@ def tried(folder, steady):
     try:
         for pair in pairs.values():
             pair.start()
-        comes(lambda: all(LOG.of(target) for target in fleet.targets), 90)
+        tell("each collector gets its share", comes(lambda: fleet.is_even(), 120))
+        time.sleep(WAITING * INTERVAL)
         fleet.phase("a steady stretch", lambda: None, steady)
         fleet.phase("a drains", lambda: ask("POST", "/collectors/a/drain"), 40)
         fleet.phase("a leaves, and joins anew by itself", lambda: ask("DELETE", "/collectors/a"), 40)

@@ -31,7 +31,7 @@ pub enum Saying {
 
 /// What an answer to a list that was asked for at a time says.
 pub fn saying_of(at: u64, status: u16, heads: Heads<'_>, body: &[u8]) -> Saying
-    ensures { result ≡ saying at status heads.collector.now heads.epoch.now heads.number.now heads.round.now heads.age.now heads.length.now body.now }
+    ensures { result ≡ saying at status heads.entry.collector.now heads.entry.epoch.now heads.entry.number.now heads.entry.round.now heads.entry.age.now heads.entry.length.now body.now }
 {
     if status == 404 && is_unknown(body) {
         return Saying::Unknown;
@@ -47,7 +47,7 @@ pub fn saying_of(at: u64, status: u16, heads: Heads<'_>, body: &[u8]) -> Saying
 
 /// What a list with these headers says.
 fn with_heads(at: u64, heads: Heads<'_>) -> Saying
-    ensures { result ≡ with_heads at heads.collector.now heads.epoch.now heads.number.now heads.round.now heads.age.now heads.length.now }
+    ensures { result ≡ with_heads at heads.entry.collector.now heads.entry.epoch.now heads.entry.number.now heads.entry.round.now heads.entry.age.now heads.entry.length.now }
 {
     match read_head(heads.collector, heads.epoch, heads.number, heads.round) {
         Some(head) => match read_until(at, heads.age, heads.length) {
@@ -60,7 +60,7 @@ fn with_heads(at: u64, heads: Heads<'_>) -> Saying
 
 /// Whether a list names no collector.
 fn is_headless(heads: Heads<'_>) -> bool
-    ensures { result ≡ is_headless heads.collector.now }
+    ensures { result ≡ is_headless heads.entry.collector.now }
 {
     heads.collector == ""
 }
