@@ -1,9 +1,7 @@
 //! What is told of a round that was booked.
-ghost use Rattle.std.specs.Prelude.{◌≡◌, IfOk, Some};
-ghost use Rattle.serde_json.specs.Written.{compact_text};
-ghost use Rattle.sd_routes.specs.BooksPages.{books_data};
+ghost use Rattle.std.specs.Prelude.{IfOk, Some};
 ghost use Rattle.service_state.specs.Booked.{IsBooks};
-ghost use Rattle.sd_server.specs.Says.{IsBooksText, OfSome, SaysBooks};
+ghost use Rattle.sd_server.specs.Says.{OfSome, SaysBooks};
 
 use crate::handler::Handler;
 use alloc_desk::DeskName;
@@ -55,17 +53,11 @@ impl<R: Wait + Clock + Copy, L: Ledger, B: Ledger, N: DeskName> Handler<R, L, B,
         ensures { SaysBooks N.opening asked result }
     {
         match self.books_asked(asked) {
-            Ok(Some(row)) => self.books_shown(&row),
+            Ok(Some(row)) => match self.books_document_text(&row) {
+                Ok(text) => Said::Document(text),
+                Err(_) => Said::Refused(RequestError::Memory),
+            },
             Ok(None) => Said::Refused(RequestError::UnknownRound),
-            Err(_) => Said::Refused(RequestError::Memory),
-        }
-    }
-
-    fn books_shown(&self, row: &BooksRow) -> Said
-        ensures { (asked : Option ℕ) → SaysBooks N.opening asked result }
-    {
-        match self.books_document_text(row) {
-            Ok(text) => Said::Document(text),
             Err(_) => Said::Refused(RequestError::Memory),
         }
     }

@@ -1,5 +1,5 @@
 //! What was booked in a round, by job and collector.
-ghost use Rattle.std.specs.Prelude.{◌≡◌, ◌==◌, ◌-◌, ℕ, filter, map, nat_le, IfOk};
+ghost use Rattle.std.specs.Prelude.{◌≡◌, ◌==◌, ℕ, filter, map, IfOk};
 ghost use Rattle.scrape_books.specs.declared.report.Entry.{Entry};
 ghost use Rattle.fleet.specs.declared.job.JobSpec.{JobSpec};
 ghost use Rattle.sd_routes.specs.declared.books_row.JobBooks.{JobBooks};
@@ -183,8 +183,7 @@ impl Tallies {
 
     fn count_report(&mut self, job: usize, report: Entry) -> Result<(), AllocError> {
         if let Some(rows) = self.jobs.get_mut(job) {
-            let tally = tally_of(rows, report.collector, self.nothing)?;
-            if let Some(tally) = tally {
+            if let Some(tally) = tally_of(rows, report.collector, self.nothing)? {
                 tally.counts = counted(tally.counts, report.outcome);
             }
         }
@@ -231,9 +230,10 @@ impl Tallies {
         is_missing: bool,
     ) -> Result<(), AllocError> {
         if let Some(rows) = self.jobs.get_mut(job) {
-            let tally = tally_of(rows, holder, self.nothing)?;
-            if let (Some(tally), true) = (tally, is_missing) {
-                tally.counts = with_missing(tally.counts);
+            if let Some(tally) = tally_of(rows, holder, self.nothing)? {
+                if is_missing {
+                    tally.counts = with_missing(tally.counts);
+                }
             }
         }
         Ok(())
