@@ -89,15 +89,24 @@ fn has_up_to(entries: &[(TargetId, Entry)], round: Round) -> bool
 fn books_told(alloc: Global, core: &Core, round: Option<Round>) -> Result<BooksRow, AllocError>
     ensures { IfOk result (λ row. (row.round ≡ round) × ((row.open_round ≡ core.now.round) × AreOfJobs core.now.fleet.jobs round row.jobs)) }
 {
-    let jobs = match round {
-        Some(round) => job_books(alloc, core, round)?,
-        None => List::new(alloc),
-    };
-    Ok(BooksRow {
-        open_round: core.round(),
-        round,
-        jobs,
-    })
+    match told_jobs(alloc, core, round) {
+        Ok(jobs) => Ok(BooksRow {
+            open_round: core.round(),
+            round,
+            jobs,
+        }),
+        Err(error) => Err(error),
+    }
+}
+
+/// The jobs of the round that is told of. None where no round is.
+fn told_jobs(alloc: Global, core: &Core, round: Option<Round>) -> Result<List<JobBooks>, AllocError>
+    ensures { IfOk result (AreOfJobs core.now.fleet.jobs round) }
+{
+    match round {
+        Some(round) => job_books(alloc, core, round),
+        None => Ok(List::new(alloc)),
+    }
 }
 
 /// What was booked of each job in a round: what each collector reported of it that reported of it or holds a live target of it.
