@@ -1,11 +1,12 @@
 #!/usr/bin/env python3
-"""Three Prometheus servers with an `allocd agent` each, over targets that count who scraped what, and things happen to them: try_agents.py [SECONDS]
+"""Three Prometheus servers with an `allocd agent` each, over targets that count who scraped what, and things happen to them: try_agents.py [SECONDS [INTERVAL]]
 
 Each scrape of a target has another number of samples than the ones around it, so that each report in the journal is one scrape. In a steady stretch of
 so many seconds (60) each scrape is to be booked with its samples, but for the youngest ones that wait. Through drains, leaves, kills of an agent, of a
-server and of the allocator and a renewal no scrape is to be booked twice, none with other samples, and at least 99 of 100 of the holder's ones. The texts
-of the agent's log lines and its metrics are compared with docs/operate/AGENT.md. It needs Debian's package prometheus and the program (ALLOCD_PROGRAM, or
-dist/allocd), and takes about six minutes."""
+server and of the allocator and a renewal no scrape is to be booked twice, none with other samples, and at least 99 of 100 are to be. Of a server that is
+killed the last scrapes before that are lost with it. Scrapes and rounds are so many seconds apart (5); on a machine that has much else to do take 15, and
+three times as long. The texts of the agent's log lines and its metrics are compared with docs/operate/AGENT.md. It needs Debian's package prometheus and
+the program (ALLOCD_PROGRAM, or dist/allocd), and takes about six minutes."""
 
 import collections
 import glob
@@ -26,7 +27,9 @@ from allocd_service import PROGRAM, ROOT, Service, ask, comes, events_in, free_p
 from told_rows import Teller
 
 ANY = [{"allow": True, "test": "any"}]
-JOBS, EACH, INTERVAL, ROUND, REFRESH = ("alpha", "beta gamma"), 30, 5, 5, 5
+JOBS, EACH, REFRESH = ("alpha", "beta gamma"), 30, 5
+# How long it is between two scrapes, and how long a round is, in seconds.
+INTERVAL = ROUND = int(sys.argv[2]) if len(sys.argv) > 2 else 5
 # So many scrapes of a target wait for their reports at most, and one is under way.
 WAITING = 3
 # The numbers of samples of a target's scrapes, one after the other.
@@ -208,12 +211,12 @@ class Fleet:
                     lost += place not in places and place < len(scrapes) - WAITING
         return good, lost, wrong
 
-    def phase(self, what, act, seconds, most=0):
+    def phase(self, what, act, seconds, most=1):
         """Does something, and tells what is booked of the scrapes since: at most so many of 100 are not."""
         since = time.time()
         act()
         self.books.learn(self.service)
-        time.sleep(seconds)
+        time.sleep(seconds * INTERVAL / 5)
         good, lost, wrong = self.found(since)
         tell(f"{what}: no report is of another scrape, or of one that was booked", wrong == 0, f"{wrong}")
         tell(f"{what}: {100 - most} of 100 scrapes are booked", good and 100 * lost <= most * (good + lost), f"{good}, and {lost} are not")
@@ -265,7 +268,7 @@ def tried(folder, steady):
             pair.start()
         tell("each collector gets a part", comes(lambda: fleet.is_even(), 120))
         time.sleep(WAITING * INTERVAL)
-        fleet.phase("a steady stretch", lambda: None, steady)
+        fleet.phase("a steady stretch", lambda: None, steady, most=0)
         fleet.phase("a drains", lambda: ask("POST", "/collectors/a/drain"), 40)
         fleet.phase("a leaves, and joins anew by itself", lambda: ask("DELETE", "/collectors/a"), 40)
         fleet.phase("an agent is killed, and back at once", lambda: (killed(pairs["b"].agent), pairs["b"].start_agent()), 25)

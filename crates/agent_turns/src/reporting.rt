@@ -9,15 +9,16 @@ use agent_core::{Agent, Report, Said, Standing};
 use agent_documents::write_memory;
 use std::alloc::{AllocError, Global};
 
-/// Reports what Prometheus says of its scrapes, where it says anything.
+/// Reports what Prometheus says of its scrapes, where the allocator was heard: a report that it does not get would be lost.
 pub(crate) fn report<O: Outside>(
     alloc: Global,
     agent: &mut Agent,
     outside: &mut O,
+    came: bool,
 ) -> Result<(), AllocError>
     ensures { Tried O.may_act outside.old outside.new agent.old agent.new }
 {
-    match said_to(agent, outside) {
+    match said_to(agent, outside, came) {
         Some(said) => {
             let now = outside.now();
             report_all(alloc, agent, outside, now, &said)
@@ -26,11 +27,11 @@ pub(crate) fn report<O: Outside>(
     }
 }
 
-/// What Prometheus says to an agent that holds a list.
-fn said_to<O: Outside>(agent: &Agent, outside: &O) -> Option<Said> {
+/// What Prometheus says to an agent that holds a list, where the allocator was heard.
+fn said_to<O: Outside>(agent: &Agent, outside: &O, came: bool) -> Option<Said> {
     match agent.standing() {
-        Standing::Nobody => None,
-        Standing::Holding | Standing::Following(_) => outside.said(),
+        Standing::Holding | Standing::Following(_) if came => outside.said(),
+        Standing::Nobody | Standing::Holding | Standing::Following(_) => None,
     }
 }
 

@@ -11,14 +11,14 @@ use std::alloc::{AllocError, Global};
 /// For how long at most it is waited until Prometheus has let go of what is no longer served, in milliseconds.
 pub const LONGEST_FOLLOWING: u64 = 20_000;
 
-/// A turn: looks at the lists, reports what was scraped, and takes the lists where the agent holds none, where it is missed, or where there are others
+/// A turn: looks at the lists, reports what was scraped where the allocator was heard, and takes the lists where the agent holds none, where it is missed, or where there are others
 /// and Prometheus has let go of what those do not have. Without memory the turn is the shorter by what it lacked.
 pub fn turn<O: Outside>(alloc: Global, agent: &mut Agent, outside: &mut O) -> Result<(), AllocError>
     ensures { Turned O.may_act outside.old outside.new agent.old agent.new }
 {
     let at = outside.now();
-    let _heard = look(agent, outside, at);
-    let reported = report(alloc, agent, outside);
+    let heard = look(agent, outside, at);
+    let reported = report(alloc, agent, outside, is_heard(&heard));
     let took = take(agent, outside);
     reported.and(took)
 }
