@@ -1,3 +1,4 @@
 pub mod TextLemmas
 pub mod Weaker
 pub mod ReportLemmas
+pub mod BookLemmas
