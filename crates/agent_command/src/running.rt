@@ -57,10 +57,10 @@ where
     let is_over = AtomicBool::new(false);
     let mut agent = Agent::new(rt.alloc(), memory, places.lease);
     log_address(rt, listener);
-    let ((), served) = thread::join(
+    let (served, ()) = thread::join(
         rt,
-        || make_turns(rt, lookups, &shelf, places, &mut agent, &is_over),
         || serve_then_stop(rt, &gate, listener, &shelf, &is_over),
+        || make_turns(rt, lookups, &shelf, places, &mut agent, &is_over),
     );
     served
 }
