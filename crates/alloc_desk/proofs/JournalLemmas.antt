@@ -38,7 +38,7 @@ legal_after m h h' e journal state is legal =
     subst Ends (sym state) (subst From (sym journal) (legal_push m h.journal h.state e legal is))
 
 -- where a legal journal ends, after what came before it
-pub ends_at : {m n : State} {es : List Entry} (jobs : List JobSpec) (earlier : List Event) → IsLegal m es n → m ≡ state_of (first_state jobs) earlier
-    → n ≡ state_of (first_state jobs) (earlier ++ events_in es)
-ends_at {es = es} jobs earlier legal opened =
-    legal.state ∙ (ap (λ (s : State). state_of s (events_in es)) opened ∙ sym (state_of_append (first_state jobs) earlier (events_in es)))
+pub ends_at : {m n : State} {es : List Entry} (jobs : List JobSpec) (report_rounds : ℕ) (earlier : List Event) → IsLegal m es n → m ≡ state_of (first_state jobs report_rounds) earlier
+    → n ≡ state_of (first_state jobs report_rounds) (earlier ++ events_in es)
+ends_at {es = es} jobs report_rounds earlier legal opened =
+    legal.state ∙ (ap (λ (s : State). state_of s (events_in es)) opened ∙ sym (state_of_append (first_state jobs report_rounds) earlier (events_in es)))

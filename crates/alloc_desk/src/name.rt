@@ -13,7 +13,7 @@ pub trait DeskName {
 }
 
 impl DeskName for Brand {
-    ghost opening = { first_state [] };
+    ghost opening = { first_state [] 1 };
 
     ghost seats = { 0 };
 }

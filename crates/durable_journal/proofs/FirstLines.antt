@@ -112,7 +112,7 @@ pub renewed_first_again : {E : Type 0} (document : List ℕ) (m : State) (r : Re
 renewed_first_again document m (Err e) given reads = tt
 renewed_first_again document m (Ok None) given reads = tt
 renewed_first_again document m (Ok (Some first)) given reads =
-    λ line text jobs good jobs_are same. renewed_line_opens document m first (sym given) line text ∙ again_by m document (history_in (history_data m)) jobs (reads good) jobs_are same
+    λ line text jobs good jobs_are same rounds. renewed_line_opens document m first (sym given) line text ∙ again_by m document (history_in (history_data m)) jobs (reads good) jobs_are same rounds
 
 -- ---- what stands in the file
 

@@ -1,7 +1,7 @@
 -- A line with the history of a state: how deep it is, and what it opens.
 use Rattle.std.proofs.Common.{◌≡◌, ◌≤◌, ℕ, true, List, length, Option, Some, None, String, BTreeMap, Global, Result, Ok, refl, sym, ap, subst, ◌∙◌, arith}
 use Rattle.std.specs.Prelude.{option_map, option_and_then, codes, if◌then◌else◌, unwrap_or}
-use Rattle.std.specs.Option.{ok_or}
+use Rattle.std.specs.Option.{ok_or, option_map_or}
 use Rattle.std.specs.Result.{result_ok}
 use Rattle.serde_json.specs.Data.{Data, Members, null, boolean, number, string, array, object, put, depth, members_depth}
 use Rattle.serde_json.specs.Read.{max_depth}
@@ -21,15 +21,16 @@ use Rattle.allocation_core.specs.State.{State, current_pairs, restored}
 use Rattle.core_history.specs.Parts.{job_data, known_data, collector_data, fleet_data}
 use Rattle.price_certificate.specs.Document.{document_data}
 use Rattle.core_history.specs.History.{ReadsBack, history_by, history_data, history_in, slots_of, slots_said}
+use Rattle.core_history.specs.Rounds.{report_rounds_in}
 use Rattle.core_history.specs.declared.error.HistoryError.{HistoryError}
 use Rattle.sd_documents.specs.Config.{config_said}
 use Rattle.sd_documents.specs.Reading.{◌>>=◌}
 use Rattle.sd_documents.specs.declared.error.SdError.TheVariants.{NotJson}
-use Rattle.replay_lines.specs.Configurations.{jobs_in, opened, opened_from, resumed_with, same_jobs, specs_of}
+use Rattle.replay_lines.specs.Configurations.{jobs_in, opened, opened_by, opened_from, resumed_with, rounds_of, same_jobs, specs_of}
 use Rattle.durable_journal.specs.Configured.{goes_on, with_history}
 use Rattle.durable_journal.specs.Marks.{SaysMarked}
 use Rattle.durable_journal.proofs.Marked.{put_levels, says_opens}
-use Rattle.durable_journal.proofs.Opening.{opened_data, shallow}
+use Rattle.durable_journal.proofs.Opening.{opened_data, opened_parts, shallow}
 
 -- ---- how deep it is
 
@@ -82,12 +83,14 @@ said_same : (h : Data) (ms : Members) → config_said (object (put (codes "histo
 unfolding config_said
 said_same h ms = rw (get_member-put_other (codes "scrape_configs") (codes "history") h ms (λ e. omega (arith, ap length e))) refl
 
+rounds_same : (h : Data) (ms : Members) → get (codes "report_rounds") (object (put (codes "history") h ms)) ≡ get (codes "report_rounds") (object ms)
+rounds_same h ms = get_member-put_other (codes "report_rounds") (codes "history") h ms (λ e. omega (arith, ap length e))
+
 opened_with_history : (document : List ℕ) (h : Data) (ms : Members) → json_of document ≡ Some (object ms)
-    → opened_data (Some (object (put (codes "history") h ms))) ≡ option_and_then (λ jobs. resumed_with jobs (history_in h)) (jobs_in document)
+    → opened_data (Some (object (put (codes "history") h ms))) ≡ option_and_then (λ jobs. opened_by (rounds_of document) (resumed_with jobs (history_in h))) (jobs_in document)
 opened_with_history document h ms before =
-    ap (λ (o : Option Data). option_and_then (opened_from o) (option_map specs_of (result_ok (config_said (object (put (codes "history") h ms)))))) (get_member-put (codes "history") h ms)
-    ∙ ap (λ r. option_and_then (opened_from (Some h)) (option_map specs_of (result_ok r))) (said_same h ms)
-    ∙ ap (λ (o : Option Data). option_and_then (opened_from (Some h)) (option_map specs_of (result_ok (ok_or o NotJson >>= config_said)))) (sym before)
+    (λ i. opened_parts (get_member-put (codes "history") h ms i) (rounds_same h ms i) (option_map specs_of (result_ok (said_same h ms i))))
+    ∙ ap (λ (o : Option Data). option_and_then (λ js. opened_by (option_map_or report_rounds_in o (Some 1)) (opened_from (Some h) js)) (option_map specs_of (result_ok (ok_or o NotJson >>= config_said)))) (sym before)
 
 opened_renewed : (document : List ℕ) (m : State) (d r : Data) → json_of document ≡ Some d → with_history m d ≡ Some r → opened_data (Some r) ≡ goes_on m document
 opened_renewed document m null r before e = cc
@@ -100,8 +103,9 @@ opened_renewed document m (object ms) r before e = ap opened_data (sym e) ∙ op
 pub renewed_opens : (line document : List ℕ) (m : State) (d r : Data) → json_of document ≡ Some d → with_history m d ≡ Some r → SaysMarked r line → opened line ≡ goes_on m document
 renewed_opens line document m d r before e says = says_opens line r (renewed_levels m d r (shallow document d before) e) says ∙ opened_renewed document m d r before e
 
-pub again_by : (m : State) (document : List ℕ) (said : Result State HistoryError) (jobs : List JobSpec) → said ≡ Ok (restored m.fleet (current_pairs m) (slots_of m.fleet (slots_said m.served.slots)) m.problem m.plan m.round) → jobs_in document ≡ Some jobs → same_jobs m.fleet.jobs jobs ≡ true
-    → option_and_then (λ jobs. resumed_with jobs said) (jobs_in document) ≡ Some (restored m.fleet (current_pairs m) (slots_of m.fleet (slots_said m.served.slots)) m.problem m.plan m.round)
-again_by m document said jobs reads jobs_are same =
-    ap (λ (o : Option (List JobSpec)). option_and_then (λ js. resumed_with js said) o) jobs_are ∙ ap (resumed_with jobs) reads
-    ∙ ap (λ b. if b then Some (restored m.fleet (current_pairs m) (slots_of m.fleet (slots_said m.served.slots)) m.problem m.plan m.round) else None) same
+pub again_by : (m : State) (document : List ℕ) (said : Result State HistoryError) (jobs : List JobSpec) → said ≡ Ok (restored m.fleet (current_pairs m) (slots_of m.fleet (slots_said m.served.slots)) m.problem m.plan m.round 1) → jobs_in document ≡ Some jobs → same_jobs m.fleet.jobs jobs ≡ true → rounds_of document ≡ Some m.report_rounds
+    → option_and_then (λ jobs. opened_by (rounds_of document) (resumed_with jobs said)) (jobs_in document) ≡ Some (restored m.fleet (current_pairs m) (slots_of m.fleet (slots_said m.served.slots)) m.problem m.plan m.round m.report_rounds)
+again_by m document said jobs reads jobs_are same rounds =
+    let read : State = restored m.fleet (current_pairs m) (slots_of m.fleet (slots_said m.served.slots)) m.problem m.plan m.round 1 in
+    ap (λ (o : Option (List JobSpec)). option_and_then (λ js. opened_by (rounds_of document) (resumed_with js said)) o) jobs_are ∙ ap (λ (s : Result State HistoryError). opened_by (rounds_of document) (resumed_with jobs s)) reads
+    ∙ ap (λ b. opened_by (rounds_of document) (if b then Some read else None)) same ∙ ap (λ (o : Option ℕ). opened_by o (Some read)) rounds

@@ -6,7 +6,7 @@ use Rattle.serde_json.specs.Written.{compact_text, has_float}
 use Rattle.allocation_core.specs.State.{State, current_pairs, restored}
 use Rattle.core_history.specs.History.{history_data, history_in, is_allocation, slots_of, slots_said}
 use Rattle.fleet.specs.declared.job.JobSpec.{JobSpec}
-use Rattle.replay_lines.specs.Configurations.{jobs_in, opened, resumed_with, same_jobs}
+use Rattle.replay_lines.specs.Configurations.{jobs_in, opened, opened_by, resumed_with, rounds_of, same_jobs}
 
 -- A value with whole numbers alone has its compact text as its line, and where there is none there is no line.
 abbrev pub IsLineGiven : Option Data → Option (List ℕ) → Type 0
@@ -19,13 +19,14 @@ IsLineGiven (Some d) line = has_float d ≡ false → line ≡ Some (compact_tex
 abbrev pub with_history : State → Data → Option Data
 with_history m d = option_map (λ ms. object (put (codes "history") (history_data m) ms)) (as_object d)
 
--- the state that goes on from the history, where the jobs of the document are its own
+-- the state that goes on from the history, where the jobs of the document are its own, with reports booked of as many rounds as the
+-- document says
 abbrev pub goes_on : State → List ℕ → Option State
-goes_on m document = option_and_then (λ jobs. resumed_with jobs (history_in (history_data m))) (jobs_in document)
+goes_on m document = option_and_then (λ jobs. opened_by (rounds_of document) (resumed_with jobs (history_in (history_data m)))) (jobs_in document)
 
 -- Where the allocation names known targets and live collectors, as that of a renewed state does, the line opens the state without
--- its earlier allocations, takes and reports: a renewed state whole.
+-- its earlier allocations, takes and reports: a renewed state whole, where the document says of how many rounds it books reports.
 abbrev pub OpensAgain : State → List ℕ → List ℕ → Type 0
 OpensAgain m document line =
-    (jobs : List JobSpec) → is_allocation m.fleet (current_pairs m) ≡ true → jobs_in document ≡ Some jobs → same_jobs m.fleet.jobs jobs ≡ true
-    → opened line ≡ Some (restored m.fleet (current_pairs m) (slots_of m.fleet (slots_said m.served.slots)) m.problem m.plan m.round)
+    (jobs : List JobSpec) → is_allocation m.fleet (current_pairs m) ≡ true → jobs_in document ≡ Some jobs → same_jobs m.fleet.jobs jobs ≡ true → rounds_of document ≡ Some m.report_rounds
+    → opened line ≡ Some (restored m.fleet (current_pairs m) (slots_of m.fleet (slots_said m.served.slots)) m.problem m.plan m.round m.report_rounds)

@@ -16,7 +16,7 @@ use std::alloc::{AllocError, Global};
 
 impl FirstLine {
     /// That of the document of a configuration with the core's history, as `configured` gives it with the mark. It opens the core again, if
-    /// the core was just renewed and the jobs of the document are its own.
+    /// the core was just renewed, the jobs of the document are its own, and the document says of how many rounds it books reports.
     pub fn renewed(
         alloc: Global,
         document: &[u8],
