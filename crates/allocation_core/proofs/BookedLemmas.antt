@@ -18,7 +18,7 @@ use Rattle.allocation_core.specs.State.{State, first_round, first_state}
 use Rattle.allocation_core.specs.Steps.{report_refusal, answer_of, answer_by, state_after, changed, entry_of, gained, refusal_of, round_refusal}
 use Rattle.allocation_core.specs.Runs.{state_of}
 use Rattle.allocation_core.specs.Kept.{IsKept}
-use Rattle.allocation_core.specs.Booked.{AllBooked, AlwaysBooked, WasBooked, WithOneAllIsAsBefore, one_round_refusal, report_of}
+use Rattle.allocation_core.specs.Booked.{AllBooked, AlwaysBooked, IsOfOpenRound, RoundsRise, WasBooked, WithOneAllIsAsBefore, WithOneItStays, one_round_refusal, report_of}
 use Rattle.fleet.specs.declared.job.JobSpec.{JobSpec}
 use Rattle.fleet_events.specs.declared.event.Event.{Event}
 use Rattle.fleet_events.specs.declared.event.Event.TheVariants.{Discover, Join, Leave, Drain, SetLimits, Install, Spread, NextRound, Take, Serve, Release, Report}
@@ -27,7 +27,7 @@ use Rattle.fleet_events.specs.declared.refusal.Refusal.{Refusal}
 use Rattle.fleet_events.specs.declared.refusal.Refusal.TheVariants.{RoundClosed, RoundNotOpen, AlreadyBooked}
 use Rattle.allocation_core.proofs.Admission.{Admitted, admitted}
 use Rattle.allocation_core.proofs.BestLemmas.{step_grows}
-use Rattle.allocation_core.proofs.StepLemmas.{run_kept, start_kept}
+use Rattle.allocation_core.proofs.StepLemmas.{run_kept, start_kept, step_kept}
 use Rattle.allocation_core.proofs.RunLemmas.{state_of_append}
 
 -- an event books nothing, or it is a Report that nothing is against
@@ -218,13 +218,54 @@ pub run_count : (m : State) (es : List Event) → (state_of m es).report_rounds 
 run_count m [] = refl
 run_count m (e ∷ es) = run_count (state_after m e) es ∙ step_count m e
 
-one_by : (m : State) (target round : ℕ) → m.report_rounds ≡ 1 → m.begun ≤ m.round → round_refusal m target round ≡ one_round_refusal m target round
-one_by m target round one begun =
-    let first : first_round m ≡ m.round = omega (arith, one, begun) in
+one_by : (m : State) → m.report_rounds ≡ 1 → m.begun ≤ m.round → first_round m ≡ m.round
+one_by m one begun = omega (arith, one, begun)
+
+refused_as_one : (m : State) (target round : ℕ) → first_round m ≡ m.round → round_refusal m target round ≡ one_round_refusal m target round
+refused_as_one m target round first =
     ap (λ (n : ℕ). (let o : Option Refusal = (if nat_lt round n then Some (RoundClosed n) else if nat_lt m.round round then Some (RoundNotOpen m.round) else if is_booked m.booked target round then Some AlreadyBooked else None) in o)) first
 
+-- of one target no round is booked that another report has
+other_by : (t r : Bool) (rest : Bool) → ((t && r) || rest) ≡ false → t ≡ true → r ≡ false
+other_by true false rest e s = refl
+other_by true true rest e s = cc
+other_by false r rest e s = cc
+
+rest_by : (t r : Bool) (rest : Bool) → ((t && r) || rest) ≡ false → rest ≡ false
+rest_by t r rest e = (or_parts (t && r) rest e).1
+
+earlier_rounds : (booked : List (ℕ × Entry)) (target round : ℕ) → is_booked booked target round ≡ false → All (λ (b : ℕ × Entry). b.1.round ≤ round) booked → All (λ (b : ℕ × Entry). b.0 ≡ target → b.1.round < round) booked
+earlier_rounds [] target round fresh past k d l s = absurd (omega arith)
+earlier_rounds (b ∷ booked) target round fresh past zero d l s = elim (cases_eq b.1.round round) [
+  | inl same ↦ (let other : eqb b.1.round round ≡ false = other_by (eqb b.0 target) (eqb b.1.round round) (is_booked booked target round) fresh (eq-eqb b.0 target s) in let is : eqb b.1.round round ≡ true = eq-eqb b.1.round round same in cc)
+  | inr differs ↦ (let less : b.1.round ≤ round = past zero b (omega arith) in elim (cases_lt b.1.round round) [ inl below ↦ below | inr above ↦ absurd (differs (omega (arith, less))) ])
+]
+earlier_rounds (b ∷ booked) target round fresh past (suc k) d l s =
+    earlier_rounds booked target round (rest_by (eqb b.0 target) (eqb b.1.round round) (is_booked booked target round) fresh) (All-tail (λ (x : ℕ × Entry). x.1.round ≤ round) b booked past) k d (omega arith) s
+
+-- where reports are booked of the open round alone, the rounds of a target rise
+step_rises : (m : State) (e : Event) → IsKept m → m.report_rounds ≡ 1 → RoundsRise m.booked → RoundsRise (state_after m e).booked
+step_rises m e kept one rise = elim (books m e) [
+  | inl same ↦ subst RoundsRise (sym same) rise
+  | inr p ↦
+      let now : m.round ≡ p.entry.1.round = omega (arith, one_by m one kept.begun, p.free.opened, p.free.reached) in
+      let past : All (λ (b : ℕ × Entry). b.1.round ≤ p.entry.1.round) m.booked = subst (λ (r : ℕ). All (λ (b : ℕ × Entry). b.1.round ≤ r) m.booked) now kept.past_rounds in
+      let earlier = earlier_rounds m.booked p.entry.0 p.entry.1.round p.free.fresh past in
+      subst RoundsRise (sym p.grown) (all_pairs_push (λ (a b : ℕ × Entry). a.0 ≡ b.0 → a.1.round < b.1.round) m.booked p.entry rise earlier)
+]
+
+run_rises : (m : State) (es : List Event) → IsKept m → m.report_rounds ≡ 1 → RoundsRise m.booked → RoundsRise (state_of m es).booked
+run_rises m [] kept one rise = rise
+run_rises m (e ∷ es) kept one rise = run_rises (state_after m e) es (step_kept m e kept) (step_count m e ∙ one) (step_rises m e kept one rise)
+
+pub it_stays : WithOneItStays
+it_stays start events kept one rise =
+    let end : State = state_of start events in
+    let first : first_round end ≡ end.round = one_by end (run_count start events ∙ one) (run_kept start events kept).begun in
+    record { first = first; refusal = λ target round. refused_as_one end target round first; rise = run_rises start events kept one rise }
+
 pub with_one : WithOneAllIsAsBefore
-with_one jobs events target round = one_by (state_of (first_state jobs 1) events) target round (run_count (first_state jobs 1) events) (run_kept (first_state jobs 1) events (start_kept jobs 1)).begun
+with_one jobs events = it_stays (first_state jobs 1) events (start_kept jobs 1) refl (λ i j d less in_range. absurd (omega arith))
 
 -- with more events behind
 farther : (first : State) (events done left : List Event) (place : ℕ) (b : ℕ × Entry) → events ≡ done ++ left → WasBooked first done place b → WasBooked first events place b

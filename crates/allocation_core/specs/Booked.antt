@@ -1,5 +1,5 @@
 -- What every booked report is: one of the target's holder, and the only one of its target and round.
-use Rattle.std.specs.Prelude.{◌≡◌, ◌≤◌, ℕ, Option, None, nat_lt, if◌then◌else◌, List, ◌∷◌, ◌++◌, All, Some, true, length, slice_get}
+use Rattle.std.specs.Prelude.{◌≡◌, ◌<◌, ◌≤◌, ℕ, Option, None, nat_lt, if◌then◌else◌, List, ◌∷◌, ◌++◌, All, AllPairs, Some, true, length, slice_get}
 use Rattle.handover.specs.Handover.{holder_in}
 use Rattle.served_lists.specs.Served.{is_free}
 use Rattle.scrape_books.specs.Books.{is_booked}
@@ -9,6 +9,7 @@ use Rattle.fleet.specs.Fleet.{is_joined}
 use Rattle.allocation_core.specs.State.{State, first_round, first_state}
 use Rattle.allocation_core.specs.Steps.{answer_of, number_for, round_refusal}
 use Rattle.allocation_core.specs.Runs.{state_of}
+use Rattle.allocation_core.specs.Kept.{IsKept}
 use Rattle.fleet.specs.declared.job.JobSpec.{JobSpec}
 use Rattle.fleet_events.specs.declared.event.Event.{Event}
 use Rattle.fleet_events.specs.declared.event.Event.TheVariants.{Report}
@@ -52,7 +53,21 @@ abbrev pub one_round_refusal : State → ℕ → ℕ → Option Refusal
 one_round_refusal m target round =
     if nat_lt round m.round then Some (RoundClosed m.round) else if nat_lt m.round round then Some (RoundNotOpen m.round) else if is_booked m.booked target round then Some AlreadyBooked else None
 
--- where a report is booked of the last round alone, that is the open one, over every list of jobs and of events
+-- of two entries of one target the later one is of a later round
+abbrev pub RoundsRise : List (ℕ × Entry) → Type 0
+RoundsRise booked = AllPairs (λ (a b : ℕ × Entry). a.0 ≡ b.0 → a.1.round < b.1.round) booked
+
+-- Reports are booked of the open round alone: the first round of which one is booked is the open one, a report is refused for its round
+-- as where there is no other, and the rounds of a target rise.
+pub record IsOfOpenRound (m : State) : Type 0 where
+  pub first : first_round m ≡ m.round
+  pub refusal : (target round : ℕ) → round_refusal m target round ≡ one_round_refusal m target round
+  pub rise : RoundsRise m.booked
+
+-- where a report is booked of one round, that is the open one, over every list of jobs and of events
 abbrev pub WithOneAllIsAsBefore : Type 0
-WithOneAllIsAsBefore =
-    (jobs : List JobSpec) (events : List Event) (target round : ℕ) → round_refusal (state_of (first_state jobs 1) events) target round ≡ one_round_refusal (state_of (first_state jobs 1) events) target round
+WithOneAllIsAsBefore = (jobs : List JobSpec) (events : List Event) → IsOfOpenRound (state_of (first_state jobs 1) events)
+
+-- the same over every list of events from a state of which it holds, as from one in which nothing is booked
+abbrev pub WithOneItStays : Type 0
+WithOneItStays = (start : State) (events : List Event) → IsKept start → start.report_rounds ≡ 1 → RoundsRise start.booked → IsOfOpenRound (state_of start events)

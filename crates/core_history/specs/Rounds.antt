@@ -1,5 +1,5 @@
--- Of how many of the last rounds a report is booked, as the member `report_rounds` of a first line: a whole number from 1 to 64, left out
--- where it is 1.
+-- Of how many of the last rounds a report is booked, as the member `report_rounds` of a first line: a whole number from 1 to 64, and 1 where
+-- it is left out.
 use Rattle.std.specs.Prelude.{ℕ, Option, Some, None, option_and_then, codes}
 use Rattle.serde_json.specs.Data.{Data}
 use Rattle.serde_json.specs.Find.{get}

@@ -9,7 +9,7 @@ use std::alloc::{AllocError, Global};
 const REPORT_ROUNDS: &[u8] = b",\"report_rounds\":";
 
 /// A configuration's line, as `configuration_line` gives it, with the number of rounds of which the journal that begins with it books
-/// reports. It is left out where it is 1.
+/// reports.
 pub fn with_report_rounds(
     alloc: Global,
     line: &[u8],
@@ -17,12 +17,8 @@ pub fn with_report_rounds(
 ) -> Result<Vec<u8>, AllocError>
     ensures { IfOk result (λ v. v.items ≡ line_with_rounds line.now report_rounds) }
 {
-    let count = report_rounds.count();
     let mut text = Vec::new(alloc);
-    if count == 1 {
-        text.extend_from_slice(line)?;
-        return Ok(text);
-    }
+    let count = report_rounds.count();
     let digits = format!(in alloc; "{count}")?;
     text.extend_from_slice(&line[..line.len().saturating_sub(1)])?;
     text.extend_from_slice(REPORT_ROUNDS)?;
