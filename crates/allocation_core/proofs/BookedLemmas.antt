@@ -18,7 +18,7 @@ use Rattle.allocation_core.specs.State.{State, first_round, first_state}
 use Rattle.allocation_core.specs.Steps.{report_refusal, answer_of, answer_by, state_after, changed, entry_of, gained, refusal_of, round_refusal}
 use Rattle.allocation_core.specs.Runs.{state_of}
 use Rattle.allocation_core.specs.Kept.{IsKept}
-use Rattle.allocation_core.specs.Booked.{AllBooked, AlwaysBooked, IsOfOpenRound, RoundsRise, WasBooked, WithOneAllIsAsBefore, WithOneItStays, one_round_refusal, report_of}
+use Rattle.allocation_core.specs.Booked.{AllBooked, AlwaysBooked, RoundsRise, WasBooked, WithOneAllIsAsBefore, WithOneItStays, one_round_refusal, report_of}
 use Rattle.fleet.specs.declared.job.JobSpec.{JobSpec}
 use Rattle.fleet_events.specs.declared.event.Event.{Event}
 use Rattle.fleet_events.specs.declared.event.Event.TheVariants.{Discover, Join, Leave, Drain, SetLimits, Install, Spread, NextRound, Take, Serve, Release, Report}
