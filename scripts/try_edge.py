@@ -942,10 +942,27 @@ def books_of(service, job):
     return tuple(service.figure(f'allocd_reports_{what}{{job="{job}"}}') for what in ("up", "down", "missing"))
 
 
+def books_at(service, round=None):
+    """What /books tells of a round, or of the last one that is over: the status and the object."""
+    status, text = service.ask("GET", "/books" if round is None else f"/books?round={round}")
+    return status, json.loads(text)
+
+
+def booked(round, open, *jobs):
+    """The object that tells of a round: of each job its name, the collectors' numbers and names, and what is counted of each."""
+    counts = lambda up, down, missing, samples: {"down": down, "missing": missing, "samples": samples, "up": up}
+    rows = [{"collectors": [{**counts(*of_job), "id": id, "name": name} for id, name in collectors], "job": job, **counts(*of_job)} for job, collectors, of_job in jobs]
+    return 200, {"jobs": rows, "open": open, "round": round}
+
+
 def round_books(folder):
-    """The figures tell what was reported in the last round."""
+    """The figures and the books tell what was reported in the last round."""
     service = started(folder, [static("n", 4), static("m", 2)], interval="4s")
+    a, gone, unknown = [(1, "a")], [(1, None)], (404, {"refused": "UnknownRound"})
     tell("before a round is over they are 0", (books_of(service, "n"), books_of(service, "m")) == ((0, 0, 0), (0, 0, 0)))
+    status, told = books_at(service)
+    tell("and the books have none", (status, told["jobs"], told["round"]) == (200, [], None), told)
+    tell("a page says so", "<p>No round is over of which the books have a report.</p>" in seen(service, "/books")[1])
     has(service, "allocd_allocation", 1)
     last = service.figure("allocd_round")
     changes_from(service, last)
@@ -961,8 +978,26 @@ def round_books(folder):
     told = comes(lambda: books_of(service, "n") == (2, 1, 1), 2)
     tell("of a job two are up, one is down and one is missing", told, books_of(service, "n"))
     tell("of the other both are missing", books_of(service, "m") == (0, 0, 2), books_of(service, "m"))
-    changes_from(service, shared["round"] + 1)
+    over = shared["round"]
+    last = books_at(service)
+    tell("the books tell it by job and collector", last == booked(over, over + 1, ("n", a, (2, 1, 1, 6)), ("m", a, (0, 0, 2, 0))), last)
+    tell("and of the open round what is to come", books_at(service, over + 1) == booked(over + 1, over + 1, ("n", a, (0, 0, 4, 0)), ("m", a, (0, 0, 2, 0))), books_at(service, over + 1))
+    page = seen(service, "/books")[0]
+    rows = [[job, who, *counts] for job, counts in (("n", ["2", "1", "1", "6"]), ("m", ["0", "0", "2", "0"])) for who in ("all", "a")]
+    tell("a page has the same", (page.title, page.tables["Reports"]) == (f"allocd: books of round {over}", rows), (page.title, page.tables))
+    tell("its links lead somewhere, and it asks for another round", not (lost := goes_on(service, page, "/books")) and page.forms[0]["action"] == "/books" and page.inputs[0]["name"] == "round", (lost, page.inputs))
+    changes_from(service, over + 1)
     tell("in the next round all are missing", comes(lambda: (books_of(service, "n"), books_of(service, "m")) == ((0, 0, 4), (0, 0, 2)), 2), books_of(service, "n"))
+    told = books_at(service, over)
+    tell("of an earlier round it is not known what is missing", told == booked(over, over + 2, ("n", a, (2, 1, None, 6)), ("m", a, (0, 0, None, 0))), told)
+    tell("a round that is not in the books is refused", [books_at(service, it) for it in (0, over - 1, over + 4)] == [unknown] * 3)
+    tell("and so is what is no round", [books_at(service, it) for it in ("", "x", "-1", "4294967296")] == [(400, {"refused": "Shape"})] * 4)
+    tell("who only looks at its head is answered too", (service.ask("HEAD", "/books")[0], service.ask("POST", "/books")[0]) == (200, 405))
+    varies = headers_of(service, "/books", "application/yaml")[0]
+    tell("it is told as YAML too, and says so", (varies["vary"], varies["content-type"]) == ("accept", "application/yaml"), varies)
+    service.ask("DELETE", "/collectors/1")
+    told = books_at(service, over)[1]["jobs"]
+    tell("who left stands there by its number", [[(it["id"], it["name"]) for it in row["collectors"]] for row in told] == [gone, []], told)
     ends(service)
 
 

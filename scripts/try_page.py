@@ -84,7 +84,7 @@ def main():
         service = Service(folder, config())
         service.is_up()
         tell("7,280 targets have a collector", comes(lambda: sum(service.figure(f'allocd_targets_covered{{job="{name}"}}') or 0 for name in JOBS) == 7280, 60))
-        for kind, path in (("the service", "/"), ("a job", f"/jobs/{JOBS[0]}"), ("a collector", "/collectors/8"), ("a search", "/targets?search=10.")):
+        for kind, path in (("the service", "/"), ("a job", f"/jobs/{JOBS[0]}"), ("a collector", "/collectors/8"), ("a search", "/targets?search=10."), ("the books", "/books")):
             look(folder, service, kind, path)
         tell("the service ends", service.quit() == (200, 0))
     return tell.end()

@@ -4,7 +4,7 @@ use Rattle.std.specs.List.{list_any}
 use Rattle.http_header.specs.FieldValue.{FieldValue}
 use Rattle.http_header.specs.HeaderMap.{Entries, get}
 use Rattle.sd_routes.specs.declared.ask.Ask.{Ask}
-use Rattle.sd_routes.specs.declared.ask.Ask.TheVariants.{Status, ScrapeConfigs, Jobs, Job, JobTargets, CollectorTargets, Uncovered, FindTargets, Acknowledged, Allocations, Certificate, Collectors, Collector, Join, Leave, Drain, Release, SetLimits, Report, Healthy, Live, Ready, Metrics, Reload, Quit}
+use Rattle.sd_routes.specs.declared.ask.Ask.TheVariants.{Status, ScrapeConfigs, Jobs, Job, JobTargets, CollectorTargets, Uncovered, FindTargets, Acknowledged, Allocations, Books, Certificate, Collectors, Collector, Join, Leave, Drain, Release, SetLimits, Report, Healthy, Live, Ready, Metrics, Reload, Quit}
 use Rattle.admission.specs.declared.key.Key.{Key}
 use Rattle.admission.specs.Sites.{same_letters}
 
@@ -60,6 +60,7 @@ may_ask admin collectors (Uncovered job) shown = true
 may_ask admin collectors (FindTargets text) shown = true
 may_ask admin collectors (Acknowledged told counts) shown = true
 may_ask admin collectors Allocations shown = true
+may_ask admin collectors (Books round) shown = true
 may_ask admin collectors Certificate shown = true
 may_ask admin collectors Collectors shown = true
 may_ask admin collectors (Collector collector) shown = true

@@ -30,6 +30,7 @@ pub(crate) fn is_allowed(
         | Ask::FindTargets(_)
         | Ask::Acknowledged { told: _, counts: _ }
         | Ask::Allocations
+        | Ask::Books(_)
         | Ask::Certificate
         | Ask::Collectors
         | Ask::Collector(_)

@@ -84,6 +84,7 @@ fn only_shows(ask: &Ask) -> bool
         | Ask::Uncovered(_)
         | Ask::FindTargets(_)
         | Ask::Allocations
+        | Ask::Books(_)
         | Ask::Certificate
         | Ask::Collectors
         | Ask::Collector(_)

@@ -1,15 +1,19 @@
-//! Runs of an agent, and its documents. Each line of standard input is a row: it names a reader and has what it reads, and is written with the
-//! reader's answer behind it.
+//! Runs and turns of an agent, its documents, and what it asks and is answered. Each line of standard input is a row: it names a reader and has
+//! what it reads, and is written with the reader's answer behind it.
 #![tactic(auto)]
 
 mod documents;
+mod exchanges;
 mod runs;
+mod turns;
 
 use documents::{head, list, memory, said};
+use exchanges::{active, jobs, join, let_go, paths, posted, range, reports, saying, settings};
 use runs::run;
 use std::alloc::{AllocError, Global};
 use std::io::{Read, Write};
 use std::{io, str};
+use turns::take_turns;
 
 fn main(rt: HostRuntime) -> io::Result<()> {
     let mut rows = Vec::new(rt.alloc());
@@ -29,6 +33,24 @@ fn answer_to(alloc: Global, row: &str) -> Result<String, AllocError> {
         "list" => list(alloc, text),
         "head" => head(alloc, text),
         "memory" => memory(alloc, text),
+        other => answer_of_exchange(alloc, other, text),
+    }
+}
+
+/// The same of what is asked and answered.
+fn answer_of_exchange(alloc: Global, reader: &str, text: &str) -> Result<String, AllocError> {
+    match reader {
+        "settings" => settings(alloc, text),
+        "join" => join(alloc, text),
+        "saying" => saying(alloc, text),
+        "posted" => posted(alloc, text),
+        "paths" => paths(alloc, text),
+        "range" => range(alloc, text),
+        "reports" => reports(alloc, text),
+        "jobs" => jobs(alloc, text),
+        "active" => active(alloc, text),
+        "let_go" => let_go(alloc, text),
+        "turns" => take_turns(alloc, text),
         _ => String::from_str(alloc, "no reader"),
     }
 }

@@ -60,7 +60,7 @@ fn show(alloc: Global, agent: &mut Agent, at: u64, text: &str) -> Result<(), All
     Ok(())
 }
 
-fn lists_in(alloc: Global, text: &str) -> Result<Lists, AllocError> {
+pub(crate) fn lists_in(alloc: Global, text: &str) -> Result<Lists, AllocError> {
     let mut words = text.split(' ');
     let epoch = words.next().unwrap_or("").parse().unwrap_or(0);
     let number = words.next().unwrap_or("").parse().unwrap_or(0);
@@ -110,7 +110,7 @@ fn ask(
     line.push(';')
 }
 
-fn said_in(alloc: Global, text: &str) -> Result<Said, AllocError> {
+pub(crate) fn said_in(alloc: Global, text: &str) -> Result<Said, AllocError> {
     let mut said = IndexMap::new(alloc);
     for word in text.split(' ') {
         let (series, point) = word.split_once(':').unwrap_or((word, ""));
@@ -141,7 +141,11 @@ fn point_in(text: &str) -> Point {
     }
 }
 
-fn add_report(alloc: Global, line: &mut String, report: &Report) -> Result<(), AllocError> {
+pub(crate) fn add_report(
+    alloc: Global,
+    line: &mut String,
+    report: &Report,
+) -> Result<(), AllocError> {
     let (head, target, time) = (report.head, report.target, report.time);
     let place = format!(in alloc;
         " {}.{}.{}.{target}:{time}",

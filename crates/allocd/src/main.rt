@@ -1,9 +1,10 @@
 //! The program `allocd`: what it writes to standard output is a stated function of what it reads from standard input, or of the files of an
-//! audit, a table of books or a seal; but for `session` and `serve`.
+//! audit, a table of books or a seal; but for `session`, `serve` and `agent`.
 #![tactic(auto)]
 
 mod fleet_session;
 
+use agent_command::agent;
 use command_words::{Asked, read_words};
 use fleet_session::run_session;
 use log_queue::{Queued, start_log};
@@ -48,6 +49,13 @@ fn main(rt: HostRuntime) -> ExitCode {
                 },
                 Err(_) => stopped_without_memory(&rt),
             },
+            Ok(Asked::Agent(config)) => match start_log(&rt) {
+                Ok(queue) => match start_lookups(&rt) {
+                    Ok(lookups) => agent(&rt, &Queued::new(rt, &queue), &lookups, config, &queue),
+                    Err(_) => stopped_without_memory(&rt),
+                },
+                Err(_) => stopped_without_memory(&rt),
+            },
             Ok(asked) => run_asked(&rt, &asked),
             Err(_) => stopped_without_memory(&rt),
         },
@@ -67,7 +75,7 @@ fn words_of(alloc: Global, arguments: io::Result<Args>) -> io::Result<Vec<String
     Ok(words)
 }
 
-/// Does what the words ask for, unless it is to serve.
+/// Does what the words ask for, unless it is to serve or to be an agent.
 fn run_asked<R>(rt: &R, asked: &Asked<'_>) -> ExitCode
 where
     R: Wait
@@ -95,8 +103,8 @@ where
             status_of(books_of_files(rt, alloc, paths.as_slice(), &mut writer))
         }
         Asked::Seal(path) => status_of(seal_file(rt, alloc, path, &mut writer)),
-        // It is served by `main`, where the program's own handle may wait.
-        Asked::Serve(_) => status_of(Ending::Answered(Status::Unreadable)),
+        // They are served by `main`, where the program's own handle may wait.
+        Asked::Serve(_) | Asked::Agent(_) => status_of(Ending::Answered(Status::Unreadable)),
         Asked::Shown(text) => {
             let ending = Ending::Answered(Status::Done);
             status_of(write_last(&mut writer, text.as_bytes(), ending))

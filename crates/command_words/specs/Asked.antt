@@ -26,6 +26,8 @@ pub data Said : Type 0 where
   Seals : Text → Said
   -- the configuration, the address, the journal, and whether only to check
   Serves : Text → Option Text → Option Text → Bool → Said
+  -- the configuration
+  Agents : Text → Said
 
 -- ---- what the words say
 
@@ -66,6 +68,9 @@ serves_by rows = option_map
     (λ config. Serves config (first_of (codes "listen") rows) (first_of (codes "journal") rows) (is_set (first_of (codes "check-config") rows)))
     (first_of (codes "config") rows)
 
+abbrev pub agents_by : List Row → Option Said
+agents_by rows = option_map Agents (first_of (codes "config") rows)
+
 -- the command of a name, with what was found of its options and files
 abbrev pub named : Text → List Row → Option Said
 named name rows =
@@ -78,6 +83,7 @@ named name rows =
     else if bytes_eq name (codes "books") then books_by rows
     else if bytes_eq name (codes "seal") then seals_by rows
     else if bytes_eq name (codes "serve") then serves_by rows
+    else if bytes_eq name (codes "agent") then agents_by rows
     else None
 
 abbrev pub asked_by : Option (Text × List Row) → Option Said
@@ -120,5 +126,6 @@ said (asked.Audit paths) = Some (Audits (map (λ s. s.now) paths.items))
 said (asked.Books paths) = Some (Books (map (λ s. s.now) paths.items))
 said (asked.Seal path) = Some (Seals path.now)
 said (asked.Serve o) = Some (Serves o.config.now (text_of o.listen) (text_of o.journal) o.check_config)
+said (asked.Agent config) = Some (Agents config.now)
 said (asked.Shown text) = None
 said (asked.Refused text) = None

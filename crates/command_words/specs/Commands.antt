@@ -62,6 +62,9 @@ serve = with_rule (with_rule (with_rule (with_rule (new_app (codes "serve"))
     (option_rule (codes "journal")))
     (flag_rule (codes "check-config"))
 
+abbrev pub agent : App
+agent = with_rule (new_app (codes "agent")) (required_rule (option_rule (codes "config")))
+
 -- No word of these is the program's name; the last use of an option counts; a command is needed.
 abbrev pub alone : App
 alone = record {
@@ -83,7 +86,7 @@ with_readers a =
 
 -- The commands that read files.
 abbrev pub with_others : App → App
-with_others a = with_subcommand (with_subcommand (with_subcommand (with_subcommand a audit.top) books.top) seal.top) serve.top
+with_others a = with_subcommand (with_subcommand (with_subcommand (with_subcommand (with_subcommand a audit.top) books.top) seal.top) serve.top) agent.top
 
 abbrev pub program : App
 program = with_others (with_readers alone)

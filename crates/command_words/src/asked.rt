@@ -1,7 +1,7 @@
 //! What a command line asks for.
 ghost use Rattle.std.specs.Prelude.{◌≡◌, ◌⊎◌, None, Some, true, IfOk, IfSome, codes, map, option_map, string_bytes};
 ghost use Rattle.clap.specs.Words.{all_of, found_of, rows_of, subcommand_rows_of};
-ghost use Rattle.command_words.specs.Asked.{Answers, are_taken, asked_by, asked_in, audits_by, books_by, command_in, is_set as is_set_by, named, number_or_zero, plans_alone_by, plans_by, said, seals_by, serves_by, spread_by, text_of};
+ghost use Rattle.command_words.specs.Asked.{Answers, agents_by, are_taken, asked_by, asked_in, audits_by, books_by, command_in, is_set as is_set_by, named, number_or_zero, plans_alone_by, plans_by, said, seals_by, serves_by, spread_by, text_of};
 
 use crate::commands::program;
 use crate::refusal::{no_command, no_spread, refused};
@@ -21,6 +21,8 @@ pub enum Asked<'a> {
     /// The path of a journal that is to have its digests anew.
     Seal(&'a str),
     Serve(ServeOptions<'a>),
+    /// The path of the configuration of an agent.
+    Agent(&'a str),
     /// Help or the version, for standard output.
     Shown(String),
     /// What is wrong with the words, for standard error.
@@ -102,6 +104,7 @@ fn command_named<'a>(
         "books" => books_of(alloc, matches),
         "seal" => seal_of(alloc, matches),
         "serve" => serve_of(alloc, matches),
+        "agent" => agent_of(alloc, matches),
         _ => no_command(alloc),
     }
 }
@@ -210,6 +213,15 @@ fn serve_of<'a>(alloc: Global, matches: &ArgMatches<'a>) -> Result<Asked<'a>, Al
             journal: matches.get_str("journal"),
             check_config: is_set(matches.get_str("check-config")),
         })),
+        None => no_command(alloc),
+    }
+}
+
+fn agent_of<'a>(alloc: Global, matches: &ArgMatches<'a>) -> Result<Asked<'a>, AllocError>
+    ensures { IfOk result (λ a. said a ≡ agents_by (rows_of (found_of matches.now))) }
+{
+    match matches.get_str("config") {
+        Some(config) => Ok(Asked::Agent(config)),
         None => no_command(alloc),
     }
 }

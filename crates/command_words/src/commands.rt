@@ -1,7 +1,7 @@
 //! The commands of `allocd`, with their help.
 ghost use Rattle.std.specs.Prelude.{◌≡◌, IfOk};
 ghost use Rattle.clap.specs.Words.{app_of, new_app};
-ghost use Rattle.command_words.specs.Commands.{alone as alone_app, audit as audit_app, books as books_app, plan as plan_app, program as program_app, seal as seal_app, serve as serve_app, with_others as with_others_app, with_readers as with_readers_app};
+ghost use Rattle.command_words.specs.Commands.{agent as agent_app, alone as alone_app, audit as audit_app, books as books_app, plan as plan_app, program as program_app, seal as seal_app, serve as serve_app, with_others as with_others_app, with_readers as with_readers_app};
 
 use crate::limits::{GREATEST_NUMBER, MOST_BINS_IN_A_ROW, MOST_PERCENT};
 use crate::options::{file, files, flag, number_option, option, required_option};
@@ -14,7 +14,7 @@ pub const VERSION: &str = "0.1.0";
 const PROGRAM: &str = "Allocates the scrape targets of Prometheus to its collectors";
 
 const PROGRAM_ENDS: &str = "\
-All commands but audit, books, seal and serve read standard input; docs/understand/FORMATS.md tells what they read and write.
+All commands but audit, books, seal, serve and agent read standard input; docs/understand/FORMATS.md tells what they read and write.
 
 Exit status of all commands:
   0  it is done, or what was to be judged is right
@@ -142,6 +142,18 @@ Exit status:
   2  the words, the configuration or the journal are wrong, as standard error says
   3  no memory was left, or a socket or a file failed";
 
+const AGENT: &str = "Stands between the allocator and a Prometheus, and reports what that scraped";
+
+const AGENT_CONFIG: &str =
+    "The configuration, in JSON: a name, the allocator, the Prometheus and the state file";
+
+const AGENT_ENDS: &str = "\
+docs/operate/AGENT.md tells what the configuration may say. Standard error: the log.
+
+Exit status:
+  2  the words, the configuration or the state file are wrong, as standard error says
+  3  no memory was left, or a socket or a file failed";
+
 /// The program with its commands.
 pub(crate) fn program<'a>(alloc: Global) -> Result<Command<'a>, AllocError>
     ensures { IfOk result (λ c. app_of c ≡ program_app) }
@@ -184,7 +196,8 @@ fn with_others<'a>(alloc: Global, command: Command<'a>) -> Result<Command<'a>, A
         .subcommand(audit(alloc)?)?
         .subcommand(books(alloc)?)?
         .subcommand(seal(alloc)?)?
-        .subcommand(serve(alloc)?)
+        .subcommand(serve(alloc)?)?
+        .subcommand(agent(alloc)?)
 }
 
 fn plan<'a>(alloc: Global) -> Result<Command<'a>, AllocError>
@@ -229,6 +242,17 @@ fn serve<'a>(alloc: Global) -> Result<Command<'a>, AllocError>
         .arg(option(alloc, "listen", "ADDRESS:PORT", LISTEN))?
         .arg(option(alloc, "journal", "FILE", JOURNAL))?
         .arg(flag(alloc, "check-config", CHECK_CONFIG))
+}
+
+fn agent<'a>(alloc: Global) -> Result<Command<'a>, AllocError>
+    ensures { IfOk result (λ c. app_of c ≡ agent_app) }
+{
+    told(alloc, "agent", AGENT, AGENT_ENDS).arg(required_option(
+        alloc,
+        "config",
+        "FILE",
+        AGENT_CONFIG,
+    ))
 }
 
 /// A command that takes nothing, with what its help tells first and last.

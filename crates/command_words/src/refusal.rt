@@ -72,6 +72,9 @@ fn hint_of(alloc: Global, command: &str, file: &str) -> Result<Option<String>, A
         "serve" => Ok(Some(format!(in alloc;
             "the configuration stands behind --config: allocd serve --config {file}"
         )?)),
+        "agent" => Ok(Some(format!(in alloc;
+            "the configuration stands behind --config: allocd agent --config {file}"
+        )?)),
         "check" | "plan" | "relabel" | "replay" | "session" => Ok(Some(format!(in alloc;
             "the input is read from standard input: allocd {command} < {file}"
         )?)),

@@ -5,6 +5,7 @@ ghost use Rattle.service_tasks.specs.Later.{IsLater};
 use crate::running::Served;
 use alloc_desk::{Desk, DeskName, Pass};
 use allocation_core::Core;
+use durable_journal::Device;
 use event_loops::{Gate, Times};
 use file_configs::ReadFiles;
 use http_get::FetchSeveral;
@@ -12,9 +13,7 @@ use sd_server::{Handler, ListTexts};
 use service_state::Kept;
 use service_tasks::{Configuration, Crew, Ending, Office, Service, Shared};
 use std::alloc::{AllocError, AllocGlobal, Global};
-use std::fs::OpenFile;
 use std::io;
-use std::io::Write;
 use std::net::{Net, TcpListener, TcpStream};
 use std::random::RandomSource;
 use std::sync::ledger::{Blank, Ledger};
@@ -51,7 +50,7 @@ where
     B: Ledger + Send + Sync,
     N: DeskName + Send + Sync,
     S: FetchSeveral + ReadFiles + Send + Drop,
-    F: Write + OpenFile + Send,
+    F: Device + Send,
     C: Configuration + Send + Drop,
     requires core { (core ≡ N.opening) × (N.seats ≡ SEATS) }
     requires calls { (calls.name ≡ L.name) × (calls.parts ≡ L.parts) × (L.parts ≡ SEATS) }
@@ -89,7 +88,7 @@ where
     B: Ledger + Send + Sync,
     N: DeskName + Send + Sync,
     S: FetchSeveral + ReadFiles + Send + Drop,
-    F: Write + OpenFile + Send,
+    F: Device + Send,
     C: Configuration + Send + Drop,
     ensures { IfOk result (λ r. IsLater N.opening r.0) }
 {
@@ -129,7 +128,7 @@ where
     B: Ledger + Send + Sync,
     N: DeskName + Send + Sync,
     S: FetchSeveral + ReadFiles + Send + Drop,
-    F: Write + OpenFile + Send,
+    F: Device + Send,
     C: Configuration + Send + Drop,
     ensures { IfOk result (λ r. IsLater N.opening r.0) }
 {
@@ -204,7 +203,7 @@ where
     B: Ledger + Send + Sync,
     N: DeskName + Send + Sync,
     S: FetchSeveral + ReadFiles + Send + Drop,
-    F: Write + OpenFile + Send,
+    F: Device + Send,
     C: Configuration + Send + Drop,
 {
     let gate = gate_of(handler.alloc, office)?;

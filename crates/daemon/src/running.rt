@@ -2,14 +2,13 @@
 ghost use Rattle.std.specs.Thread.{IsSend};
 
 use alloc_desk::{DeskName, Pass};
+use durable_journal::Device;
 use event_loops::Gate;
 use file_configs::ReadFiles;
 use http_get::FetchSeveral;
 use sd_server::{DEFAULT_LOOPS, Handler, serve_by_loops};
 use service_tasks::{Configuration, Crew, JournalFile, Office, Schedule, Shared, Watch};
 use std::alloc::{AllocGlobal, Global};
-use std::fs::OpenFile;
-use std::io::Write;
 use std::net::{Net, TcpListener, TcpStream};
 use std::random::RandomSource;
 use std::sync::atomic::{AtomicBool, Ordering};
@@ -49,7 +48,7 @@ where
     /// Runs the threads: that which keeps the journal ends once all others have.
     pub(crate) fn run<
         S: FetchSeveral + ReadFiles + Send + Drop,
-        F: Write + OpenFile + Send,
+        F: Device + Send,
         C: Configuration + Send + Drop,
     >(&self, office: &mut Office<S, F, C>, crew: &mut Crew<L, B, N>) -> io::Result<()> {
         let Office {

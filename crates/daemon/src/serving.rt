@@ -4,14 +4,12 @@ ghost use Rattle.service_tasks.specs.Later.{IsLater};
 
 use crate::one_desk::{SEATS, serve_desk};
 use allocation_core::Core;
-use durable_journal::Archive;
+use durable_journal::{Archive, Device};
 use file_configs::ReadFiles;
 use http_get::FetchSeveral;
 use service_tasks::{Configuration, Ending, Journal, Office, Service, continued};
 use std::alloc::{AllocGlobal, Global};
-use std::fs::OpenFile;
 use std::io;
-use std::io::Write;
 use std::marker::Brand;
 use std::net::{Net, TcpListener, TcpStream};
 use std::random::RandomSource;
@@ -46,7 +44,7 @@ where
         + Copy
         + Drop,
     S: FetchSeveral + ReadFiles + Send + Drop,
-    F: Write + OpenFile + Send + Drop,
+    F: Device + Send + Drop,
     A: Archive<F>,
     C: Configuration + Send + Drop,
     ensures { IfOk result (IsLater core) }
@@ -91,7 +89,7 @@ where
         + Copy
         + Drop,
     S: FetchSeveral + ReadFiles + Send + Drop,
-    F: Write + OpenFile + Send + Drop,
+    F: Device + Send + Drop,
     A: Archive<F>,
     C: Configuration + Send + Drop,
     ensures { IfOk result (IsLater core) }
@@ -129,7 +127,7 @@ where
         + Copy
         + Drop,
     S: FetchSeveral + ReadFiles + Send + Drop,
-    F: Write + OpenFile + Send,
+    F: Device + Send,
     C: Configuration + Send + Drop,
     ensures { IfOk result (λ r. IsLater core r.0) }
 {

@@ -58,6 +58,7 @@ fn asked_for(alloc: Global, asked: &Asked<'_>) -> Result<String, AllocError> {
         Asked::Books(paths) => format!(in alloc; "Books {paths:?}"),
         Asked::Seal(path) => format!(in alloc; "Seal {path}"),
         Asked::Serve(options) => options_of(alloc, options),
+        Asked::Agent(config) => format!(in alloc; "Agent {config}"),
         Asked::Shown(text) => format!(in alloc; "shown: {}", first_line(text)),
         Asked::Refused(text) => format!(in alloc; "refused: {}", first_line(text)),
     }

@@ -6,6 +6,7 @@ ghost use Rattle.serde_json.specs.View.{view};
 ghost use Rattle.durable_journal.specs.Beginnings.{IsBegun, Opens, BeginsMarked, value_of};
 ghost use Rattle.durable_journal.specs.Marks.{marked as with_mark};
 
+use crate::device::Device;
 use crate::marking::marked;
 use crate::sealing::Sealing;
 use json_pieces::write_value;
@@ -13,9 +14,7 @@ use json_values::parse;
 use sealed_lines::Chain;
 use serde_json::Value;
 use std::alloc::{AllocError, Global};
-use std::fs::OpenFile;
 use std::io;
-use std::io::Write;
 
 /// The first line of a journal that is to begin. Its text never stands in memory as a whole: it is written in pieces.
 #[derive(Drop)]
@@ -24,9 +23,10 @@ pub struct FirstLine {
     value: Value,
 }
 
-/// The file of a journal that has just begun.
+/// A journal that has just begun.
 #[derive(Drop)]
 pub struct Begun<F> {
+    /// The device that keeps it.
     pub file: F,
     /// The digest of its first line.
     pub chain: Chain,
@@ -45,10 +45,11 @@ impl FirstLine {
         line_of_document(alloc, document)
     }
 
-    /// Writes the line with its digest and its line feed behind what the file has, some 64 KiB at once, and has the device keep it. After
-    /// an `Err` the file is closed, and may have a beginning of it.
-    pub fn begin<F: Write + OpenFile + Drop>(&self, alloc: Global, file: F) -> io::Result<Begun<F>>
-        ensures { IfOk result (IsBegun F.contents self.now file) }
+    /// Writes the line with its digest and its line feed behind what the device has, some 64 KiB at once, and has it keep that. After
+    /// an `Err` the device is closed, and may have a beginning of it.
+    pub fn begin<F: Device + Drop>(&self, alloc: Global, file: F) -> io::Result<Begun<F>>
+        ensures form { IfOk result (IsBegun F.contents self.now file) }
+        ensures kept { IfOk result (λ b. F.kept b.file ≡ F.contents b.file) }
     {
         let mut line = Sealing::new(alloc, file)?;
         write_value(alloc, &self.value, &mut line)?;

@@ -8,10 +8,10 @@ ghost use Rattle.sealed_lines.specs.Running.{Digests, EndsAs};
 ghost use Rattle.durable_journal.specs.Pieces.{Grows, grows_join};
 
 use crate::beginning::Begun;
+use crate::device::Device;
 use json_pieces::Pieces;
 use sealed_lines::{Chain, RunningDigest};
 use std::alloc::{AllocError, Global};
-use std::fs::OpenFile;
 use std::io;
 use std::io::{BufWriter, Write};
 
@@ -56,12 +56,13 @@ impl<F: Write + Drop> Sealing<F> {
     }
 }
 
-impl<F: Write + OpenFile + Drop> Sealing<F> {
+impl<F: Device + Drop> Sealing<F> {
     /// Ends the line with its digest and a line feed, and has the device keep it.
     pub(crate) fn end(self, alloc: Global) -> io::Result<Begun<F>>
         ensures chain { IfOk result (λ b. EndsAs self.digest b.chain) }
         ensures file { IfOk result (λ b. Appends (writer_contents F.contents self.file) (F.contents b.file) (seal b.chain ++ 10 ∷ [])) }
         ensures bytes { IfOk result (λ b. b.bytes ≡ u64_saturate (self.bytes + length (seal b.chain ++ 10 ∷ []))) }
+        ensures kept { IfOk result (λ b. F.kept b.file ≡ F.contents b.file) }
     {
         let Sealing {
             file,
@@ -89,8 +90,9 @@ fn ending_of(alloc: Global, chain: Chain) -> Result<Vec<u8>, AllocError>
 }
 
 /// The file, which the device keeps with these bytes at its end.
-fn ended<F: Write + OpenFile + Drop>(mut file: BufWriter<F>, ending: &[u8]) -> io::Result<F>
-    ensures { IfOk result (λ f. Appends (writer_contents F.contents file) (F.contents f) ending.now) }
+fn ended<F: Device + Drop>(mut file: BufWriter<F>, ending: &[u8]) -> io::Result<F>
+    ensures bytes { IfOk result (λ f. Appends (writer_contents F.contents file) (F.contents f) ending.now) }
+    ensures kept { IfOk result (λ f. F.kept f ≡ F.contents f) }
 {
     file.write_all(ending)?;
     match file.into_inner() {
@@ -100,12 +102,11 @@ fn ended<F: Write + OpenFile + Drop>(mut file: BufWriter<F>, ending: &[u8]) -> i
 }
 
 /// The file, once the device keeps it.
-fn kept<F: Write + OpenFile>(mut file: F) -> io::Result<F>
-where
-    F: Drop,
-    ensures { IfOk result (λ f. Keeps (F.contents file) (F.contents f)) }
+fn kept<F: Device + Drop>(mut file: F) -> io::Result<F>
+    ensures bytes { IfOk result (λ f. Keeps (F.contents file) (F.contents f)) }
+    ensures kept { IfOk result (λ f. F.kept f ≡ F.contents f) }
 {
     file.flush()?;
-    file.sync_data()?;
+    file.keep()?;
     Ok(file)
 }

@@ -3,6 +3,7 @@
 //! A journal begins as `PATH.next`. Once it is on the device the last journal becomes `PATH.N`, and then the new one takes its place. So
 //! whenever the machine stops, there is `PATH`, or else `PATH.next` is whole. Meanwhile nobody else has them: they are his who has the
 //! lock of `PATH.lock`, which keeps its name.
+use crate::disk::Disk;
 use crate::fault::Fault;
 use crate::guarding::{check_file, goal_of};
 use durable_journal::{Archive, Begun, FirstLine};
@@ -78,13 +79,13 @@ impl<R> Journals<R> {
 
 impl<R: Files<File = File> + AllocGlobal + Clone + Drop> Journals<R> {
     /// Begins the next journal with this line and puts it in the place of the last one, which is at this path.
-    pub(crate) fn change(&self, path: &str, first: &FirstLine) -> io::Result<Begun<File>> {
+    pub(crate) fn change(&self, path: &str, first: &FirstLine) -> io::Result<Begun<Disk>> {
         let next = next_path(self.alloc, path)?;
         self.change_to(path, next.as_str(), first)
     }
 
     /// Begins the next journal at a path of its own.
-    fn change_to(&self, path: &str, next: &str, first: &FirstLine) -> io::Result<Begun<File>> {
+    fn change_to(&self, path: &str, next: &str, first: &FirstLine) -> io::Result<Begun<Disk>> {
         let begun = begin_next(&self.rt, self.alloc, next, first)?;
         match self.put_in_place(path, next) {
             Ok(()) => Ok(begun),
@@ -126,8 +127,8 @@ impl<R: Files<File = File> + AllocGlobal + Clone + Drop> Journals<R> {
     }
 }
 
-impl<R: Files<File = File> + AllocGlobal + Clone + Drop> Archive<File> for Journals<R> {
-    fn begin(&mut self, first: &FirstLine) -> io::Result<Begun<File>> {
+impl<R: Files<File = File> + AllocGlobal + Clone + Drop> Archive<Disk> for Journals<R> {
+    fn begin(&mut self, first: &FirstLine) -> io::Result<Begun<Disk>> {
         match self.path() {
             Some(path) => self.change(path, first),
             None => Err(io::ErrorKind::NotFound.into()),
@@ -186,10 +187,10 @@ fn begin_next<R: Files<File = File>>(
     alloc: Global,
     next: &str,
     first: &FirstLine,
-) -> io::Result<Begun<File>> {
+) -> io::Result<Begun<Disk>> {
     let file = open_journal(rt, next)?;
     match empty(&file) {
-        Ok(()) => first.begin(alloc, file),
+        Ok(()) => first.begin(alloc, Disk::new(file)),
         Err(error) => Err(error),
     }
 }

@@ -2,6 +2,7 @@
 //! to.
 #![tactic(auto)]
 
+mod disk;
 mod fault;
 mod guarding;
 mod journals;
@@ -10,6 +11,7 @@ mod opening;
 mod reading;
 mod rounds;
 
+pub use disk::Disk;
 pub use fault::Fault;
 pub use guarding::is_same_file;
 pub use journals::Journals;

@@ -1,4 +1,5 @@
 //! The file of the journal, and the allocator to begin with.
+use crate::disk::Disk;
 use crate::fault::Fault;
 use crate::journals::{Journals, end_renewal, lock_file, open_journal, sync_folder};
 use crate::names::NamedCollector;
@@ -17,13 +18,13 @@ use std::{fs, io};
 
 /// An allocator, and the file of its journal where it has one.
 #[derive(Drop)]
-pub struct Opened<F> {
+pub struct Opened<D> {
     pub core: Core,
     /// The epoch in which its numbers mean what they mean.
     pub epoch: u64,
     /// The names that its collectors have or had. Only of those of its journal it is known.
     pub names: Vec<NamedCollector>,
-    pub file: Option<F>,
+    pub file: Option<D>,
     /// How many bytes its journal has.
     pub bytes: u64,
     /// The digest of the journal's last line, where its lines have digests.
@@ -33,7 +34,7 @@ pub struct Opened<F> {
 /// The file of a journal that is written from now on.
 #[derive(Drop)]
 struct Written {
-    file: File,
+    file: Disk,
     bytes: u64,
     chain: Option<Chain>,
 }
@@ -46,7 +47,7 @@ pub fn open_allocator<R: Files<File = File> + AllocGlobal + Clock + Eprint + Cop
     line: &str,
     jobs: &[Job],
     round: u64,
-) -> Result<Opened<File>, Fault> {
+) -> Result<Opened<Disk>, Fault> {
     let epoch = next_epoch(&journals.rt, 0);
     match journals.path() {
         Some(path) => open_at(
@@ -74,7 +75,7 @@ fn open_at<R: Files<File = File> + AllocGlobal + Clock + Eprint + Copy + Drop>(
     journals: &Journals<R>,
     path: &str,
     wanted: Wanted<'_>,
-) -> Result<Opened<File>, Fault> {
+) -> Result<Opened<Disk>, Fault> {
     let mut file = own_journal(&journals.rt, journals.alloc, path)?;
     match read_journal(journals.alloc, path, &mut file, wanted) {
         Ok(start) => begin(journals, path, file, start),
@@ -109,7 +110,7 @@ fn begin<R: Files<File = File> + AllocGlobal + Clock + Eprint + Copy + Drop>(
     path: &str,
     file: File,
     start: Start,
-) -> Result<Opened<File>, Fault> {
+) -> Result<Opened<Disk>, Fault> {
     let Start {
         core,
         past,
@@ -121,7 +122,7 @@ fn begin<R: Files<File = File> + AllocGlobal + Clock + Eprint + Copy + Drop>(
     }
 }
 
-fn opened_with(core: Core, past: Past, written: Written) -> Opened<File> {
+fn opened_with(core: Core, past: Past, written: Written) -> Opened<Disk> {
     Opened {
         core,
         epoch: past.epoch,
@@ -145,7 +146,7 @@ fn next_file<R: Files<File = File> + AllocGlobal + Clock + Eprint + Copy + Drop>
         Next::GoesOn(events) => {
             log_read(&journals.rt, *events);
             Ok(Written {
-                file,
+                file: Disk::new(file),
                 bytes: journal.whole,
                 chain: journal.chain,
             })
@@ -170,7 +171,7 @@ fn replaced<R: Files<File = File> + AllocGlobal + Clock + Eprint + Copy + Drop>(
 }
 
 /// What is written from now on of a journal that has just begun.
-fn begun_file(begun: Begun<File>) -> Written {
+fn begun_file(begun: Begun<Disk>) -> Written {
     Written {
         file: begun.file,
         bytes: begun.bytes,
@@ -189,7 +190,7 @@ fn begun<R: Files<File = File>>(
     file: File,
     first: &FirstLine,
 ) -> io::Result<Written> {
-    let begun = first.begin(journals.alloc, file)?;
+    let begun = first.begin(journals.alloc, Disk::new(file))?;
     match sync_folder(&journals.rt, path) {
         Ok(()) => Ok(begun_file(begun)),
         Err(error) => Err(error),

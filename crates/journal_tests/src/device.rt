@@ -1,7 +1,7 @@
-//! A file in memory, which takes few bytes at once.
-use std::fs::{Metadata, OpenFile};
+//! A device in memory, which takes few bytes at once.
+use durable_journal::Device;
 use std::io;
-use std::io::{ErrorKind, Write};
+use std::io::Write;
 
 /// The most bytes of one write.
 const MOST_AT_ONCE: usize = 7;
@@ -23,20 +23,16 @@ impl Write for Memory {
     }
 }
 
-impl OpenFile for Memory {
-    fn metadata(&self) -> io::Result<Metadata> {
-        Err(io::Error::from(ErrorKind::Unsupported))
-    }
+impl Device for Memory {
+    ghost use Rattle.std.specs.Prelude.{None};
 
-    fn set_len(&self, _size: u64) -> io::Result<()> {
-        Err(io::Error::from(ErrorKind::Unsupported))
-    }
+    ghost kept = { λ _. None };
 
-    fn sync_all(&self) -> io::Result<()> {
+    fn keep(&mut self) -> io::Result<()> {
         Ok(())
     }
 
-    fn sync_data(&self) -> io::Result<()> {
+    fn check(&self) -> io::Result<()> {
         Ok(())
     }
 }

@@ -4,11 +4,13 @@
 #![tactic(auto)]
 
 mod configuration;
+mod jobs;
 mod laws;
 mod line;
 mod resuming;
 mod run;
 
+pub use jobs::are_jobs_of;
 pub use laws::{replays_are_runs, replays_are_runs_of_opened, resumes_where_done};
 pub use resuming::{Damage, Resumption, resume};
 pub use run::{Ended, replay};

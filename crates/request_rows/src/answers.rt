@@ -92,6 +92,7 @@ fn refused(text: &str) -> Option<Said> {
         "TooLong" => RequestError::TooLong,
         "TooManyRules" => RequestError::TooManyRules,
         "TransferCoding" => RequestError::TransferCoding,
+        "UnknownRound" => RequestError::UnknownRound,
         _ => return None,
     };
     Some(Said::Refused(error))

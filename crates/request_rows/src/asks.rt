@@ -141,6 +141,8 @@ fn spelled(alloc: Global, ask: &Ask) -> Result<String, AllocError> {
         Ask::FindTargets(text) => format!(in alloc; "targets with <{}>", text.as_str()),
         Ask::Acknowledged { told, counts } => spelled_acknowledgement(alloc, told, *counts),
         Ask::Allocations => String::from_str(alloc, "allocations"),
+        Ask::Books(None) => String::from_str(alloc, "books"),
+        Ask::Books(Some(round)) => format!(in alloc; "books of round {round}"),
         Ask::Certificate => String::from_str(alloc, "certificate"),
         Ask::Collectors => String::from_str(alloc, "collectors"),
         Ask::Collector(which) => of_collector(alloc, "collector", which),

@@ -1,5 +1,5 @@
 //! The text of the page of a job at a moment.
-use crate::numbers::{first_part, first_word, large, number};
+use crate::numbers::{first_part, first_word, known, number};
 use lists::{List, Text};
 use sd_routes::{JobRow, SourceRow, job_row_page};
 use std::alloc::{AllocError, Global};
@@ -77,12 +77,4 @@ fn fault_in(alloc: Global, text: &str) -> Result<Option<Text>, AllocError> {
         return Ok(None);
     }
     Ok(Some(Text::from_str(alloc, text)?))
-}
-
-/// A number, if it is known.
-fn known(text: &str) -> Option<u64> {
-    if text == "-" {
-        return None;
-    }
-    Some(large(text))
 }

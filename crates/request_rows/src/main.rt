@@ -7,6 +7,7 @@
 
 mod answers;
 mod asks;
+mod books_rows;
 mod fleet_pages;
 mod job_rows;
 mod numbers;

@@ -1,5 +1,6 @@
 //! The readers by name.
 use crate::asks::request;
+use crate::books_rows::books;
 use crate::fleet_pages::{collector, collectors, found};
 use crate::job_rows::job_row;
 use crate::pages::{job, jobs, targets};
@@ -23,6 +24,7 @@ pub(crate) fn said(alloc: Global, name: &str, bytes: &[u8]) -> Result<Option<Str
 fn said_of_text(alloc: Global, name: &str, text: &str) -> Result<Option<String>, AllocError> {
     let line = match name {
         "asked" => url(alloc, text),
+        "books_page" => books(alloc, text),
         "collector_page" => collector(alloc, text),
         "collectors_page" => collectors(alloc, text),
         "found_page" => found(alloc, text),

@@ -1,7 +1,10 @@
 //! The devices that fetch over HTTP: a new connection for each request, with a limit of time and of size. One waits for each fetch, the
-//! other has several under way, and looks names up on threads of their own.
+//! other has several under way, and looks names up on threads of their own. Beside them any request with any headers, which is waited for.
 #![tactic(auto)]
 
+mod ask;
+mod ask_exchange;
+mod asked;
 mod beginning;
 mod blocking;
 mod exchange;
@@ -13,6 +16,8 @@ mod lookups;
 mod marked;
 mod while_memory;
 
+pub use ask::{Answer, Ask, Method};
+pub use asked::ask_within;
 pub use exchange::LONGEST_BODY;
 pub use hyper_fetches::HyperFetches;
 pub use hyper_scrape::HyperScrape;

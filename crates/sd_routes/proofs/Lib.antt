@@ -9,3 +9,4 @@ pub mod Escapes
 pub mod CollectorFloats
 pub mod FoundFloats
 pub mod AllocationFloats
+pub mod BooksFloats

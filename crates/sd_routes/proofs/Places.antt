@@ -31,28 +31,28 @@ agrees-text w t h a = agrees-prefix w t (text-from w h) a
 -- ---- the routes by number, as a tree
 
 abbrev with_lr : Rows
-with_lr = prepend (codes "limits") (ends (Some 8)) ++ prepend (codes "release") (ends (Some 9))
+with_lr = prepend (codes "limits") (ends (Some 9)) ++ prepend (codes "release") (ends (Some 10))
 
 abbrev orders : Rows
-orders = prepend (codes "drain") (ends (Some 7)) ++ with_lr
+orders = prepend (codes "drain") (ends (Some 8)) ++ with_lr
 
 abbrev of_collector : Rows
-of_collector = prepend (256 ∷ []) (after orders (Some 10))
+of_collector = prepend (256 ∷ []) (after orders (Some 11))
 
 abbrev collectors : Rows
-collectors = prepend (codes "/") of_collector ++ ends (Some 11)
+collectors = prepend (codes "/") of_collector ++ ends (Some 12)
 
 abbrev lists : Rows
-lists = prepend (codes "targets") (ends (Some 12)) ++ prepend (codes "uncovered") (ends (Some 13))
+lists = prepend (codes "targets") (ends (Some 13)) ++ prepend (codes "uncovered") (ends (Some 14))
 
 abbrev of_job : Rows
-of_job = prepend (256 ∷ []) (after lists (Some 14))
+of_job = prepend (256 ∷ []) (after lists (Some 15))
 
 abbrev jobs : Rows
-jobs = prepend (codes "/") of_job ++ ends (Some 15)
+jobs = prepend (codes "/") of_job ++ ends (Some 16)
 
 abbrev with_c : Rows
-with_c = prepend (codes "ertificate") (ends (Some 6)) ++ prepend (codes "ollectors") collectors
+with_c = prepend (codes "ertificate") (ends (Some 7)) ++ prepend (codes "ollectors") collectors
 
 abbrev with_al : Rows
 with_al = prepend (codes "ady") (ends (Some 2)) ++ prepend (codes "load") (ends (Some 3))
@@ -64,22 +64,22 @@ abbrev with_hqr : Rows
 with_hqr = prepend (codes "healthy") (ends (Some 0)) ++ with_qr
 
 abbrev with_re : Rows
-with_re = prepend (codes "adyz") (ends (Some 18)) ++ prepend (codes "ports") (ends (Some 19))
+with_re = prepend (codes "adyz") (ends (Some 19)) ++ prepend (codes "ports") (ends (Some 20))
 
 abbrev with_t : Rows
-with_t = prepend (codes "targets") (ends (Some 21)) ++ ends (Some 22)
+with_t = prepend (codes "targets") (ends (Some 22)) ++ ends (Some 23)
 
 abbrev with_st : Rows
-with_st = prepend (codes "scrape_configs") (ends (Some 20)) ++ with_t
+with_st = prepend (codes "scrape_configs") (ends (Some 21)) ++ with_t
 
 abbrev with_rst : Rows
 with_rst = prepend (codes "re") with_re ++ with_st
 
 abbrev with_mrst : Rows
-with_mrst = prepend (codes "metrics") (ends (Some 17)) ++ with_rst
+with_mrst = prepend (codes "metrics") (ends (Some 18)) ++ with_rst
 
 abbrev with_lmrst : Rows
-with_lmrst = prepend (codes "livez") (ends (Some 16)) ++ with_mrst
+with_lmrst = prepend (codes "livez") (ends (Some 17)) ++ with_mrst
 
 abbrev with_jlmrst : Rows
 with_jlmrst = prepend (codes "jobs") jobs ++ with_lmrst
@@ -87,47 +87,50 @@ with_jlmrst = prepend (codes "jobs") jobs ++ with_lmrst
 abbrev with_cjlmrst : Rows
 with_cjlmrst = prepend (codes "c") with_c ++ with_jlmrst
 
+abbrev with_bcjlmrst : Rows
+with_bcjlmrst = prepend (codes "books") (ends (Some 6)) ++ with_cjlmrst
+
 abbrev with_a : Rows
 with_a = prepend (codes "cknowledged") (ends (Some 4)) ++ prepend (codes "llocations") (ends (Some 5))
 
-abbrev with_acjlmrst : Rows
-with_acjlmrst = prepend (codes "a") with_a ++ with_cjlmrst
+abbrev with_abcjlmrst : Rows
+with_abcjlmrst = prepend (codes "a") with_a ++ with_bcjlmrst
 
 abbrev tree : Rows
-tree = prepend (codes "/") (prepend (codes "-/") with_hqr ++ with_acjlmrst)
+tree = prepend (codes "/") (prepend (codes "-/") with_hqr ++ with_abcjlmrst)
 
 agrees-word : (w : List ℕ) (k : ℕ) → all_bytes w ≡ true → Agrees (prepend w (ends (Some k)))
 agrees-word w k h = agrees-text w (ends (Some k)) h (agrees-end k)
 
 agrees-with_lr : Agrees with_lr
 agrees-with_lr =
-    agrees-or 108 (codes "imits") (ends (Some 8)) (prepend (codes "release") (ends (Some 9))) (omega arith) refl
-    (agrees-word (codes "limits") 8 refl) (agrees-word (codes "release") 9 refl)
+    agrees-or 108 (codes "imits") (ends (Some 9)) (prepend (codes "release") (ends (Some 10))) (omega arith) refl
+    (agrees-word (codes "limits") 9 refl) (agrees-word (codes "release") 10 refl)
 
 agrees-orders : Agrees orders
-agrees-orders = agrees-or 100 (codes "rain") (ends (Some 7)) with_lr (omega arith) refl (agrees-word (codes "drain") 7 refl) agrees-with_lr
+agrees-orders = agrees-or 100 (codes "rain") (ends (Some 8)) with_lr (omega arith) refl (agrees-word (codes "drain") 8 refl) agrees-with_lr
 
 agrees-collectors : Agrees collectors
 agrees-collectors =
-    agrees-or 47 [] of_collector (ends (Some 11)) (omega arith) refl
-    (agrees-text (codes "/") of_collector refl (agrees-segment orders (Some 10) (omega arith) (agrees-text (codes "/") orders refl agrees-orders)))
-    (agrees-end 11)
+    agrees-or 47 [] of_collector (ends (Some 12)) (omega arith) refl
+    (agrees-text (codes "/") of_collector refl (agrees-segment orders (Some 11) (omega arith) (agrees-text (codes "/") orders refl agrees-orders)))
+    (agrees-end 12)
 
 agrees-lists : Agrees lists
 agrees-lists =
-    agrees-or 116 (codes "argets") (ends (Some 12)) (prepend (codes "uncovered") (ends (Some 13))) (omega arith) refl
-    (agrees-word (codes "targets") 12 refl) (agrees-word (codes "uncovered") 13 refl)
+    agrees-or 116 (codes "argets") (ends (Some 13)) (prepend (codes "uncovered") (ends (Some 14))) (omega arith) refl
+    (agrees-word (codes "targets") 13 refl) (agrees-word (codes "uncovered") 14 refl)
 
 agrees-jobs : Agrees jobs
 agrees-jobs =
-    agrees-or 47 [] of_job (ends (Some 15)) (omega arith) refl
-    (agrees-text (codes "/") of_job refl (agrees-segment lists (Some 14) (omega arith) (agrees-text (codes "/") lists refl agrees-lists)))
-    (agrees-end 15)
+    agrees-or 47 [] of_job (ends (Some 16)) (omega arith) refl
+    (agrees-text (codes "/") of_job refl (agrees-segment lists (Some 15) (omega arith) (agrees-text (codes "/") lists refl agrees-lists)))
+    (agrees-end 16)
 
 agrees-with_c : Agrees with_c
 agrees-with_c =
-    agrees-or 101 (codes "rtificate") (ends (Some 6)) (prepend (codes "ollectors") collectors) (omega arith) refl
-    (agrees-word (codes "ertificate") 6 refl) (agrees-text (codes "ollectors") collectors refl agrees-collectors)
+    agrees-or 101 (codes "rtificate") (ends (Some 7)) (prepend (codes "ollectors") collectors) (omega arith) refl
+    (agrees-word (codes "ertificate") 7 refl) (agrees-text (codes "ollectors") collectors refl agrees-collectors)
 
 agrees-with_al : Agrees with_al
 agrees-with_al =
@@ -144,16 +147,16 @@ agrees-with_hqr = agrees-or 104 (codes "ealthy") (ends (Some 0)) with_qr (omega 
 
 agrees-with_re : Agrees with_re
 agrees-with_re =
-    agrees-or 97 (codes "dyz") (ends (Some 18)) (prepend (codes "ports") (ends (Some 19))) (omega arith) refl
-    (agrees-word (codes "adyz") 18 refl) (agrees-word (codes "ports") 19 refl)
+    agrees-or 97 (codes "dyz") (ends (Some 19)) (prepend (codes "ports") (ends (Some 20))) (omega arith) refl
+    (agrees-word (codes "adyz") 19 refl) (agrees-word (codes "ports") 20 refl)
 
 agrees-with_t : Agrees with_t
 agrees-with_t =
-    agrees-or 116 (codes "argets") (ends (Some 21)) (ends (Some 22)) (omega arith) refl
-    (agrees-word (codes "targets") 21 refl) (agrees-end 22)
+    agrees-or 116 (codes "argets") (ends (Some 22)) (ends (Some 23)) (omega arith) refl
+    (agrees-word (codes "targets") 22 refl) (agrees-end 23)
 
 agrees-with_st : Agrees with_st
-agrees-with_st = agrees-or 115 (codes "crape_configs") (ends (Some 20)) with_t (omega arith) refl (agrees-word (codes "scrape_configs") 20 refl) agrees-with_t
+agrees-with_st = agrees-or 115 (codes "crape_configs") (ends (Some 21)) with_t (omega arith) refl (agrees-word (codes "scrape_configs") 21 refl) agrees-with_t
 
 agrees-with_rst : Agrees with_rst
 agrees-with_rst =
@@ -161,10 +164,10 @@ agrees-with_rst =
     (agrees-text (codes "re") with_re refl agrees-with_re) agrees-with_st
 
 agrees-with_mrst : Agrees with_mrst
-agrees-with_mrst = agrees-or 109 (codes "etrics") (ends (Some 17)) with_rst (omega arith) refl (agrees-word (codes "metrics") 17 refl) agrees-with_rst
+agrees-with_mrst = agrees-or 109 (codes "etrics") (ends (Some 18)) with_rst (omega arith) refl (agrees-word (codes "metrics") 18 refl) agrees-with_rst
 
 agrees-with_lmrst : Agrees with_lmrst
-agrees-with_lmrst = agrees-or 108 (codes "ivez") (ends (Some 16)) with_mrst (omega arith) refl (agrees-word (codes "livez") 16 refl) agrees-with_mrst
+agrees-with_lmrst = agrees-or 108 (codes "ivez") (ends (Some 17)) with_mrst (omega arith) refl (agrees-word (codes "livez") 17 refl) agrees-with_mrst
 
 agrees-with_jlmrst : Agrees with_jlmrst
 agrees-with_jlmrst = agrees-or 106 (codes "obs") jobs with_lmrst (omega arith) refl (agrees-text (codes "jobs") jobs refl agrees-jobs) agrees-with_lmrst
@@ -172,18 +175,22 @@ agrees-with_jlmrst = agrees-or 106 (codes "obs") jobs with_lmrst (omega arith) r
 agrees-with_cjlmrst : Agrees with_cjlmrst
 agrees-with_cjlmrst = agrees-or 99 [] with_c with_jlmrst (omega arith) refl (agrees-text (codes "c") with_c refl agrees-with_c) agrees-with_jlmrst
 
+agrees-with_bcjlmrst : Agrees with_bcjlmrst
+agrees-with_bcjlmrst =
+    agrees-or 98 (codes "ooks") (ends (Some 6)) with_cjlmrst (omega arith) refl (agrees-word (codes "books") 6 refl) agrees-with_cjlmrst
+
 agrees-with_a : Agrees with_a
 agrees-with_a =
     agrees-or 99 (codes "knowledged") (ends (Some 4)) (prepend (codes "llocations") (ends (Some 5))) (omega arith) refl
     (agrees-word (codes "cknowledged") 4 refl) (agrees-word (codes "llocations") 5 refl)
 
-agrees-with_acjlmrst : Agrees with_acjlmrst
-agrees-with_acjlmrst = agrees-or 97 [] with_a with_cjlmrst (omega arith) refl (agrees-text (codes "a") with_a refl agrees-with_a) agrees-with_cjlmrst
+agrees-with_abcjlmrst : Agrees with_abcjlmrst
+agrees-with_abcjlmrst = agrees-or 97 [] with_a with_bcjlmrst (omega arith) refl (agrees-text (codes "a") with_a refl agrees-with_a) agrees-with_bcjlmrst
 
 agrees-tree : Agrees tree
 agrees-tree =
-    agrees-text (codes "/") (prepend (codes "-/") with_hqr ++ with_acjlmrst) refl
-    (agrees-or 45 (codes "/") with_hqr with_acjlmrst (omega arith) refl (agrees-text (codes "-/") with_hqr refl agrees-with_hqr) agrees-with_acjlmrst)
+    agrees-text (codes "/") (prepend (codes "-/") with_hqr ++ with_abcjlmrst) refl
+    (agrees-or 45 (codes "/") with_hqr with_abcjlmrst (omega arith) refl (agrees-text (codes "-/") with_hqr refl agrees-with_hqr) agrees-with_abcjlmrst)
 
 -- ---- the routes themselves
 

@@ -11,7 +11,7 @@ use Rattle.sd_routes.specs.Table.{place_of}
 use Rattle.sd_routes.specs.declared.decimal.TheConstants.{MOST_OF_32_BITS, MOST_OF_64_BITS}
 use Rattle.sd_routes.specs.declared.acknowledgement.Acknowledgement.{Acknowledgement}
 use Rattle.sd_routes.specs.declared.ask.Ask.{Ask}
-use Rattle.sd_routes.specs.declared.ask.Ask.TheVariants.{Status, ScrapeConfigs, Jobs, Job, JobTargets, CollectorTargets, Uncovered, FindTargets, Acknowledged, Allocations, Certificate, Collectors, Collector, Join, Leave, Drain, Release, SetLimits, Report, Healthy, Live, Ready, Metrics, Reload, Quit}
+use Rattle.sd_routes.specs.declared.ask.Ask.TheVariants.{Status, ScrapeConfigs, Jobs, Job, JobTargets, CollectorTargets, Uncovered, FindTargets, Acknowledged, Allocations, Books, Certificate, Collectors, Collector, Join, Leave, Drain, Release, SetLimits, Report, Healthy, Live, Ready, Metrics, Reload, Quit}
 use Rattle.sd_routes.specs.declared.place.Place.{Place}
 use Rattle.sd_routes.specs.declared.place.Place.TheVariants as place
 use Rattle.sd_routes.specs.declared.purpose.Purpose.{Purpose}
@@ -85,6 +85,19 @@ found_by (Some (b ∷ text)) = Ok (FindTargets (b ∷ text))
 abbrev pub targets_asked : Option (List ℕ) → Result Ask RequestError
 targets_asked query = found_by (value_of (codes "search") query)
 
+-- the books of the round that one digit or more write, where they write a number
+abbrev pub books_numbered : Option ℕ → Result Ask RequestError
+books_numbered None = Err Shape
+books_numbered (Some round) = Ok (Books (Some round))
+
+-- the books of a round, or of the last one that is over
+abbrev pub books_by : Option (List ℕ) → Result Ask RequestError
+books_by None = Ok (Books None)
+books_by (Some digits) = books_numbered (decimal_in MOST_OF_32_BITS digits)
+
+abbrev pub books_asked : Option (List ℕ) → Result Ask RequestError
+books_asked query = books_by (value_of (codes "round") query)
+
 -- that a collector follows a list, which is noted unless only the head is asked for
 abbrev pub followed : Purpose → Option ℕ → Option ℕ → Option ℕ → Option (List ℕ) → Result Ask RequestError
 followed purpose None list epoch job = Err Shape
@@ -152,6 +165,7 @@ asked_at place.Uncovered purpose path query = uncovered_asked path
 asked_at place.Targets purpose path query = targets_asked query
 asked_at place.Acknowledged purpose path query = acknowledged_asked purpose query
 asked_at place.Allocations purpose path query = Ok Allocations
+asked_at place.Books purpose path query = books_asked query
 asked_at place.Certificate purpose path query = Ok Certificate
 asked_at place.Collectors purpose path query = Ok (collectors_asked purpose)
 asked_at place.Collector purpose path query = collector_asked purpose path

@@ -1,7 +1,7 @@
 -- The status code (RFC 9110, section 15; RFC 4918, section 11.5) and the name of each refusal without an event.
 use Rattle.std.specs.Prelude.{ℕ, List, codes}
 use Rattle.sd_routes.specs.declared.request_error.RequestError.{RequestError}
-use Rattle.sd_routes.specs.declared.request_error.RequestError.TheVariants.{NoRoute, Method, Host, Origin, Token, MediaType, TransferCoding, Expectation, Shape, BadName, TooManyRules, OtherEpoch, TooLong, JournalFull, NotKept, Memory}
+use Rattle.sd_routes.specs.declared.request_error.RequestError.TheVariants.{NoRoute, Method, Host, Origin, Token, MediaType, TransferCoding, Expectation, Shape, BadName, TooManyRules, OtherEpoch, UnknownRound, TooLong, JournalFull, NotKept, Memory}
 
 abbrev pub status_of : RequestError → ℕ
 status_of NoRoute = 404
@@ -16,6 +16,7 @@ status_of Shape = 400
 status_of BadName = 400
 status_of TooManyRules = 400
 status_of OtherEpoch = 409
+status_of UnknownRound = 404
 status_of TooLong = 413
 status_of JournalFull = 507
 status_of NotKept = 503
@@ -34,6 +35,7 @@ name_of Shape = codes "Shape"
 name_of BadName = codes "BadName"
 name_of TooManyRules = codes "TooManyRules"
 name_of OtherEpoch = codes "OtherEpoch"
+name_of UnknownRound = codes "UnknownRound"
 name_of TooLong = codes "TooLong"
 name_of JournalFull = codes "JournalFull"
 name_of NotKept = codes "NotKept"

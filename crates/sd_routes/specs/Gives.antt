@@ -1,7 +1,7 @@
 -- What is given against what is said.
 use Rattle.std.specs.Prelude.{◌≡◌, Result, Ok, Err}
 use Rattle.sd_routes.specs.declared.request_error.RequestError.{RequestError}
-use Rattle.sd_routes.specs.declared.request_error.RequestError.TheVariants.{NoRoute, Method, Host, Origin, Token, MediaType, TransferCoding, Expectation, Shape, BadName, TooManyRules, OtherEpoch, TooLong, JournalFull, NotKept, Memory}
+use Rattle.sd_routes.specs.declared.request_error.RequestError.TheVariants.{NoRoute, Method, Host, Origin, Token, MediaType, TransferCoding, Expectation, Shape, BadName, TooManyRules, OtherEpoch, UnknownRound, TooLong, JournalFull, NotKept, Memory}
 
 -- a refusal is given where it is said; that memory ran out says nothing
 abbrev pub Fails : {T : Type 0} → RequestError → Result T RequestError → Type 0
@@ -17,6 +17,7 @@ Fails Shape said = said ≡ Err Shape
 Fails BadName said = said ≡ Err BadName
 Fails TooManyRules said = said ≡ Err TooManyRules
 Fails OtherEpoch said = said ≡ Err OtherEpoch
+Fails UnknownRound said = said ≡ Err UnknownRound
 Fails TooLong said = said ≡ Err TooLong
 Fails JournalFull said = said ≡ Err JournalFull
 Fails NotKept said = said ≡ Err NotKept

@@ -21,4 +21,5 @@ pub mod Pages
 pub mod CollectorPages
 pub mod FoundPages
 pub mod AllocationPages
+pub mod BooksPages
 pub mod Acknowledging

@@ -2,7 +2,7 @@
 use Rattle.std.specs.Prelude.{ℕ, ◌&&◌, ◌++◌, List, [], Bool, true, false, codes, bytes_eq, Option, Some, None, if◌then◌else◌}
 use Rattle.std.specs.Option.{option_map_or}
 use Rattle.sd_routes.specs.declared.place.Place.{Place}
-use Rattle.sd_routes.specs.declared.place.Place.TheVariants.{Status, ScrapeConfigs, Jobs, Job, JobTargets, Uncovered, Targets, Acknowledged, Allocations, Certificate, Collectors, Collector, Drain, Release, Limits, Reports, Healthy, Live, Ready, Metrics, Reload, Quit}
+use Rattle.sd_routes.specs.declared.place.Place.TheVariants.{Status, ScrapeConfigs, Jobs, Job, JobTargets, Uncovered, Targets, Acknowledged, Allocations, Books, Certificate, Collectors, Collector, Drain, Release, Limits, Reports, Healthy, Live, Ready, Metrics, Reload, Quit}
 use Rattle.sd_routes.specs.declared.purpose.Purpose.{Purpose}
 use Rattle.sd_routes.specs.declared.purpose.Purpose.TheVariants.{Show, ShowHead, Change}
 
@@ -17,6 +17,7 @@ is_shown Uncovered = true
 is_shown Targets = true
 is_shown Acknowledged = true
 is_shown Allocations = true
+is_shown Books = true
 is_shown Certificate = true
 is_shown Collectors = true
 is_shown Collector = true
@@ -42,6 +43,7 @@ changed_by Uncovered = None
 changed_by Targets = None
 changed_by Acknowledged = None
 changed_by Allocations = None
+changed_by Books = None
 changed_by Certificate = None
 changed_by Collectors = Some (codes "POST")
 changed_by Collector = Some (codes "DELETE")

@@ -6,7 +6,7 @@ use Rattle.matchit.specs.Route.{parse_route, Scan}
 use Rattle.matchit.specs.Router.{RouteOf, route_from}
 use Rattle.matchit.specs.declared.error.InsertError.{InsertError}
 use Rattle.sd_routes.specs.declared.place.Place.{Place}
-use Rattle.sd_routes.specs.declared.place.Place.TheVariants.{Status, ScrapeConfigs, Jobs, Job, JobTargets, Uncovered, Targets, Acknowledged, Allocations, Certificate, Collectors, Collector, Drain, Release, Limits, Reports, Healthy, Live, Ready, Metrics, Reload, Quit}
+use Rattle.sd_routes.specs.declared.place.Place.TheVariants.{Status, ScrapeConfigs, Jobs, Job, JobTargets, Uncovered, Targets, Acknowledged, Allocations, Books, Certificate, Collectors, Collector, Drain, Release, Limits, Reports, Healthy, Live, Ready, Metrics, Reload, Quit}
 
 abbrev pub added : Result Scan InsertError → Place → RowsOf (RouteOf Place) → RowsOf (RouteOf Place)
 added (Ok scan) place rows = placed ((route_from scan place).pattern, route_from scan place) rows
@@ -36,8 +36,9 @@ desk_rows =
     (with_route (codes "/collectors/{id}") Collector
     (with_route (codes "/collectors") Collectors
     (with_route (codes "/certificate") Certificate
+    (with_route (codes "/books") Books
     (with_route (codes "/allocations") Allocations
-    (with_route (codes "/acknowledged") Acknowledged job_rows))))))))
+    (with_route (codes "/acknowledged") Acknowledged job_rows)))))))))
 
 unfoldable pub route_rows : RowsOf (RouteOf Place)
 route_rows =

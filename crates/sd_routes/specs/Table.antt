@@ -1,7 +1,7 @@
 -- The table of paths: which place each names.
 use Rattle.std.specs.Prelude.{ℕ, ◌==◌, ◌&&◌, ◌++◌, List, [], ◌∷◌, Bool, true, false, not, codes, Option, Some, None, if◌then◌else◌}
 use Rattle.sd_routes.specs.declared.place.Place.{Place}
-use Rattle.sd_routes.specs.declared.place.Place.TheVariants.{Status, ScrapeConfigs, Jobs, Job, JobTargets, Uncovered, Targets, Acknowledged, Allocations, Certificate, Collectors, Collector, Drain, Release, Limits, Reports, Healthy, Live, Ready, Metrics, Reload, Quit}
+use Rattle.sd_routes.specs.declared.place.Place.TheVariants.{Status, ScrapeConfigs, Jobs, Job, JobTargets, Uncovered, Targets, Acknowledged, Allocations, Books, Certificate, Collectors, Collector, Drain, Release, Limits, Reports, Healthy, Live, Ready, Metrics, Reload, Quit}
 
 -- in a route, what stands for one segment of a path. It is no byte
 abbrev pub segment : ℕ
@@ -19,6 +19,7 @@ table =
     ∷ (codes "/-/reload", Reload)
     ∷ (codes "/acknowledged", Acknowledged)
     ∷ (codes "/allocations", Allocations)
+    ∷ (codes "/books", Books)
     ∷ (codes "/certificate", Certificate)
     ∷ (codes "/collectors/" ++ segment ∷ codes "/drain", Drain)
     ∷ (codes "/collectors/" ++ segment ∷ codes "/limits", Limits)

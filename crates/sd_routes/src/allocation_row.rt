@@ -113,7 +113,7 @@ fn move_value(alloc: Global, row: &MoveRow) -> Result<Value, AllocError>
 }
 
 /// The name of a collector, or that there is none.
-fn name_or_null(alloc: Global, name: &Option<Text>) -> Result<Value, AllocError>
+pub(crate) fn name_or_null(alloc: Global, name: &Option<Text>) -> Result<Value, AllocError>
     ensures { IfOk result (λ v. view v ≡ holder_data name.now) }
 {
     match name {

@@ -1,6 +1,7 @@
 //! What a request asks for.
 use crate::acknowledgement::Acknowledgement;
 use crate::which_collector::WhichCollector;
+use fleet_events::Round;
 use lists::Text;
 use reach_rules::CollectorName;
 
@@ -36,6 +37,8 @@ pub enum Ask {
     },
     /// The allocations that were published last, and what moved with each from whom to whom.
     Allocations,
+    /// What was booked in the round of a number, or in the last one that is over.
+    Books(Option<Round>),
     /// The certificate of the last published allocation.
     Certificate,
     /// The live collectors.

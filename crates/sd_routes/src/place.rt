@@ -17,6 +17,7 @@ pub enum Place {
     Targets,
     Acknowledged,
     Allocations,
+    Books,
     Certificate,
     Collectors,
     Collector,
@@ -48,6 +49,7 @@ impl Place {
             | Place::Targets
             | Place::Acknowledged
             | Place::Allocations
+            | Place::Books
             | Place::Certificate
             | Place::Healthy
             | Place::Live
@@ -91,6 +93,7 @@ impl Place {
             | Place::Targets
             | Place::Acknowledged
             | Place::Allocations
+            | Place::Books
             | Place::Certificate
             | Place::Collectors
             | Place::Collector
@@ -121,6 +124,7 @@ impl Place {
             | Place::Targets
             | Place::Acknowledged
             | Place::Allocations
+            | Place::Books
             | Place::Certificate
             | Place::Healthy
             | Place::Live

@@ -33,6 +33,8 @@ pub enum RequestError {
     TooManyRules,
     /// A report is of another epoch.
     OtherEpoch,
+    /// The books have no such round.
+    UnknownRound,
     /// The body has more than 1,048,576 bytes.
     TooLong,
     /// The journal takes no further event.
@@ -49,7 +51,7 @@ impl RequestError {
         ensures { result ≡ status_of self }
     {
         match self {
-            RequestError::NoRoute => StatusCode::NOT_FOUND,
+            RequestError::NoRoute | RequestError::UnknownRound => StatusCode::NOT_FOUND,
             RequestError::Method(_) => StatusCode::METHOD_NOT_ALLOWED,
             RequestError::Host | RequestError::Origin => StatusCode::FORBIDDEN,
             RequestError::Token => StatusCode::UNAUTHORIZED,
@@ -83,6 +85,7 @@ impl RequestError {
             RequestError::BadName => "BadName",
             RequestError::TooManyRules => "TooManyRules",
             RequestError::OtherEpoch => "OtherEpoch",
+            RequestError::UnknownRound => "UnknownRound",
             RequestError::TooLong => "TooLong",
             RequestError::JournalFull => "JournalFull",
             RequestError::NotKept => "NotKept",

@@ -67,6 +67,7 @@ fn desk_router(alloc: Global) -> Result<Router<Place>, InsertError>
     let mut router = job_router(alloc)?;
     router.insert("/acknowledged", Place::Acknowledged)?;
     router.insert("/allocations", Place::Allocations)?;
+    router.insert("/books", Place::Books)?;
     router.insert("/certificate", Place::Certificate)?;
     router.insert("/collectors", Place::Collectors)?;
     router.insert("/collectors/{id}", Place::Collector)?;

@@ -3,7 +3,8 @@ ghost use Rattle.http_uri.specs.Uri.{uri_path, uri_query};
 ghost use Rattle.std.specs.Prelude.{◌≡◌, option_copied};
 ghost use Rattle.std.specs.Char.{is_ascii_digit};
 ghost use Rattle.std.specs.List.{list_all};
-ghost use Rattle.sd_routes.specs.Asks.{acknowledged_asked, asked, asked_at, collector_asked, collectors_asked, scrape_configs_asked, job_asked, job_targets_asked, held_asked, is_show, targets_asked, uncovered_asked, which_in, name_said};
+ghost use Rattle.sd_routes.specs.Asks.{acknowledged_asked, asked, asked_at, books_asked, books_numbered, collector_asked, collectors_asked, scrape_configs_asked, job_asked, job_targets_asked, held_asked, is_show, targets_asked, uncovered_asked, which_in, name_said};
+ghost use Rattle.sd_routes.specs.Decimals.{decimal_in};
 ghost use Rattle.sd_routes.specs.Gives.{Gives};
 
 use crate::acknowledgement::Acknowledgement;
@@ -59,6 +60,7 @@ fn ask_at(
         Place::Targets => targets(alloc, query),
         Place::Acknowledged => acknowledged(alloc, purpose, query),
         Place::Allocations => Ok(Ask::Allocations),
+        Place::Books => books(alloc, query),
         Place::Certificate => Ok(Ask::Certificate),
         Place::Collectors => Ok(collectors(purpose)),
         Place::Collector => collector(alloc, purpose, path),
@@ -148,6 +150,24 @@ fn targets(alloc: Global, query: Option<&str>) -> Result<Ask, RequestError>
         return Err(RequestError::Shape);
     }
     Ok(Ask::FindTargets(text))
+}
+
+fn books(alloc: Global, query: Option<&str>) -> Result<Ask, RequestError>
+    ensures { Gives result (books_asked (option_copied query.entry)) }
+{
+    match value_of(alloc, query, "round")? {
+        None => Ok(Ask::Books(None)),
+        Some(digits) => books_of(digits.as_str()),
+    }
+}
+
+fn books_of(digits: &str) -> Result<Ask, RequestError>
+    ensures { Gives result (books_numbered (decimal_in MOST_OF_32_BITS digits.now)) }
+{
+    match decimal_of_32_bits(digits.as_bytes()) {
+        Some(round) => Ok(Ask::Books(Some(round))),
+        None => Err(RequestError::Shape),
+    }
 }
 
 fn acknowledged(alloc: Global, purpose: Purpose, query: Option<&str>) -> Result<Ask, RequestError>

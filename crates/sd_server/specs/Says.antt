@@ -16,12 +16,14 @@ use Rattle.alloc_desk.specs.declared.view.NumberedTarget.{NumberedTarget}
 use Rattle.serde_json.specs.Written.{compact_text}
 use Rattle.json_values.specs.Spelling.{list_data}
 use Rattle.sd_routes.specs.AllocationPages.{allocation_data}
+use Rattle.sd_routes.specs.BooksPages.{books_data}
 use Rattle.sd_routes.specs.Changes.{change_event}
 use Rattle.sd_routes.specs.CollectorPages.{collector_data}
 use Rattle.sd_routes.specs.Events.{event_said}
 use Rattle.sd_routes.specs.FoundPages.{found_data}
 use Rattle.sd_routes.specs.JobPages.{job_row_data}
 use Rattle.sd_routes.specs.Pages.{uncovered_data}
+use Rattle.sd_routes.specs.declared.books_row.BooksRow.{BooksRow}
 use Rattle.sd_routes.specs.declared.change.Change.{Change}
 use Rattle.sd_routes.specs.declared.change.Change.TheVariants.{Release}
 use Rattle.sd_routes.specs.declared.change.Wanted.{Wanted}
@@ -36,10 +38,11 @@ use Rattle.sd_routes.specs.declared.ask.Ask.TheVariants as ask
 use Rattle.sd_routes.specs.declared.list_head.ListHead.{ListHead}
 use Rattle.sd_routes.specs.declared.notice.Notice.TheVariants.{Healthy, Broken, Ready, NotReady, Quitting, NoLifecycle}
 use Rattle.sd_routes.specs.declared.request_error.RequestError.{RequestError}
-use Rattle.sd_routes.specs.declared.request_error.RequestError.TheVariants.{NoRoute, Shape, JournalFull, NotKept, Memory}
+use Rattle.sd_routes.specs.declared.request_error.RequestError.TheVariants.{NoRoute, Shape, UnknownRound, JournalFull, NotKept, Memory}
 use Rattle.sd_routes.specs.declared.responding.Said.{Said}
 use Rattle.sd_routes.specs.declared.responding.Said.TheVariants.{Answer as Answered, Answers, Page, List as ListOf, Refused, Misshapen, Notice as Noticed, Metrics, Document, Reloaded, NotReloaded}
 use Rattle.service_pages.specs.declared.notes.AllocationNote.{AllocationNote}
+use Rattle.service_state.specs.Booked.{IsBooks}
 use Rattle.service_state.specs.Jobs.{place_of}
 use Rattle.sd_server.specs.Allocations.{allocation_row}
 use Rattle.sd_server.specs.Keeping.{FindsKept}
@@ -311,6 +314,25 @@ SaysAllocations (Page page) = IsAllocationsText page
 SaysAllocations (Refused error) = error ≡ Memory
 SaysAllocations _ = ⊥
 
+-- ---- what was booked
+
+-- the page of what some state has booked in the round that is asked for, or in the last one that is over
+abbrev pub IsBooksText : State → Option ℕ → List ℕ → Type 0
+IsBooksText opening asked text = (row : BooksRow) × OfSome opening (λ h. IsBooks h.state asked (Some row)) × (text ≡ compact_text (books_data row))
+
+-- why it is not told: some state has no such round, or memory ran out
+abbrev pub SaysNoBooks : State → Option ℕ → RequestError → Type 0
+SaysNoBooks opening asked UnknownRound = OfSome opening (λ h. IsBooks h.state asked None)
+SaysNoBooks opening asked Memory = Unit {0}
+SaysNoBooks opening asked _ = ⊥
+
+-- the same in JSON, or a page for people
+abbrev pub SaysBooks : State → Option ℕ → Said → Type 0
+SaysBooks opening asked (Page page) = IsBooksText opening asked page
+SaysBooks opening asked (Document text) = Unit {0}
+SaysBooks opening asked (Refused error) = SaysNoBooks opening asked error
+SaysBooks opening asked _ = ⊥
+
 -- ---- all of them
 
 -- what is told without an event of the body's
@@ -318,6 +340,7 @@ abbrev pub SaysPage : State → ConfigPages → Ask → Said → Type 0
 SaysPage opening pages (ask.ScrapeConfigs rules) said = SaysCopy (if rules then pages.as_read else pages.scrape_configs) said
 SaysPage opening pages ask.Jobs said = SaysCopy pages.jobs said
 SaysPage opening pages ask.Allocations said = SaysAllocations said
+SaysPage opening pages (ask.Books round) said = SaysBooks opening round said
 SaysPage opening pages ask.Certificate said = SaysText opening certificate_text said
 SaysPage opening pages ask.Healthy said = said ≡ Noticed Healthy
 SaysPage opening pages ask.Live said = SaysLive said

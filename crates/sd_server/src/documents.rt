@@ -32,6 +32,7 @@ impl<R: Wait + Clock + Copy, L: Ledger, B: Ledger, N: DeskName> Handler<R, L, B,
             Ask::Job(job) => Some(self.job_document(job.as_str())),
             Ask::Collector(which) => Some(self.collector_document(which)),
             Ask::FindTargets(text) => Some(self.found_document(text.as_str())),
+            Ask::Books(round) => Some(self.books_document(*round)),
             Ask::Status
             | Ask::ScrapeConfigs { rules: _ }
             | Ask::Jobs

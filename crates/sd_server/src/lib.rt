@@ -8,6 +8,7 @@
 mod accept;
 mod acknowledging;
 mod allocation_rows;
+mod booked;
 mod by_loops;
 mod certificate_page;
 mod collector_lists;

@@ -2,7 +2,7 @@
 use crate::configuration::ConfigurationFile;
 use crate::devices::Devices;
 use allocation_core::Core;
-use journal_files::{Fault, Journals, Opened, open_allocator};
+use journal_files::{Disk, Fault, Journals, Opened, open_allocator};
 use log::{error, info, warn};
 use logfmt::{Logfmt, Quoted};
 use service_tasks::{Journal, JournalFile, Service};
@@ -86,7 +86,7 @@ fn open_journals<R: Files<File = File> + AllocGlobal + Clock + Eprint + Copy + D
     alloc: Global,
     service: &Service,
     journal: &Option<String>,
-) -> Result<(Opened<File>, Journals<R>), Fault> {
+) -> Result<(Opened<Disk>, Journals<R>), Fault> {
     let opened = journals_at(rt, alloc, service, journal);
     if let (Err(Fault::Machine(error)), Some(path)) = (&opened, journal) {
         log_failure(rt, path.as_str(), error);
@@ -104,7 +104,7 @@ fn journals_at<R: Files<File = File> + AllocGlobal + Clock + Eprint + Copy + Dro
     alloc: Global,
     service: &Service,
     journal: &Option<String>,
-) -> Result<(Opened<File>, Journals<R>), Fault> {
+) -> Result<(Opened<Disk>, Journals<R>), Fault> {
     let path = copied(alloc, journal)?;
     let journals = Journals::open(*rt, alloc, path, Some(service.keep()))?;
     let round = service.scrape_interval();
@@ -129,7 +129,7 @@ fn serve_opened<R>(
     listener: TcpListener,
     device: Devices<R>,
     journals: &mut Journals<R>,
-    opened: Opened<File>,
+    opened: Opened<Disk>,
 ) -> io::Result<Core>
 where
     R: Wait

@@ -30,7 +30,7 @@ input,button{font:inherit;max-width:100%}
 ";
 
 const LINKS: &str =
-    "<nav><a href=\"/\">overview</a><a href=\"/jobs\">jobs</a><a href=\"/collectors\">collectors</a><a href=\"/scrape_configs\">scrape configs</a><a href=\"/scrape_configs?rules=true\">as read</a><a href=\"/allocations\">allocations</a><a href=\"/certificate\">certificate</a><a href=\"/metrics\">metrics</a><a href=\"/-/ready\">ready</a><a href=\"/livez\">live</a><a href=\"/-/healthy\">healthy</a></nav>\n";
+    "<nav><a href=\"/\">overview</a><a href=\"/jobs\">jobs</a><a href=\"/collectors\">collectors</a><a href=\"/scrape_configs\">scrape configs</a><a href=\"/scrape_configs?rules=true\">as read</a><a href=\"/allocations\">allocations</a><a href=\"/books\">books</a><a href=\"/certificate\">certificate</a><a href=\"/metrics\">metrics</a><a href=\"/-/ready\">ready</a><a href=\"/livez\">live</a><a href=\"/-/healthy\">healthy</a></nav>\n";
 
 /// Begins a page, as far as its title, which begins with the program's name.
 pub(crate) fn begin_title(page: &mut Hypertext) -> Result<(), AllocError> {

@@ -1,4 +1,4 @@
-//! The pages for people of a service, of its jobs, collectors and targets, made of what the service shows of itself: no lock, no desk, no clock.
+//! The pages for people of a service, of its jobs, collectors, targets and books, made of what the service shows of itself: no lock, no desk, no clock.
 //!
 //! Contracts say what is counted: how many targets have no collector, how many sources fail, how many collectors are behind, how many
 //! things need attention, how many targets have no row, and how many that moved are told in no row. How a text from outside is shown is `hypertext`'s.
@@ -6,6 +6,7 @@
 
 mod allocations;
 mod attention;
+mod books_page;
 mod cells;
 mod collector_page;
 mod collectors;
@@ -26,6 +27,7 @@ mod sources;
 mod standing;
 mod targets;
 
+pub use books_page::{BookLine, Reporter, ShownBooks, books_document};
 pub use collector_page::{ShownCollector, collector_document};
 pub use counted::Counted;
 pub use figures::{CollectorFigures, Figures, JobFigures, ShareFigures};

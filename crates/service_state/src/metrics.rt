@@ -304,7 +304,8 @@ fn write_missing(
         "Targets in the last lists of collectors of which the last round has no report.",
     )?;
     for (place, job) in jobs.iter().enumerate() {
-        let count = u128::from(books.of_job(place, job.name.as_str()).missing);
+        let missing = books.of_job(place, job.name.as_str()).missing.unwrap_or(0);
+        let count = u128::from(missing);
         page.labelled_sample(name, "job", job.name.as_str(), count)?;
     }
     Ok(())

@@ -29,6 +29,7 @@ pub enum Route {
     Collector,
     Job,
     Allocations,
+    Books,
     /// What has no route.
     NoRoute,
 }
@@ -63,6 +64,7 @@ pub(crate) const ROUTES: [Route; ROUTE_COUNT] = [
     Route::Collector,
     Route::Job,
     Route::Allocations,
+    Route::Books,
     Route::NoRoute,
 ];
 
@@ -103,6 +105,7 @@ impl Route {
             Route::Collector => "/collectors/{id}",
             Route::Job => "/jobs/{job}",
             Route::Allocations => "/allocations",
+            Route::Books => "/books",
             Route::NoRoute => "none",
         }
     }
@@ -118,6 +121,7 @@ fn asked(ask: &Ask) -> Route {
         Ask::Uncovered(_) => Route::Uncovered,
         Ask::Acknowledged { .. } => Route::Acknowledged,
         Ask::Allocations => Route::Allocations,
+        Ask::Books(_) => Route::Books,
         Ask::Certificate => Route::Certificate,
         Ask::Join => Route::Join,
         Ask::Leave(_) => Route::Leave,

@@ -1,10 +1,7 @@
 //! The file of a journal.
-use durable_journal::{Begun, Lines, append};
+use durable_journal::{Begun, Device, Lines, append};
 use sealed_lines::Chain;
-use std::fs::OpenFile;
 use std::io;
-use std::io::Write;
-use std::os::unix::fs::MetadataExt;
 
 /// How many bytes a journal may have before another one begins: 48 MiB, a quarter less than `allocd replay` reads.
 const MOST_GROWN: u64 = 50_331_648;
@@ -52,12 +49,10 @@ impl<F> JournalFile<F> {
     }
 }
 
-impl<F: Write + OpenFile> JournalFile<F> {
-    /// Writes lines behind those that are there, and has the device keep them. A file that no folder has any more keeps nothing.
+impl<F: Device> JournalFile<F> {
+    /// Writes lines behind those that are there, and has the device keep them.
     pub(crate) fn append(&mut self, lines: &Lines) -> io::Result<()> {
-        if self.file.metadata()?.nlink() == 0 {
-            return Err(io::ErrorKind::NotFound.into());
-        }
+        self.file.check()?;
         append(&mut self.file, lines.bytes.as_slice())?;
         self.grown = self.grown.saturating_add(lines.bytes.len() as u64);
         self.chain = lines.chain;

@@ -3,11 +3,9 @@ use crate::journal_file::JournalFile;
 use crate::logging::{log_error_of, log_warning};
 use crate::shared::Shared;
 use alloc_desk::{DeskName, Pass};
-use durable_journal::{Lines, journal_lines};
+use durable_journal::{Device, Lines, journal_lines};
 use service_state::Kept;
 use std::alloc::AllocError;
-use std::fs::OpenFile;
-use std::io::Write;
 use std::sync::Wait;
 use std::sync::atomic::{AtomicBool, Ordering};
 use std::sync::ledger::Ledger;
@@ -40,7 +38,7 @@ struct News {
 
 impl<R: Wait + Clock + Eprint + Copy, L: Ledger, B: Ledger, N: DeskName> Shared<R, L, B, N> {
     /// Keeps the journal, where there is a file for it, until all others have ended.
-    pub fn keep<F: Write + OpenFile>(
+    pub fn keep<F: Device>(
         &self,
         pass: &mut Pass<L, B, N>,
         file: &mut Option<JournalFile<F>>,
@@ -60,7 +58,7 @@ impl<R: Wait + Clock + Eprint + Copy, L: Ledger, B: Ledger, N: DeskName> Shared<
     }
 
     /// Writes what is new in the journal, until all others have ended or the device fails. What finds no memory is tried again.
-    fn keep_journal<F: Write + OpenFile>(&self, keeper: &mut Keeper<'_, L, B, N, F>) {
+    fn keep_journal<F: Device>(&self, keeper: &mut Keeper<'_, L, B, N, F>) {
         let mut written = 0;
         for _ in self.rt.forever() {
             let is_last = keeper.is_last.load(Ordering::SeqCst);
@@ -97,7 +95,7 @@ impl<R: Wait + Clock + Eprint + Copy, L: Ledger, B: Ledger, N: DeskName> Shared<
     }
 
     /// Writes the lines of the entries from a position on, and says how many those are.
-    fn keep_news<F: Write + OpenFile>(
+    fn keep_news<F: Device>(
         &self,
         keeper: &mut Keeper<'_, L, B, N, F>,
         from: usize,
@@ -114,7 +112,7 @@ impl<R: Wait + Clock + Eprint + Copy, L: Ledger, B: Ledger, N: DeskName> Shared<
     }
 
     /// Writes lines, if there are some.
-    fn write_lines<F: Write + OpenFile>(
+    fn write_lines<F: Device>(
         &self,
         keeper: &mut Keeper<'_, L, B, N, F>,
         lines: &Lines,
@@ -128,7 +126,7 @@ impl<R: Wait + Clock + Eprint + Copy, L: Ledger, B: Ledger, N: DeskName> Shared<
     }
 
     /// Appends lines, and tells how long that took.
-    fn append<F: Write + OpenFile>(
+    fn append<F: Device>(
         &self,
         keeper: &mut Keeper<'_, L, B, N, F>,
         lines: &Lines,

@@ -14,3 +14,7 @@ returns-in-Collector g c = rw c.in-Collector.is (0, inl c.collector_document.ens
 pub returns-in-FindTargets : goal.returns-in-FindTargets
 unfolding SaysIn
 returns-in-FindTargets g c = rw c.in-FindTargets.is (0, inl c.found_document.ensures)
+
+pub returns-in-Books : goal.returns-in-Books
+unfolding SaysIn
+returns-in-Books g c = rw c.in-Books.is (0, inl c.books_document.ensures)

@@ -1,0 +1,145 @@
+//! The command: what its configuration asks for, and what it tells of it.
+use crate::fault::Fault;
+use crate::places::{Places, places_at};
+use crate::running::run;
+use crate::state_file::memory_at;
+use agent_core::Memory;
+use log::error;
+use log_queue::LogQueue;
+use logfmt::Logfmt;
+use scrape_client::Lookups;
+use service_settings::Address;
+use std::alloc::AllocGlobal;
+use std::fs::File;
+use std::io;
+use std::net::{Ipv4Addr, Net, SocketAddr, TcpListener, TcpStream};
+use std::process::ExitCode;
+use std::random::RandomSource;
+use std::rt::Files;
+use std::sync::Wait;
+use std::thread::Threads;
+use std::time::{Clock, Duration};
+
+/// The status where the agent is not told what to do.
+const UNREADABLE: u8 = 2;
+
+/// The status where the machine failed.
+const MACHINE: u8 = 3;
+
+/// How long the end waits for the last lines to be read, in milliseconds.
+const LAST_LINES: u64 = 1_000;
+
+/// Does what the configuration at a path asks for, and gives the exit status: 2 where the agent is not told what to do, 3 where the machine failed
+/// it. What is logged is written to `queued`, a handle whose standard error is the queue. The last fault is told past that, by `rt`, if somebody has
+/// read all before.
+pub fn agent<R, Q>(
+    rt: &R,
+    queued: &Q,
+    lookups: &Lookups,
+    config: &str,
+    queue: &LogQueue,
+) -> ExitCode
+where
+    R: Wait + Clock + Eprint + Copy,
+    Q: Wait
+        + Threads
+        + Clock
+        + Net<Listener = TcpListener, Stream = TcpStream>
+        + Files<File = File>
+        + RandomSource
+        + AllocGlobal
+        + Eprint
+        + Sync
+        + Send
+        + Copy
+        + Drop,
+{
+    let ended = run_at(queued, lookups, config);
+    let is_read = queue.close(rt, Duration::from_millis(LAST_LINES));
+    match ended {
+        Ok(()) => ExitCode::from(0),
+        Err(fault) => {
+            if is_read {
+                tell(rt, &fault);
+            }
+            status_of(&fault)
+        }
+    }
+}
+
+/// Tells a fault on standard error.
+fn tell<R: Eprint + Clock + Copy>(rt: &R, fault: &Fault) {
+    match fault {
+        Fault::Told(line) => {
+            // Nobody can be told that a line was not written.
+            let _ = rt.eprintln(line.as_str());
+        }
+        Fault::Machine(error) => log_failure(rt, error),
+    }
+}
+
+fn status_of(fault: &Fault) -> ExitCode {
+    match fault {
+        Fault::Told(_) => ExitCode::from(UNREADABLE),
+        Fault::Machine(_) => ExitCode::from(MACHINE),
+    }
+}
+
+fn log_failure<R: Eprint + Clock + Copy>(rt: &R, error: &io::Error) {
+    error!(Logfmt(*rt); "the agent ended: {error}");
+}
+
+/// Runs the agent of a configuration.
+fn run_at<R>(rt: &R, lookups: &Lookups, config: &str) -> Result<(), Fault>
+where
+    R: Wait
+        + Threads
+        + Clock
+        + Net<Listener = TcpListener, Stream = TcpStream>
+        + Files<File = File>
+        + RandomSource
+        + AllocGlobal
+        + Eprint
+        + Sync
+        + Send
+        + Copy
+        + Drop,
+{
+    let places = places_at(rt, config)?;
+    match begun(rt, &places) {
+        Ok((listener, memory)) => Ok(run(rt, lookups, &listener, &places, memory)?),
+        Err(fault) => Err(fault),
+    }
+}
+
+/// The listener, and what the state file says.
+fn begun<R>(rt: &R, places: &Places) -> Result<(TcpListener, Memory), Fault>
+where
+    R: Net<Listener = TcpListener, Stream = TcpStream>
+        + Files<File = File>
+        + Clock
+        + AllocGlobal
+        + Eprint
+        + Copy,
+{
+    let here = socket_of(places.listen);
+    match TcpListener::bind(rt, here) {
+        Ok(listener) => {
+            let memory = memory_at(rt, places.state.as_str())?;
+            Ok((listener, memory))
+        }
+        Err(error) => {
+            log_unheard(rt, here, &error);
+            Err(Fault::Machine(error))
+        }
+    }
+}
+
+fn log_unheard<R: Clock + Eprint + Copy>(rt: &R, here: SocketAddr, error: &io::Error) {
+    error!(Logfmt(*rt); address:% = here; "nothing can listen there: {error}");
+}
+
+fn socket_of(address: Address) -> SocketAddr {
+    let [a, b, c, d] = address.octets;
+    SocketAddr::from((Ipv4Addr::new(a, b, c, d), address.port))
+}

@@ -1,0 +1,147 @@
+//! The two threads of an agent.
+use crate::edge::Edge;
+use crate::places::Places;
+use agent_core::{Agent, Memory};
+use agent_lists::{Shelf, serve_lists};
+use agent_turns::turn;
+use event_loops::{Gate, Times};
+use log::{error, info};
+use logfmt::Logfmt;
+use scrape_client::Lookups;
+use std::alloc::{AllocError, AllocGlobal};
+use std::fs::File;
+use std::net::{Net, SocketAddr, TcpListener, TcpStream};
+use std::random::RandomSource;
+use std::rt::Files;
+use std::sync::atomic::{AtomicBool, Ordering};
+use std::sync::{Arc, Wait};
+use std::thread::Threads;
+use std::time::{Clock, Duration};
+use std::{io, thread};
+
+/// How many connections its Prometheus may have at once.
+const CONNECTIONS: u32 = 256;
+
+/// A turn is made so often in a round.
+const TURNS: u64 = 5;
+
+/// And so long behind the one before at least and at most, in milliseconds.
+const LEAST_PAUSE: u64 = 1_000;
+
+const MOST_PAUSE: u64 = 15_000;
+
+/// Makes turns and serves the lists, until nobody can listen any more.
+pub(crate) fn run<R>(
+    rt: &R,
+    lookups: &Lookups,
+    listener: &TcpListener,
+    places: &Places,
+    memory: Memory,
+) -> io::Result<()>
+where
+    R: Wait
+        + Threads
+        + Clock
+        + Net<Listener = TcpListener, Stream = TcpStream>
+        + Files<File = File>
+        + RandomSource
+        + AllocGlobal
+        + Eprint
+        + Sync
+        + Send
+        + Copy
+        + Drop,
+{
+    let gate = Gate::new(rt.alloc(), CONNECTIONS, Times::DEFAULT)?;
+    let shelf = shelf_of(rt)?;
+    let is_over = AtomicBool::new(false);
+    let mut agent = Agent::new(rt.alloc(), memory, places.lease);
+    log_address(rt, listener);
+    let ((), served) = thread::join(
+        rt,
+        || make_turns(rt, lookups, &shelf, places, &mut agent, &is_over),
+        || serve_then_stop(rt, &gate, listener, &shelf, &is_over),
+    );
+    served
+}
+
+/// Serves the lists as long as that goes, and has the turns end.
+fn serve_then_stop<R>(
+    rt: &R,
+    gate: &Gate,
+    listener: &TcpListener,
+    shelf: &Arc<Shelf>,
+    is_over: &AtomicBool,
+) -> io::Result<()>
+where
+    R: Wait
+        + Clock
+        + Net<Listener = TcpListener, Stream = TcpStream>
+        + RandomSource
+        + AllocGlobal
+        + Copy
+        + Drop,
+{
+    let served = serve_lists(rt, gate, listener, shelf);
+    is_over.store(true, Ordering::SeqCst);
+    served
+}
+
+fn shelf_of<R: AllocGlobal>(rt: &R) -> Result<Arc<Shelf>, AllocError> {
+    Ok(Arc::new(rt.alloc(), Shelf::new(rt.alloc()))?)
+}
+
+/// Makes one turn after the other.
+fn make_turns<R>(
+    rt: &R,
+    lookups: &Lookups,
+    shelf: &Shelf,
+    places: &Places,
+    agent: &mut Agent,
+    is_over: &AtomicBool,
+)
+where
+    R: Wait
+        + Clock
+        + Net<Listener = TcpListener, Stream = TcpStream>
+        + Files<File = File>
+        + RandomSource
+        + AllocGlobal
+        + Eprint
+        + Copy
+        + Drop,
+{
+    let mut edge = Edge::new(rt, lookups, shelf, places);
+    for _ in rt.forever() {
+        if is_over.load(Ordering::SeqCst) {
+            return;
+        }
+        if turn(rt.alloc(), agent, &mut edge).is_err() {
+            log_memory(rt);
+        }
+        thread::sleep(
+            rt,
+            Duration::from_millis(pause_of(edge.round.load(Ordering::SeqCst))),
+        );
+    }
+    unreachable!()
+}
+
+/// How long is waited between two turns, where a round is so long.
+fn pause_of(round: u64) -> u64 {
+    (round / TURNS).max(LEAST_PAUSE).min(MOST_PAUSE)
+}
+
+fn log_address<R: Clock + Eprint + Copy>(rt: &R, listener: &TcpListener) {
+    if let Ok(here) = listener.local_addr() {
+        log_here(rt, here);
+    }
+}
+
+fn log_here<R: Clock + Eprint + Copy>(rt: &R, here: SocketAddr) {
+    info!(Logfmt(*rt); address:% = here; "listening");
+}
+
+fn log_memory<R: Clock + Eprint + Copy>(rt: &R) {
+    error!(Logfmt(*rt); "no memory was left for a turn");
+}

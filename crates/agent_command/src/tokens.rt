@@ -1,0 +1,93 @@
+//! The tokens that an agent shows.
+use crate::fault::Fault;
+use agent_settings::Tokens;
+use lists::Text;
+use std::alloc::{AllocError, AllocGlobal};
+use std::fs::File;
+use std::io;
+use std::io::Read;
+use std::os::unix::fs::PermissionsExt;
+use std::rt::Files;
+
+/// The most bytes of a file of a token.
+const LONGEST_TOKEN: u64 = 65_536;
+
+/// The bits of a file's mode by which others than its owner may do something.
+const OTHERS: u32 = 0o077;
+
+/// What an agent shows as `authorization`, each nothing where no file is named.
+#[derive(Drop)]
+pub(crate) struct Keys {
+    pub(crate) allocator: Option<Text>,
+    pub(crate) admin: Option<Text>,
+    pub(crate) prometheus: Option<Text>,
+}
+
+/// The tokens of the files that a configuration at a path names.
+pub(crate) fn keys_at<R: Files<File = File> + AllocGlobal>(
+    rt: &R,
+    path: &str,
+    tokens: &Tokens,
+) -> Result<Keys, Fault> {
+    let allocator = key_at(rt, path, "allocator", &tokens.allocator)?;
+    let admin = key_at(rt, path, "admin", &tokens.admin)?;
+    let prometheus = key_at(rt, path, "prometheus", &tokens.prometheus)?;
+    Ok(Keys {
+        allocator,
+        admin,
+        prometheus,
+    })
+}
+
+fn key_at<R: Files<File = File> + AllocGlobal>(
+    rt: &R,
+    path: &str,
+    member: &str,
+    file: &Option<Text>,
+) -> Result<Option<Text>, Fault> {
+    let Some(file) = file else {
+        return Ok(None);
+    };
+    let file = file.as_str();
+    match text_at(rt, file) {
+        Ok(Some(text)) => Ok(Some(key_in(rt, text.as_str())?)),
+        Ok(None) => told(
+            rt,
+            path,
+            member,
+            file,
+            "others may read or write it: chmod 600 it",
+        ),
+        Err(error) => {
+            let why = format!(in rt.alloc(); "{error}")?;
+            told(rt, path, member, file, why.as_str())
+        }
+    }
+}
+
+fn told<R: AllocGlobal, T>(
+    rt: &R,
+    path: &str,
+    member: &str,
+    file: &str,
+    why: &str,
+) -> Result<T, Fault> {
+    Err(Fault::Told(format!(in rt.alloc(); "{path}: tokens.{member}: {file}: {why}")?))
+}
+
+/// What is shown of a file's text: what stands in it, without the blanks around.
+fn key_in<R: AllocGlobal>(rt: &R, text: &str) -> Result<Text, AllocError> {
+    let token = text.trim();
+    Ok(Text::from_string(format!(in rt.alloc(); "Bearer {token}")?))
+}
+
+/// The text of a file that nobody but its owner may read.
+fn text_at<R: Files<File = File> + AllocGlobal>(rt: &R, path: &str) -> io::Result<Option<String>> {
+    let file = File::open(rt, path)?;
+    if file.metadata()?.permissions().mode() & OTHERS != 0 {
+        return Ok(None);
+    }
+    let mut text = String::new(rt.alloc());
+    file.take(LONGEST_TOKEN).read_to_string(&mut text)?;
+    Ok(Some(text))
+}

@@ -1,0 +1,5 @@
+pub mod Gathering
+pub mod Paths
+pub mod Posted
+pub mod Reports
+pub mod Saying

@@ -1,0 +1,279 @@
+//! Any request over a connection of its own, as a future.
+ghost use Rattle.std.specs.Prelude.{IfErr, IfOk, IfSome, OnErr};
+ghost use Rattle.futures.specs.Task.{IsArmed, Keeps};
+ghost use Rattle.futures.specs.Poll.{OnPending};
+
+use crate::ask::{Answer, Ask, Method};
+use crate::faults::{http_cause, hyper_cause, io_cause};
+use bytes::Bytes;
+use futures::Future;
+use futures::task::{Context, Poll};
+use http::Response;
+use http::request::Builder;
+use http::response::Parts;
+use http_body_util::combinators::Collect;
+use http_body_util::{BodyExt, Collected, Full, Limited, LimitedError};
+use http_get::Cause;
+use hyper::body::Incoming;
+use hyper::client::conn::http1::{Connection, ResponseFuture, handshake};
+use hyper::{Request, header};
+use lists::List;
+use std::alloc::{AllocError, AllocGlobal, Global};
+use std::hash::RandomState;
+use std::net::{Net, SocketAddr};
+use std::random::RandomSource;
+use tokio::net::{ConnectFuture, TcpStream};
+use tokio::reactor::Handle;
+
+/// How far an exchange is.
+#[derive(Drop)]
+enum Stage {
+    Connecting(ConnectFuture, RandomState, Request<Full<Bytes>>),
+    Asking(ResponseFuture<TcpStream>),
+    /// The body is read of an answer with this head.
+    Reading(Parts),
+    Over,
+}
+
+/// One request over a new connection, from the connecting to the end of the body.
+#[derive(Drop)]
+pub(crate) struct AskExchange {
+    alloc: Global,
+    stage: Stage,
+    /// The connection, which is driven beside what is asked over it, until it ends.
+    line: Option<Connection<TcpStream, Full<Bytes>>>,
+    body: Option<Collect<Limited<Incoming<TcpStream>>>>,
+    /// The most bytes of the body.
+    longest: usize,
+}
+
+impl AskExchange {
+    /// Begins to connect.
+    pub(crate) fn begin<R: Net + RandomSource + AllocGlobal>(
+        rt: &R,
+        reactor: &Handle,
+        address: SocketAddr,
+        ask: &Ask<'_>,
+    ) -> Result<AskExchange, Cause>
+        ensures { IfOk result ⟦<AskExchange as Future>⟧.can_poll }
+    {
+        let alloc = rt.alloc();
+        let request = request_for(alloc, ask)?;
+        let Ok(keys) = RandomState::new(rt) else {
+            return Err(Cause::Broken);
+        };
+        let connect = TcpStream::connect(rt, address, reactor);
+        Ok(AskExchange {
+            alloc,
+            stage: Stage::Connecting(connect, keys, request),
+            line: None,
+            body: None,
+            longest: ask.longest,
+        })
+    }
+
+    fn poll_connecting(
+        &mut self,
+        connect: ConnectFuture,
+        keys: RandomState,
+        request: Request<Full<Bytes>>,
+        cx: &mut Context<'_>,
+    ) -> Poll<Result<Answer, Cause>>
+        requires { ⟦<AskExchange as Future>⟧.can_poll self.old }
+        ensures again { OnPending result (⟦<AskExchange as Future>⟧.can_poll self.new) }
+        ensures armed { OnPending result (IsArmed cx.new) }
+        ensures kept { Keeps cx.old cx.new }
+    {
+        let mut connect = connect;
+        match connect.poll(cx) {
+            Poll::Ready(Ok(socket)) => self.ask(socket, keys, request, cx),
+            Poll::Ready(Err(e)) => Poll::Ready(Err(io_cause(&e))),
+            Poll::Pending => {
+                self.stage = Stage::Connecting(connect, keys, request);
+                Poll::Pending
+            }
+        }
+    }
+
+    /// Asks over a connection that stands.
+    fn ask(
+        &mut self,
+        socket: TcpStream,
+        keys: RandomState,
+        request: Request<Full<Bytes>>,
+        cx: &mut Context<'_>,
+    ) -> Poll<Result<Answer, Cause>>
+        requires { ⟦<AskExchange as Future>⟧.can_poll self.old }
+        ensures again { OnPending result (⟦<AskExchange as Future>⟧.can_poll self.new) }
+        ensures armed { OnPending result (IsArmed cx.new) }
+        ensures kept { Keeps cx.old cx.new }
+    {
+        match handshake(self.alloc, keys, socket) {
+            Ok((mut sender, line)) => {
+                self.stage = Stage::Asking(sender.send_request(request));
+                self.line = Some(line);
+                cx.yield_now()
+            }
+            Err(e) => Poll::Ready(Err(hyper_cause(&e))),
+        }
+    }
+
+    fn poll_asking(
+        &mut self,
+        asked: ResponseFuture<TcpStream>,
+        cx: &mut Context<'_>,
+    ) -> Poll<Result<Answer, Cause>>
+        requires { ⟦<AskExchange as Future>⟧.can_poll self.old }
+        ensures again { OnPending result (⟦<AskExchange as Future>⟧.can_poll self.new) }
+        ensures armed { OnPending result (IsArmed cx.new) }
+        ensures kept { Keeps cx.old cx.new }
+    {
+        let mut asked = asked;
+        match asked.poll(cx) {
+            Poll::Ready(Ok(response)) => {
+                self.read(response);
+                cx.yield_now()
+            }
+            Poll::Ready(Err(e)) => Poll::Ready(Err(hyper_cause(&e))),
+            Poll::Pending => {
+                self.stage = Stage::Asking(asked);
+                Poll::Pending
+            }
+        }
+    }
+
+    /// Begins to read the body of a response.
+    fn read(&mut self, response: Response<Incoming<TcpStream>>)
+        requires { ⟦<AskExchange as Future>⟧.can_poll self.old }
+        ensures { ⟦<AskExchange as Future>⟧.can_poll self.new }
+    {
+        let (head, body) = response.into_parts();
+        self.stage = Stage::Reading(head);
+        self.body = Some(Limited::new(body, self.longest).collect(self.alloc));
+    }
+
+    fn poll_reading(&mut self, head: Parts, cx: &mut Context<'_>) -> Poll<Result<Answer, Cause>>
+        requires { ⟦<AskExchange as Future>⟧.can_poll self.old }
+        ensures again { OnPending result (⟦<AskExchange as Future>⟧.can_poll self.new) }
+        ensures armed { OnPending result (IsArmed cx.new) }
+        ensures kept { Keeps cx.old cx.new }
+    {
+        let Some(body) = self.body.take() else {
+            return Poll::Ready(Err(Cause::Broken));
+        };
+        match polled(body, cx) {
+            Ok(Ok(all)) => Poll::Ready(answer_of(self.alloc, head, all)),
+            Ok(Err(LimitedError::LengthLimit)) => Poll::Ready(Err(Cause::TooLong)),
+            Ok(Err(LimitedError::Body(e))) => Poll::Ready(Err(hyper_cause(&e))),
+            Err(body) => {
+                self.stage = Stage::Reading(head);
+                self.body = Some(body);
+                Poll::Pending
+            }
+        }
+    }
+
+    /// Drives the connection as far as it goes at once.
+    fn drive(&mut self, cx: &mut Context<'_>)
+        requires { ⟦<AskExchange as Future>⟧.can_poll self.old }
+        ensures again { ⟦<AskExchange as Future>⟧.can_poll self.new }
+        ensures kept { Keeps cx.old cx.new }
+    {
+        if let Some(line) = self.line.take() {
+            match polled(line, cx) {
+                Ok(_ended) => {}
+                Err(line) => self.line = Some(line),
+            }
+        }
+    }
+}
+
+impl Future for AskExchange {
+    ghost use Rattle.std.specs.Prelude.{IfSome, IsSome};
+
+    type Output = Result<Answer, Cause>;
+
+    ghost can_poll = { λ e. IfSome e.line ⟦<Connection<TcpStream, Full<Bytes>> as Future>⟧.can_poll × IfSome e.body (λ c. IsSome c.collected) };
+
+    fn poll(&mut self, cx: &mut Context<'_>) -> Poll<Result<Answer, Cause>> {
+        self.drive(cx);
+        match std::mem::replace(&mut self.stage, Stage::Over) {
+            Stage::Connecting(connect, keys, request) => {
+                self.poll_connecting(connect, keys, request, cx)
+            }
+            Stage::Asking(asked) => self.poll_asking(asked, cx),
+            Stage::Reading(head) => self.poll_reading(head, cx),
+            Stage::Over => Poll::Ready(Err(Cause::Broken)),
+        }
+    }
+}
+
+/// What a future gives, or the future, where it gives nothing yet.
+fn polled<F: Future>(future: F, cx: &mut Context<'_>) -> Result<F::Output, F>
+    requires { F.can_poll future }
+    ensures again { IfErr result F.can_poll }
+    ensures armed { OnErr result (IsArmed cx.new) }
+    ensures kept { Keeps cx.old cx.new }
+{
+    let mut future = future;
+    match future.poll(cx) {
+        Poll::Ready(output) => Ok(output),
+        Poll::Pending => Err(future),
+    }
+}
+
+fn request_for(alloc: Global, ask: &Ask<'_>) -> Result<Request<Full<Bytes>>, Cause> {
+    let body = match Bytes::copy_from_slice(alloc, ask.body) {
+        Ok(body) => body,
+        Err(AllocError) => return Err(Cause::Memory),
+    };
+    head_for(alloc, ask)
+        .body(Full::new(body))
+        .map_err(|e| http_cause(&e))
+}
+
+fn head_for(alloc: Global, ask: &Ask<'_>) -> Builder {
+    let builder = match ask.method {
+        Method::Get => Request::get(alloc, ask.path),
+        Method::Post => Request::post(alloc, ask.path),
+    };
+    let mut builder = builder.header(header::HOST, ask.address);
+    for (name, value) in ask.headers {
+        builder = builder.header(*name, *value);
+    }
+    builder
+}
+
+/// The answer, where its body is not encoded.
+fn answer_of(alloc: Global, head: Parts, all: Collected) -> Result<Answer, Cause> {
+    if is_encoded(&head) {
+        return Err(Cause::Encoded);
+    }
+    match copied(alloc, all) {
+        Ok(body) => {
+            let Parts {
+                status,
+                headers,
+                ..
+            } = head;
+            Ok(Answer {
+                status: status.as_u16(),
+                headers,
+                body,
+            })
+        }
+        Err(AllocError) => Err(Cause::Memory),
+    }
+}
+
+fn is_encoded(head: &Parts) -> bool {
+    match head.headers.get(header::CONTENT_ENCODING) {
+        Some(coding) => !coding.as_bytes().eq_ignore_ascii_case(b"identity"),
+        None => false,
+    }
+}
+
+fn copied(alloc: Global, all: Collected) -> Result<List<u8>, AllocError> {
+    let bytes = all.to_bytes()?;
+    Ok(List::from_vec(bytes.as_slice().to_vec(alloc)?))
+}

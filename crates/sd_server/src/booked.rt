@@ -1,0 +1,106 @@
+//! What is told of a round that was booked.
+ghost use Rattle.std.specs.Prelude.{IfOk, Some};
+ghost use Rattle.service_state.specs.Booked.{IsBooks};
+ghost use Rattle.sd_server.specs.Says.{OfSome, SaysBooks};
+
+use crate::handler::Handler;
+use alloc_desk::DeskName;
+use fleet_events::Round;
+use lists::Text;
+use sd_routes::{BookCounts, BooksRow, JobBooks, RequestError, Said, books_page};
+use service_pages::{BookLine, Reporter, ShownBooks, books_document};
+use service_state::books_asked;
+use std::alloc::{AllocError, Global};
+use std::sync::Wait;
+use std::sync::ledger::Ledger;
+use std::time::Clock;
+
+impl<R: Wait + Clock + Copy, L: Ledger, B: Ledger, N: DeskName> Handler<R, L, B, N> {
+    /// What was booked in the round that is asked for, or in the last one that is over.
+    pub(crate) fn books(&self, asked: Option<Round>) -> Said
+        ensures { SaysBooks N.opening asked result }
+    {
+        match self.books_asked(asked) {
+            Ok(Some(row)) => self.books_told(asked, &row),
+            Ok(None) => Said::Refused(RequestError::UnknownRound),
+            Err(_) => Said::Refused(RequestError::Memory),
+        }
+    }
+
+    fn books_told(&self, asked: Option<Round>, row: &BooksRow) -> Said
+        requires { OfSome N.opening (λ h. IsBooks h.state asked (Some row.now)) }
+        ensures { SaysBooks N.opening asked result }
+    {
+        match books_page(self.alloc, row) {
+            Ok(text) => Said::Page(text),
+            Err(_) => Said::Refused(RequestError::Memory),
+        }
+    }
+
+    fn books_asked(&self, asked: Option<Round>) -> Result<Option<BooksRow>, AllocError>
+        ensures { IfOk result (λ found. OfSome N.opening (λ h. IsBooks h.state asked found)) }
+    {
+        let mut pass = self.pass.lock(&self.rt);
+        self.desk.read(
+            &self.rt,
+            &mut *pass,
+            |record| books_asked(self.alloc, record.core(), asked),
+        )
+    }
+
+    /// The page of it for people.
+    pub(crate) fn books_document(&self, asked: Option<Round>) -> Said
+        ensures { SaysBooks N.opening asked result }
+    {
+        match self.books_asked(asked) {
+            Ok(Some(row)) => match self.books_document_text(&row) {
+                Ok(text) => Said::Document(text),
+                Err(_) => Said::Refused(RequestError::Memory),
+            },
+            Ok(None) => Said::Refused(RequestError::UnknownRound),
+            Err(_) => Said::Refused(RequestError::Memory),
+        }
+    }
+
+    fn books_document_text(&self, row: &BooksRow) -> Result<Text, AllocError> {
+        let lines = lines_of(self.alloc, row.jobs.as_slice())?;
+        let shown = ShownBooks {
+            round: row.round,
+            open: row.open_round,
+            lines: lines.as_slice(),
+        };
+        books_document(self.alloc, &shown)
+    }
+}
+
+/// A line for each job, with one for each of its collectors behind it.
+fn lines_of(alloc: Global, jobs: &[JobBooks]) -> Result<Vec<BookLine<'_>>, AllocError> {
+    let mut lines = Vec::new(alloc);
+    for job in jobs {
+        lines.push(line_of(job.job.as_str(), Reporter::All, job.counts))?;
+        push_lines(job, &mut lines)?;
+    }
+    Ok(lines)
+}
+
+fn push_lines<'a>(job: &'a JobBooks, lines: &mut Vec<BookLine<'a>>) -> Result<(), AllocError> {
+    for collector in job.collectors.as_slice() {
+        let reporter = match &collector.name {
+            Some(name) => Reporter::Live(collector.id, name.as_str()),
+            None => Reporter::Left(collector.id),
+        };
+        lines.push(line_of(job.job.as_str(), reporter, collector.counts))?;
+    }
+    Ok(())
+}
+
+fn line_of<'a>(job: &'a str, reporter: Reporter<'a>, counts: BookCounts) -> BookLine<'a> {
+    BookLine {
+        job,
+        reporter,
+        up: counts.up,
+        down: counts.down,
+        missing: counts.missing,
+        samples: counts.samples,
+    }
+}
