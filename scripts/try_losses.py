@@ -394,10 +394,12 @@ def modes(folder):
 def refused(folder):
     with served(folder) as it:
         it.published()
-        size = os.path.getsize(it.journal)
+        # A round that opens meanwhile has a line of its own.
+        joins = lines_of(it.journal).count(b'"event":"join"')
         said = it.send("POST", "/collectors", {"name": "a", "reach": [{"allow": True, "test": "equals", "label": "x", "value": "y" * 900000}]})
         time.sleep(0.3)
-        return said[0] in (400, 409) and os.path.getsize(it.journal) == size, f"{said}, {os.path.getsize(it.journal) - size} bytes"
+        text = lines_of(it.journal)
+        return said[0] in (400, 409) and text.count(b'"event":"join"') == joins and b"yyyy" not in text, f"{said}, {len(text)} bytes"
 
 
 @row("a second start enters no static group again that is what the history has")
