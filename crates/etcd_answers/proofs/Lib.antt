@@ -1,0 +1,3 @@
+pub mod Base64Lemmas
+pub mod LongLemmas
+pub mod VerdictLemmas

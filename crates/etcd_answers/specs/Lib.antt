@@ -1,0 +1,5 @@
+pub mod Answers
+pub mod Laws
+pub mod Leases
+pub mod Numbers
+pub mod Verdicts

@@ -1,0 +1,8 @@
+use Rattle.std.proofs.Common.{refl}
+use Rattle.serde_json.specs.View.{view}
+use Rattle.etcd_requests.specs.Texts.{grant_data}
+use Rattle.etcd_requests.proofs.Floats.{text_is}
+use Rattle.etcd_requests.proofs.bodies.grant_body.Goals as goal
+
+pub returns : goal.returns
+returns c = text_is c.text_of.result (view c.in_ok-value.value) (grant_data c.args.seconds) c.in_ok-value.ensures refl c.text_of.ensures.form

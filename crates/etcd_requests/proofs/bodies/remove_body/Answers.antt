@@ -1,0 +1,10 @@
+use Rattle.serde_json.specs.View.{view}
+use Rattle.etcd_requests.specs.Requests.{remove}
+use Rattle.etcd_requests.specs.Texts.{transaction_data}
+use Rattle.etcd_requests.proofs.Floats.{text_is, transaction_no_float}
+use Rattle.etcd_requests.proofs.bodies.remove_body.Goals as goal
+
+pub returns : goal.returns
+returns c =
+    let all = remove c.args.term.now c.args.going c.args.epoch c.args.number c.args.created in
+    text_is c.text_of.result (view c.in_ok-value.value) (transaction_data c.args.prefix.now all) c.in_ok-value.ensures (transaction_no_float c.args.prefix.now all) c.text_of.ensures.form

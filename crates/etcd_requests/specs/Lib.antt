@@ -1,0 +1,4 @@
+pub mod Keys
+pub mod Requests
+pub mod Texts
+pub mod Transactions

@@ -1,0 +1,5 @@
+pub mod FleetParts
+pub mod PartFilters
+pub mod PartLaws
+pub mod PartSums
+pub mod Splits
