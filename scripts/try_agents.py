@@ -4,7 +4,8 @@
 Each scrape of a target has another number of samples than the ones around it, so that each report in the journal is one scrape. In a steady stretch of
 so many seconds (60) each scrape is to be booked with its samples, but for the youngest ones that wait. Through drains, leaves, kills of an agent, of a
 server and of the allocator and a renewal no scrape is to be booked twice, none with other samples, and at least 99 of 100 are to be. Of a server that is
-killed the last scrapes before that are lost with it. Scrapes and rounds are so many seconds apart (5); on a machine that has much else to do take 15, and
+killed the last scrapes before that are lost with it. Four of the targets differ in their paths alone, so that of those that one server has the scrapes stand in
+one series: of these no report is to be of another one's scrape, and half of them are to be booked in the steady stretch. Scrapes and rounds are so many seconds apart (5); on a machine that has much else to do take 15, and
 three times as long. The texts of the agent's log lines and its metrics are compared with docs/operate/AGENT.md. It needs Debian's package prometheus and
 the program (ALLOCD_PROGRAM, or dist/allocd), and takes about six minutes."""
 
@@ -28,12 +29,14 @@ from told_rows import Teller
 
 ANY = [{"allow": True, "test": "any"}]
 JOBS, EACH, REFRESH = ("alpha", "beta gamma"), 30, 5
+# Targets of the first job with the same public labels, each at a path of its own.
+TWINS = tuple(f"twin{i}" for i in range(4))
 # How long it is between two scrapes, and how long a round is, in seconds.
 INTERVAL = ROUND = int(sys.argv[2]) if len(sys.argv) > 2 else 5
 # So many scrapes of a target wait for their reports at most, and one is under way.
 WAITING = 3
-# The numbers of samples of a target's scrapes, one after the other.
-CYCLE = 97
+# The numbers of samples of a target's scrapes, one after the other. Each twin has numbers of its own.
+CYCLE, APART = 97, 100
 tell = Teller()
 
 
@@ -46,7 +49,8 @@ class Log:
     def note(self, target, who):
         with self.lock:
             done = self.scrapes[target]
-            samples = 1 + (len(done) * 7) % CYCLE
+            twin = APART * (1 + TWINS.index(target)) if target in TWINS else 0
+            samples = twin + 1 + (len(done) * 7) % CYCLE
             done.append((time.time(), who, samples))
             return samples
 
@@ -62,8 +66,9 @@ class Target(http.server.BaseHTTPRequestHandler):
     protocol_version = "HTTP/1.1"
 
     def do_GET(self):
-        query = urllib.parse.parse_qs(urllib.parse.urlsplit(self.path).query)
-        samples = LOG.note(query["target"][0], query["from"][0])
+        url = urllib.parse.urlsplit(self.path)
+        query = urllib.parse.parse_qs(url.query)
+        samples = LOG.note(query.get("target", [url.path[1:]])[0], query["from"][0])
         body = "".join(f'lamps_lit{{floor="{i}"}} 1\n' for i in range(samples)).encode()
         self.send_response(200)
         self.send_header("content-type", "text/plain; version=0.0.4")
@@ -132,14 +137,15 @@ def killed(it):
     it.wait()
 
 
+def groups_of(job, address):
+    """The targets of a job."""
+    groups = [{"targets": [address], "labels": {"__param_target": f"{job}{i}", "instance": f"{job}{i}"}} for i in range(EACH)]
+    twins = [{"targets": [address], "labels": {"__metrics_path__": f"/{twin}", "instance": "twin"}} for twin in TWINS]
+    return groups + twins if job == JOBS[0] else groups
+
+
 def config(address, jobs=JOBS):
-    scraped = [
-        {
-            "job_name": job,
-            "static_configs": [{"targets": [address], "labels": {"__param_target": f"{job}{i}", "instance": f"{job}{i}"}} for i in range(EACH)],
-        }
-        for job in jobs
-    ]
+    scraped = [{"job_name": job, "static_configs": groups_of(job, address)} for job in jobs]
     return {"global": {"scrape_interval": f"{ROUND}s"}, "scrape_configs": scraped, "allocator": {"settle": "1s", "collector_timeout": "60s", "lifecycle": True, "spread": {}}}
 
 
@@ -155,7 +161,9 @@ class Books:
         for job in JOBS:
             for held in json.loads(service.ask("GET", f"/jobs/{urllib.parse.quote(job)}/targets")[1]).values():
                 for group in held["targets"]:
-                    names[int(group["labels"]["__meta_allocator_target"])] = group["labels"]["instance"]
+                    labels = group["labels"]
+                    name = labels["__metrics_path__"][1:] if labels["instance"] == "twin" else labels["instance"]
+                    names[int(labels["__meta_allocator_target"])] = name
         self.names.setdefault(len(self.old()), {}).update(names)
 
     def old(self):
@@ -196,12 +204,12 @@ class Fleet:
         self.targets = [f"{job}{i}" for job in JOBS for i in range(EACH)]
         self.books = Books(f"{folder}/journal")
 
-    def found(self, since):
-        """Of the scrapes since a time how many are booked, how many are not and wait no more, and how many reports are of none."""
+    def found(self, since, targets):
+        """Of the scrapes of targets since a time how many are booked, how many are not and wait no more, and how many reports are of none."""
         self.books.learn(self.service)
         booked = self.books.read()
         good = lost = wrong = 0
-        for target in self.targets:
+        for target in targets:
             scrapes = LOG.of(target)
             places, other = matched(scrapes, booked.get(target, []))
             wrong += other
@@ -217,16 +225,19 @@ class Fleet:
         act()
         self.books.learn(self.service)
         time.sleep(seconds * INTERVAL / 5)
-        good, lost, wrong = self.found(since)
+        good, lost, wrong = self.found(since, self.targets)
         tell(f"{what}: no report is of another scrape, or of one that was booked", wrong == 0, f"{wrong}")
         tell(f"{what}: {100 - most} of 100 scrapes are booked", good and 100 * lost <= most * (good + lost), f"{good}, and {lost} are not")
-        print(f"   {what}: {good} booked, {lost} not", flush=True)
+        shared, unknown, others = self.found(since, TWINS)
+        tell(f"{what}: of a series that is shared no report is of another target's scrape, or of one that was booked", others == 0, f"{others}")
+        print(f"   {what}: {good} booked, {lost} not; of the shared series {shared}, and {unknown} not", flush=True)
+        return shared, unknown
 
     def is_even(self):
         """Whether each collector holds a part, and each agent serves all of it."""
         held = [int(pair.figure("allocd_agent_targets_held") or 0) for pair in self.pairs.values()]
         served = [int(pair.figure("allocd_agent_targets_served") or 0) for pair in self.pairs.values()]
-        return held == served and sum(held) == len(self.targets) and min(held) > 0
+        return held == served and sum(held) == len(self.targets) + len(TWINS) and min(held) > 0
 
 
 def texts_of_the_agent():
@@ -268,7 +279,8 @@ def tried(folder, steady):
             pair.start()
         tell("each collector gets a part", comes(lambda: fleet.is_even(), 120))
         time.sleep(WAITING * INTERVAL)
-        fleet.phase("a steady stretch", lambda: None, steady, most=0)
+        shared, unknown = fleet.phase("a steady stretch", lambda: None, steady, most=0)
+        tell("a steady stretch: half of the scrapes of a shared series are booked", shared and unknown <= shared, f"{shared}, and {unknown} are not")
         fleet.phase("a drains", lambda: ask("POST", "/collectors/a/drain"), 40)
         fleet.phase("a leaves, and joins anew by itself", lambda: ask("DELETE", "/collectors/a"), 40)
         fleet.phase("an agent is killed, and back at once", lambda: (killed(pairs["b"].agent), pairs["b"].start_agent()), 25)

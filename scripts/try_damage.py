@@ -80,7 +80,7 @@ def starts_over(folder, journal, text, at):
     """A service over the front of a journal has the events of its whole lines, and enters more behind them."""
     text = text[:at]
     config = json.loads(example("two-rounds.replay").split(b"\n")[0])
-    config["allocator"] = {"lifecycle": True, "settle": "1h"}
+    config["allocator"] = {"lifecycle": True, "settle": "1h", "report_rounds": 1}
     with open(journal, "wb") as it:
         it.write(text)
     service = Service(folder, config, journal)

@@ -705,7 +705,7 @@ def text_of(file):
 
 MORE = {"job_name": "more", "static_configs": [{"targets": [f"127.0.0.1:{9300 + i}" for i in range(6)]}]}
 FOUND = [{"url": "http://127.0.0.1:1/", "refresh_interval": "1s"}]
-OTHER_JOBS = "other jobs than the journal"
+OTHER_JOBS = "other jobs or report_rounds than the journal"
 
 
 def restarts(folder):

@@ -3,7 +3,7 @@ use crate::asking::count;
 use crate::jobs::Jobs;
 use crate::places::Places;
 use crate::state_file::write_state;
-use agent_core::{Agent, Report, Said, Serving};
+use agent_core::{Agent, Lasts, Report, Said, Serving};
 use agent_documents::list_of;
 use agent_lists::{JobList, Shelf};
 use agent_turns::{Heard, Outside, Posted};
@@ -111,6 +111,10 @@ where
 
     fn look(&self, at: u64) -> Heard {
         self.hear(at, false)
+    }
+
+    fn lasts(&self, agent: &Agent) -> Lasts {
+        self.last_scrapes(agent)
     }
 
     fn said(&self) -> Option<Said> {

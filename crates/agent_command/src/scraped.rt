@@ -1,9 +1,10 @@
 //! What Prometheus scraped, and scrapes.
 use crate::edge::Edge;
-use agent_core::{Agent, Said, Series};
-use agent_documents::read_said;
-use agent_exchanges::{active_path, range_path, read_active};
+use agent_core::{Agent, Lasts, Listed, Said, Series};
+use agent_documents::{Durations, read_durations, read_said};
+use agent_exchanges::{Known, active_path, has_shared, range_path, read_active, read_lasts};
 use agent_turns::lets_go;
+use indexmap::IndexMap;
 use scrape_client::Answer;
 use std::alloc::AllocGlobal;
 use std::net::Net;
@@ -65,8 +66,40 @@ where
 
     /// The series that Prometheus scrapes.
     fn scraped(&self) -> Option<Vec<Series>> {
-        let path = active_path(self.alloc, self.places.prometheus.base.as_str()).ok()?;
-        let answer = self.ask_prometheus(path.as_str())?;
+        let answer = self.active()?;
         read_active(self.alloc, answer.body.as_slice()).ok()
+    }
+
+    /// What Prometheus says of the last scrapes of the series that an agent's targets share. Where none do it is not asked.
+    pub(crate) fn last_scrapes(&self, agent: &Agent) -> Lasts {
+        let nothing = IndexMap::new(self.alloc);
+        if has_shared(agent.targets()) {
+            self.lasts_of(agent.targets()).unwrap_or(nothing)
+        } else {
+            nothing
+        }
+    }
+
+    fn lasts_of(&self, targets: &[Listed]) -> Option<Lasts> {
+        let active = self.active()?;
+        let durations = self.durations()?;
+        let jobs = self.jobs.names(&self.rt).ok()?;
+        let known = Known {
+            jobs: jobs.as_slice(),
+            durations: &durations,
+        };
+        read_lasts(self.alloc, known, targets, active.body.as_slice()).ok()
+    }
+
+    /// How long the scrapes lasted that Prometheus stored.
+    fn durations(&self) -> Option<Durations> {
+        let answer = self.points("scrape_duration_seconds")?;
+        read_durations(self.alloc, answer.body.as_slice()).ok()
+    }
+
+    /// What Prometheus says of the targets that it scrapes.
+    fn active(&self) -> Option<Answer> {
+        let path = active_path(self.alloc, self.places.prometheus.base.as_str()).ok()?;
+        self.ask_prometheus(path.as_str())
     }
 }

@@ -1,7 +1,6 @@
 -- Reports that are chosen one after the other.
-use Rattle.std.proofs.Common.{◌≡◌, ℕ, suc, ◌+◌, ◌<◌, ◌++◌, List, [], ◌∷◌, Option, Some, None, Result, Ok, Err, OnErr, length, get_or, drop, take, refl, sym, ap, ◌∙◌, append_assoc, append-nil, add-one}
+use Rattle.std.proofs.Common.{◌≡◌, ℕ, ◌+◌, ◌<◌, ◌++◌, List, [], ◌∷◌, Option, Result, Ok, Err, OnErr, length, get_or, drop, take, refl, sym, ap, ◌∙◌}
 use Rattle.std.specs.List.{cons_option}
-use Rattle.std.proofs.Math.Seq.{drop-cons}
 use Rattle.std.proofs.lemmas.List.{take_more}
 use Rattle.agent_core.specs.Told.{Told}
 use Rattle.agent_core.specs.Choices.{after, chosen, chosen_of, points_of, with_chosen}
@@ -10,16 +9,7 @@ use Rattle.agent_core.specs.declared.target.Listed.{Listed}
 use Rattle.agent_core.specs.declared.slot.Point.{Point}
 use Rattle.agent_core.specs.declared.report.Head.{Head}
 use Rattle.agent_core.specs.declared.report.Report.{Report}
-
--- what is left begins with the target at the place
-left : (targets : List Listed) (i : ℕ) (listed : Listed) → i < length targets → listed ≡ get_or targets i listed → drop i targets ≡ listed ∷ drop (i + 1) targets
-left targets i listed within is =
-    let next = add-one i in
-    drop-cons targets i listed within ∙ ap (λ (l : Listed). l ∷ drop (suc i) targets) (sym is) ∙ ap (λ (n : ℕ). listed ∷ drop n targets) (sym next)
-
-add_more : (reports : List Report) (o : Option Report) (rest : List Report) → (reports ++ cons_option o []) ++ rest ≡ reports ++ cons_option o rest
-add_more reports None rest = ap (λ (r : List Report). r ++ rest) (append-nil reports)
-add_more reports (Some report) rest = append_assoc reports (report ∷ []) rest
+use Rattle.agent_core.proofs.StepLemmas.{add_more, left}
 
 pub chosen_more :
     (told : Told) (head : Head) (said : List (Series × List Point)) (targets : List Listed) (i : ℕ) (listed : Listed) (o : Option Report) (reports : List Report) → i < length targets → listed ≡ get_or targets i listed
@@ -28,14 +18,14 @@ pub chosen_more :
 chosen_more told head said targets i listed o reports within is one =
     add_more reports o (chosen (with_chosen told o) head said (drop (i + 1) targets))
     ∙ ap (λ (p : Option Report). reports ++ cons_option p (chosen (with_chosen told p) head said (drop (i + 1) targets))) one
-    ∙ ap (λ (ts : List Listed). reports ++ chosen told head said ts) (sym (left targets i listed within is))
+    ∙ ap (λ (ts : List Listed). reports ++ chosen told head said ts) (sym (left targets i listed listed within is))
 
 pub after_more :
     (told : Told) (head : Head) (said : List (Series × List Point)) (targets : List Listed) (i : ℕ) (listed : Listed) (o : Option Report) → i < length targets → listed ≡ get_or targets i listed
     → o ≡ chosen_of told head (points_of said listed.series) listed → after (with_chosen told o) head said (drop (i + 1) targets) ≡ after told head said (drop i targets)
 after_more told head said targets i listed o within is one =
     ap (λ (p : Option Report). after (with_chosen told p) head said (drop (i + 1) targets)) one
-    ∙ ap (λ (ts : List Listed). after told head said ts) (sym (left targets i listed within is))
+    ∙ ap (λ (ts : List Listed). after told head said ts) (sym (left targets i listed listed within is))
 
 after_last : (told : Told) (head : Head) (said : List (Series × List Point)) (targets : List Listed) (listed : Listed)
     → after told head said (targets ++ listed ∷ []) ≡ with_chosen (after told head said targets) (chosen_of (after told head said targets) head (points_of said listed.series) listed)

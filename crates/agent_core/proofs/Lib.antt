@@ -1,5 +1,9 @@
 pub mod ChoiceLemmas
+pub mod CutLemmas
 pub mod HeldLemmas
+pub mod OfferLemmas
+pub mod OwnLemmas
 pub mod RunLemmas
 pub mod ServedLemmas
+pub mod StepLemmas
 pub mod ToldLemmas

@@ -1,13 +1,18 @@
 -- No scrape twice, and nothing older than what was told before, over whole runs.
 use Rattle.std.proofs.Common.{◌≡◌, ℕ, ◌≤◌, ◌++◌, List, [], ◌∷◌, Bool, true, false, Option, None, Some, All, get_or, take, cond, refl, sym, ap, subst, append_assoc, append-nil, arith}
-use Rattle.std.specs.Prelude.{AllPairs, ◌&&◌, ◌==◌, option_map}
+use Rattle.std.specs.Prelude.{AllPairs, ◌&&◌, ◌==◌, nat_lt, option_and_then, option_map, slice_get}
+use Rattle.std.proofs.lemmas.Bool.Decides.{nat_tests}
 use Rattle.std.specs.List.{cons_option}
 use Rattle.std.proofs.lemmas.List.Quantifiers.{all_pairs_push}
 use Rattle.std.proofs.lemmas.List.Elements.{All-push}
 use Rattle.agent_core.specs.Told.{Told, carried, is_open, mark_of, report_of, slot, with_report}
 use Rattle.agent_core.specs.Choices.{after, chosen, chosen_of, points_of, with_chosen}
+use Rattle.agent_core.specs.Offered.{after_offers, all_after, all_chosen, chosen_offer, chosen_offers, given_to, part_after}
+use Rattle.agent_core.specs.Sharing.{offers}
+use Rattle.agent_core.specs.declared.sharing.LastScrape.{LastScrape}
+use Rattle.agent_core.specs.declared.sharing.Offer.{Offer}
 use Rattle.agent_core.specs.Agents.{Input, Asked, Cut, Gone, Over, Shown, Taken, Unknown, State, may_report, next, reported, reports_of}
-use Rattle.agent_core.specs.Laws.{IsApart, IsNews}
+use Rattle.agent_core.specs.Laws.{GivenToOne, IsApart, IsNews}
 use Rattle.agent_core.specs.declared.target.Series.{Series}
 use Rattle.agent_core.specs.declared.target.Listed.{Listed}
 use Rattle.agent_core.specs.declared.slot.Point.{Point}
@@ -108,6 +113,48 @@ chooses start told done head said [] run = subst (IsRun start told) (sym (append
 chooses start told done head said (listed ∷ targets) run =
     chooses_by start told done head said listed targets (chosen_of told head (points_of said listed.series) listed) refl run (λ t d r. chooses start t d head said targets r)
 
+-- what is given of a shared series is news
+given_news : (told : Told) (head : Head) (point : Point) (listed : Listed) (report : Report) → given_to told head point listed ≡ Some report → IsNews told report
+given_news told head point listed report e = by (is_open told head.epoch head.round listed.target) refl (nat_lt (mark_of told listed.series) point.time) refl e
+  where
+    by : (opens : Bool) → is_open told head.epoch head.round listed.target ≡ opens → (behind : Bool) → nat_lt (mark_of told listed.series) point.time ≡ behind
+        → cond (opens && behind) (Some (report_of head listed point)) None ≡ Some report → IsNews told report
+    by false is behind b e = absurd (cc e)
+    by true is false b e = absurd (cc e)
+    by true is true b e =
+        let same : report_of head listed point ≡ report = cc e in
+        subst (IsNews told) same (record { later = grind (arith, nat_tests, b); unsaid = is })
+
+offer_news : (told : Told) (head : Head) (targets : List Listed) (offer : Offer) (report : Report) → chosen_offer told head targets offer ≡ Some report → IsNews told report
+offer_news told head targets offer report e = by (slice_get targets offer.place) e
+  where
+    by : (found : Option Listed) → option_and_then (given_to told head offer.point) found ≡ Some report → IsNews told report
+    by None e = absurd (cc e)
+    by (Some listed) e = given_news told head offer.point listed report e
+
+gives_by : (start told : Told) (done : List Report) (head : Head) (targets : List Listed) (offer : Offer) (offers : List Offer) (o : Option Report) → chosen_offer told head targets offer ≡ o
+    → IsRun start told done → ((t : Told) (d : List Report) → IsRun start t d → IsRun start (after_offers t head targets offers) (d ++ chosen_offers t head targets offers))
+    → IsRun start (after_offers (with_chosen told o) head targets offers) (done ++ cons_option o (chosen_offers (with_chosen told o) head targets offers))
+gives_by start told done head targets offer offers None is run rest = rest told done run
+gives_by start told done head targets offer offers (Some report) is run rest =
+    let more = tells start told done report run (offer_news told head targets offer report is) in
+    subst (IsRun start (after_offers (with_report told report) head targets offers)) (append_assoc done (report ∷ []) (chosen_offers (with_report told report) head targets offers))
+    (rest (with_report told report) (done ++ report ∷ []) more)
+
+gives : (start told : Told) (done : List Report) (head : Head) (targets : List Listed) (offers : List Offer) → IsRun start told done → IsRun start (after_offers told head targets offers) (done ++ chosen_offers told head targets offers)
+gives start told done head targets [] run = subst (IsRun start told) (sym (append-nil done)) run
+gives start told done head targets (offer ∷ offers) run =
+    gives_by start told done head targets offer offers (chosen_offer told head targets offer) refl run (λ t d r. gives start t d head targets offers r)
+
+-- all reports of what Prometheus said
+chooses_all : (start told : Told) (done : List Report) (head : Head) (said : List (Series × List Point)) (lasts : List (Series × List LastScrape)) (targets : List Listed) → IsRun start told done
+    → IsRun start (all_after told head said lasts targets) (done ++ all_chosen told head said lasts targets)
+chooses_all start told done head said lasts targets run =
+    let first = chosen told head said targets in
+    let then_ = chosen_offers (after told head said targets) head targets (offers said targets lasts) in
+    subst (IsRun start (all_after told head said lasts targets)) (append_assoc done first then_)
+    (gives start (after told head said targets) (done ++ first) head targets (offers said targets lasts) (chooses start told done head said targets run))
+
 nothing_more : (start told : Told) (done : List Report) → IsRun start told done → IsRun start told (done ++ [])
 nothing_more start told done run = subst (IsRun start told) (sym (append-nil done)) run
 
@@ -120,6 +167,21 @@ grows_after told head said [] = record { marks = λ q. omega arith; rounds = λ 
 grows_after told head said (listed ∷ targets) =
     let o = chosen_of told head (points_of said listed.series) listed in
     grown_on told (with_chosen told o) (after (with_chosen told o) head said targets) (grows_by told head said listed o refl) (grows_after (with_chosen told o) head said targets)
+
+grows_offer : (told : Told) (head : Head) (targets : List Listed) (offer : Offer) (o : Option Report) → chosen_offer told head targets offer ≡ o → Grows told (with_chosen told o)
+grows_offer told head targets offer None is = record { marks = λ q. omega arith; rounds = λ e r t closed. closed }
+grows_offer told head targets offer (Some report) is = grows_told told report (offer_news told head targets offer report is)
+
+grows_offers : (told : Told) (head : Head) (targets : List Listed) (offers : List Offer) → Grows told (after_offers told head targets offers)
+grows_offers told head targets [] = record { marks = λ q. omega arith; rounds = λ e r t closed. closed }
+grows_offers told head targets (offer ∷ offers) =
+    let o = chosen_offer told head targets offer in
+    grown_on told (with_chosen told o) (after_offers (with_chosen told o) head targets offers) (grows_offer told head targets offer o refl) (grows_offers (with_chosen told o) head targets offers)
+
+grows_part : (told : Told) (head : Head) (said : List (Series × List Point)) (lasts : List (Series × List LastScrape)) (targets : List Listed) (count more : ℕ) → Grows told (part_after told head said lasts targets count more)
+grows_part told head said lasts targets count more =
+    let first = after told head said (take count targets) in
+    grown_on told first (part_after told head said lasts targets count more) (grows_after told head said (take count targets)) (grows_offers first head targets (take more (offers said targets lasts)))
 
 -- no report more, where what was told grows
 keeps : (start old new : Told) (done : List Report) → Grows old new → IsRun start old done → IsRun start new done
@@ -140,15 +202,18 @@ steps start s done (Shown at head until targets) run = by (s.head.epoch == head.
 steps start s done (Gone at) run = nothing_more start s.told done run
 steps start s done (Unknown at) run = nothing_more start s.told done run
 steps start s done Over run = nothing_more start s.told done run
-steps start s done (Asked now said) run = by (may_report s now)
+steps start s done (Asked now said lasts) run = by (may_report s now)
   where
-    by : (b : Bool) → IsRun start (cond b (record s { told = after s.told s.head said s.targets }) s).told (done ++ cond b (chosen s.told s.head said s.targets) [])
-    by true = chooses start s.told done s.head said s.targets run
+    by : (b : Bool) → IsRun start (cond b (record s { told = all_after s.told s.head said lasts s.targets }) s).told (done ++ cond b (all_chosen s.told s.head said lasts s.targets) [])
+    by true = chooses_all start s.told done s.head said lasts s.targets run
     by false = nothing_more start s.told done run
-steps start s done (Cut now said count) run = by (may_report s now)
+steps start s done (Cut now said lasts count more) run = by (may_report s now)
   where
-    by : (b : Bool) → IsRun start (cond b (record s { told = after s.told s.head said (take count s.targets) }) s).told (done ++ [])
-    by true = nothing_more start (after s.told s.head said (take count s.targets)) done (keeps start s.told (after s.told s.head said (take count s.targets)) done (grows_after s.told s.head said (take count s.targets)) run)
+    part : Told
+    part = part_after s.told s.head said lasts s.targets count more
+
+    by : (b : Bool) → IsRun start (cond b (record s { told = part }) s).told (done ++ [])
+    by true = nothing_more start part done (keeps start s.told part done (grows_part s.told s.head said lasts s.targets count more) run)
     by false = nothing_more start s.told done run
 
 runs : (start : Told) (s : State) (done : List Report) (inputs : List Input) → IsRun start s.told done → (told : Told) × IsRun start told (done ++ reports_of s inputs)
@@ -164,3 +229,9 @@ whole_run s inputs = runs s.told s [] inputs (record {
   news = λ k d l. absurd (omega arith);
   grown = record { marks = λ q. omega arith; rounds = λ e r t closed. closed };
 })
+
+pub whole_given : GivenToOne
+whole_given s inputs = λ i j d before within same at.
+    let apart = (whole_run s inputs).1.apart i j d before within in
+    let later = apart.later same in
+    absurd (omega (arith, later, at))

@@ -1,6 +1,6 @@
 -- How what was told grows: marks rise, and a target of which was told in a round stays told of.
 use Rattle.std.proofs.Common.{◌≡◌, ℕ, zero, suc, ◌-◌, ◌<◌, ◌≤◌, ◌||◌, ◌&&◌, List, [], ◌∷◌, ◌++◌, Bool, true, false, Option, None, Some, nat_eq, cond, refl, sym, ap, subst, ◌∙◌, arith}
-use Rattle.std.specs.Prelude.{◌==◌, not, nat_lt, max, unwrap_or, slice_get, filter, length}
+use Rattle.std.specs.Prelude.{◌==◌, is_some, not, nat_lt, max, unwrap_or, slice_get, filter, length}
 use Rattle.std.specs.List.{list_any}
 use Rattle.std.specs.Map.{lookup, values_of}
 use Rattle.std.specs.Str.{bytes_eq}
@@ -8,7 +8,7 @@ use Rattle.std.proofs.lemmas.Bool.Decides.{nat_tests}
 use Rattle.indexmap.specs.IndexMap.{insert_entry}
 use Rattle.indexmap.specs.IndexSet.{insert_key}
 use Rattle.agent_core.specs.Targets.{same_series}
-use Rattle.agent_core.specs.Told.{Told, carried, greatest, is_later, is_open, mark_of, marks_for, slot, with_report}
+use Rattle.agent_core.specs.Told.{Told, carried, greatest, is_later, is_open, mark_in, mark_of, marks_for, shared_mark, slot, with_marks, with_report}
 use Rattle.agent_core.specs.declared.target.Series.{Series}
 use Rattle.agent_core.specs.declared.target.Listed.{Listed}
 use Rattle.agent_core.specs.declared.slot.Point.{Point}
@@ -97,24 +97,64 @@ mark_most [] q floor time low = low
 mark_most (e ∷ marks) q floor time low =
     mark_most_by (same_series q e.0) e.1 (lookup (same_series q) marks) (values_of marks) floor time (mark_most marks q floor (max time e.1) (omega (arith, low)))
 
--- what is found is the mark
-abbrev Agrees : Told → List (Series × ℕ) → Type 0
-Agrees told marks = (q : Series) (m : ℕ) → lookup (same_series q) marks ≡ Some m → m ≡ mark_of told q
+-- what is found is the mark, or later
+abbrev IsUp : Told → List (Series × ℕ) → Type 0
+IsUp told marks = (q : Series) (m : ℕ) → lookup (same_series q) marks ≡ Some m → mark_of told q ≤ m
 
-agrees_put : (told : Told) (marks : List (Series × ℕ)) (x : Series) → Agrees told marks → Agrees told (insert_entry same_series marks x (mark_of told x))
-agrees_put told marks x agrees q m found = by (same_series q x) refl (sym (lookup_put marks x q (mark_of told x)) ∙ found)
+up_put : (told : Told) (marks : List (Series × ℕ)) (x : Series) (v : ℕ) → mark_of told x ≤ v → IsUp told marks → IsUp told (insert_entry same_series marks x v)
+up_put told marks x v low up q m found = by (same_series q x) refl (sym (lookup_put marks x q v) ∙ found)
   where
-    by : (b : Bool) → same_series q x ≡ b → cond b (Some (mark_of told x)) (lookup (same_series q) marks) ≡ Some m → m ≡ mark_of told q
-    by true is e = let same = ap (λ (s : Series). mark_of told s) (series_are q x is) in cc (e, same)
-    by false is e = agrees q m e
+    by : (b : Bool) → same_series q x ≡ b → cond b (Some v) (lookup (same_series q) marks) ≡ Some m → mark_of told q ≤ m
+    by true is e =
+        let same = ap (λ (s : Series). mark_of told s) (series_are q x is) in
+        let value : v ≡ m = cc e in
+        omega (arith, low, same, value)
+    by false is e = up q m e
 
-agrees_for : (told : Told) (targets : List Listed) (marks : List (Series × ℕ)) → Agrees told marks → Agrees told (marks_for told targets marks)
-agrees_for told [] marks agrees = agrees
-agrees_for told (listed ∷ targets) marks agrees = agrees_for told targets (insert_entry same_series marks listed.series (mark_of told listed.series)) (agrees_put told marks listed.series agrees)
+-- no mark is behind the floor
+abbrev IsFloor : Told → Type 0
+IsFloor told = (q : Series) → mark_of told q ≤ told.floor
+
+mark_in_up : (told : Told) (key : Series) (listed : Listed) → IsFloor told → mark_of told listed.series ≤ mark_in told key listed
+mark_in_up told key listed floor = by (is_some (lookup (same_series key) told.marks) && not listed.shared)
+  where
+    by : (b : Bool) → mark_of told listed.series ≤ cond b told.floor (mark_of told listed.series)
+    by true = floor listed.series
+    by false = omega arith
+
+up_with : (told : Told) (marks : List (Series × ℕ)) (listed : Listed) → IsFloor told → IsUp told marks → IsUp told (with_marks told marks listed)
+up_with told marks listed floor up = by listed.shared
+  where
+    key : Series
+    key = shared_mark listed.series
+
+    more : List (Series × ℕ)
+    more = insert_entry same_series marks listed.series (mark_in told key listed)
+
+    up_more : IsUp told more
+    up_more = up_put told marks listed.series (mark_in told key listed) (mark_in_up told key listed floor) up
+
+    by : (b : Bool) → IsUp told (cond b (insert_entry same_series more key told.floor) more)
+    by true = up_put told more key told.floor (floor key) up_more
+    by false = up_more
+
+up_for : (told : Told) (targets : List Listed) (marks : List (Series × ℕ)) → IsFloor told → IsUp told marks → IsUp told (marks_for told targets marks)
+up_for told [] marks floor up = up
+up_for told (listed ∷ targets) marks floor up = up_for told targets (with_marks told marks listed) floor (up_with told marks listed floor up)
 
 floor_up : (o : Option ℕ) (floor more : ℕ) → floor ≤ more → unwrap_or o floor ≤ unwrap_or o more
 floor_up None floor more low = low
 floor_up (Some m) floor more low = omega arith
+
+-- a floor that no mark is above
+floor_is : (told : Told) (floor : ℕ) → greatest (values_of told.marks) told.floor ≤ floor → (p : Series) → unwrap_or (lookup (same_series p) told.marks) floor ≤ floor
+floor_is told floor low p = by (lookup (same_series p) told.marks) refl
+  where
+    by : (o : Option ℕ) → lookup (same_series p) told.marks ≡ o → unwrap_or o floor ≤ floor
+    by None e = omega arith
+    by (Some m) e =
+        let h = subst (λ (o : Option ℕ). unwrap_or o 0 ≤ greatest (values_of told.marks) told.floor) e (mark_most told.marks p 0 told.floor (omega arith)) in
+        omega (arith, h, low)
 
 -- a list that is taken lowers no mark
 pub rises_carried : (told : Told) (at : ℕ) (targets : List Listed) (q : Series) → mark_of told q ≤ mark_of (carried told at targets) q
@@ -123,10 +163,13 @@ rises_carried told at targets q = by (lookup (same_series q) (marks_for later ta
     later : Told
     later = record told { floor = max at (greatest (values_of told.marks) told.floor) }
 
+    floor : IsFloor later
+    floor p = floor_is told later.floor (omega arith) p
+
     by : (o : Option ℕ) → lookup (same_series q) (marks_for later targets []) ≡ o → mark_of told q ≤ unwrap_or o later.floor
     by None found = let h = mark_most told.marks q told.floor told.floor (omega arith) in omega (arith, h)
     by (Some m) found =
-        let is = agrees_for later targets [] (λ s n e. absurd (cc e)) q m found in
+        let is = up_for later targets [] floor (λ s n e. absurd (cc e)) q m found in
         let low = floor_most (values_of told.marks) told.floor in
         let up = floor_up (lookup (same_series q) told.marks) told.floor later.floor (omega (arith, low)) in
         omega (arith, is, up)

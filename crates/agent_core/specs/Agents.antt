@@ -1,14 +1,15 @@
 -- An agent that stands between the allocator and its Prometheus, as a machine: what it is told, and what comes of it.
-use Rattle.std.specs.Prelude.{ℕ, ◌-◌, ◌==◌, ◌&&◌, Bool, true, false, List, [], ◌∷◌, ◌++◌, Option, None, Some, nat_lt, nat_le, not, filter, length, slice_get, take, if◌then◌else◌}
+use Rattle.std.specs.Prelude.{ℕ, ◌-◌, ◌==◌, ◌&&◌, Bool, true, false, List, [], ◌∷◌, ◌++◌, Option, None, Some, nat_lt, nat_le, not, filter, length, slice_get, if◌then◌else◌}
 use Rattle.std.specs.List.{list_any, range_with_len}
 use Rattle.std.specs.Option.{option_map_or}
 use Rattle.std.specs.Cmp.Lexicographic.{pointwise}
 use Rattle.agent_core.specs.Targets.{same_group}
 use Rattle.agent_core.specs.Told.{Told, carried}
-use Rattle.agent_core.specs.Choices.{after, chosen}
+use Rattle.agent_core.specs.Offered.{all_after, all_chosen, part_after}
 use Rattle.agent_core.specs.declared.target.Series.{Series}
 use Rattle.agent_core.specs.declared.target.Listed.{Listed}
 use Rattle.agent_core.specs.declared.slot.Point.{Point}
+use Rattle.agent_core.specs.declared.sharing.LastScrape.{LastScrape}
 use Rattle.agent_core.specs.declared.report.Head.{Head}
 use Rattle.agent_core.specs.declared.report.Report.{Report}
 use Rattle.agent_core.specs.declared.serving.Standing.{Standing}
@@ -44,10 +45,10 @@ pub data Input : Type 0 where
   Unknown : (at : ℕ) → Input
   -- a report was refused
   Over : Input
-  -- Prometheus said of each series these scrapes
-  Asked : (now : ℕ) (said : List (Series × List Point)) → Input
-  -- the same, and memory ended behind so many targets: what was chosen is lost
-  Cut : (now : ℕ) (said : List (Series × List Point)) (count : ℕ) → Input
+  -- Prometheus said of each series these scrapes, and of those that targets share these last ones
+  Asked : (now : ℕ) (said : List (Series × List Point)) (lasts : List (Series × List LastScrape)) → Input
+  -- the same, and memory ended behind so many targets and points of shared series: what was chosen is lost
+  Cut : (now : ℕ) (said : List (Series × List Point)) (lasts : List (Series × List LastScrape)) (count more : ℕ) → Input
 
 abbrev pub no_head : Head
 no_head = record { collector = 0; epoch = 0; number = 0; round = 0 }
@@ -103,8 +104,8 @@ next s (Shown at head until targets) =
 next s (Gone at) = record s { standing = Nobody; until = 0; targets = []; served = []; known = true; heard = at }
 next s (Unknown at) = record s { standing = Nobody; until = 0; heard = at }
 next s Over = record s { until = 0 }
-next s (Asked now said) = if may_report s now then record s { told = after s.told s.head said s.targets } else s
-next s (Cut now said count) = if may_report s now then record s { told = after s.told s.head said (take count s.targets) } else s
+next s (Asked now said lasts) = if may_report s now then record s { told = all_after s.told s.head said lasts s.targets } else s
+next s (Cut now said lasts count more) = if may_report s now then record s { told = part_after s.told s.head said lasts s.targets count more } else s
 
 -- the reports that it chooses
 abbrev pub reported : State → Input → List Report
@@ -113,8 +114,8 @@ reported s (Shown at head until targets) = []
 reported s (Gone at) = []
 reported s (Unknown at) = []
 reported s Over = []
-reported s (Cut now said count) = []
-reported s (Asked now said) = if may_report s now then chosen s.told s.head said s.targets else []
+reported s (Cut now said lasts count more) = []
+reported s (Asked now said lasts) = if may_report s now then all_chosen s.told s.head said lasts s.targets else []
 
 -- a whole run: its reports, and what it leaves
 abbrev pub reports_of : State → List Input → List Report

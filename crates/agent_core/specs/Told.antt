@@ -1,6 +1,6 @@
 -- What an agent told the allocator, as far as it has to know it: the last round with its targets, and of each series the time of the last scrape.
 -- This is what is written down before a report is posted.
-use Rattle.std.specs.Prelude.{ℕ, ◌-◌, ◌==◌, ◌&&◌, ◌||◌, Bool, not, List, [], ◌∷◌, Option, nat_lt, nat_eq, max, length, filter, unwrap_or, slice_get, if◌then◌else◌}
+use Rattle.std.specs.Prelude.{ℕ, ◌-◌, ◌==◌, ◌&&◌, ◌||◌, Bool, not, List, [], ◌∷◌, ◌++◌, Option, codes, is_some, nat_lt, nat_eq, max, length, filter, unwrap_or, slice_get, if◌then◌else◌}
 use Rattle.std.specs.List.{list_any}
 use Rattle.std.specs.Map.{lookup, values_of}
 use Rattle.indexmap.specs.IndexMap.{insert_entry}
@@ -57,10 +57,25 @@ abbrev pub greatest : List ℕ → ℕ → ℕ
 greatest [] time = time
 greatest (mark ∷ marks) time = greatest marks (max time mark)
 
+-- under this is noted that targets share a series: no label set has this text
+abbrev pub shared_mark : Series → Series
+shared_mark series = record { labels = codes "shared " ++ series.labels }
+
+-- The mark of a target's series in a list. A target that shared its series before, and has it alone now, begins with the list: what is stored before
+-- may be another one's.
+abbrev pub mark_in : Told → Series → Listed → ℕ
+mark_in told key listed = if is_some (lookup (same_series key) told.marks) && not listed.shared then told.floor else mark_of told listed.series
+
+abbrev pub with_marks : Told → List (Series × ℕ) → Listed → List (Series × ℕ)
+with_marks told marks listed =
+    let key = shared_mark listed.series in
+    let more = insert_entry same_series marks listed.series (mark_in told key listed) in
+    if listed.shared then insert_entry same_series more key told.floor else more
+
 -- each series of a list keeps its mark. One that is new begins with the list: its scrapes of before are not the list's
 abbrev pub marks_for : Told → List Listed → List (Series × ℕ) → List (Series × ℕ)
 marks_for told [] marks = marks
-marks_for told (listed ∷ targets) marks = marks_for told targets (insert_entry same_series marks listed.series (mark_of told listed.series))
+marks_for told (listed ∷ targets) marks = marks_for told targets (with_marks told marks listed)
 
 -- a list is taken
 abbrev pub carried : Told → ℕ → List Listed → Told

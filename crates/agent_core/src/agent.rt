@@ -2,12 +2,14 @@
 ghost use Rattle.std.specs.Prelude.{◌≡◌, ℕ, IfOk, OnErr, OnOk};
 ghost use Rattle.agent_core.specs.Agents.{Asked, Cut, Gone, Over, Shown, Taken, Unknown, is_same, may_report, next, nobody, reported, serving_of, with_lists, with_round};
 
-use crate::choosing::{Said, choose};
+use crate::choosing::choose_all;
 use crate::memory::Memory;
 use crate::report::{Head, Report};
+use crate::said::Said;
 use crate::serving::{
     Serving, Standing, is_expired, is_nobody, keep_listed, places, shown_standing,
 };
+use crate::sharing::Lasts;
 use crate::target::Listed;
 use indexmap::IndexSet;
 use std::alloc::{AllocError, Global};
@@ -172,16 +174,28 @@ impl Agent {
 
     /// Chooses reports of what Prometheus said, as it is asked at a time. Each is noted in the memory, which is to be written down before the
     /// first is posted. Without memory none is given, and those that were chosen before it ended are lost.
-    pub fn choose(&mut self, now: u64, said: &Said) -> Result<Vec<Report>, AllocError>
-        ensures reports { IfOk result (λ v. v.items ≡ reported self.old (Asked now said.now.entries)) }
-        ensures state { OnOk result (self.new ≡ next self.old (Asked now said.now.entries)) }
-        ensures err { OnErr result ((count : ℕ) × (self.new ≡ next self.old (Cut now said.now.entries count))) }
+    pub fn choose(
+        &mut self,
+        now: u64,
+        said: &Said,
+        lasts: &Lasts,
+    ) -> Result<Vec<Report>, AllocError>
+        ensures reports { IfOk result (λ v. v.items ≡ reported self.old (Asked now said.now.entries lasts.now.entries)) }
+        ensures state { OnOk result (self.new ≡ next self.old (Asked now said.now.entries lasts.now.entries)) }
+        ensures err { OnErr result ((count : ℕ) × ((more : ℕ) × (self.new ≡ next self.old (Cut now said.now.entries lasts.now.entries count more)))) }
     {
         if !self.may_report(now) {
             return Ok(Vec::new(self.alloc));
         }
         let targets = self.targets.as_slice();
-        choose(self.alloc, &mut self.memory, self.head, targets, said)
+        choose_all(
+            self.alloc,
+            &mut self.memory,
+            self.head,
+            targets,
+            said,
+            lasts,
+        )
     }
 }
 

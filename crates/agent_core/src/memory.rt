@@ -3,12 +3,12 @@ ghost use Rattle.std.specs.Prelude.{◌≡◌, [], nat_eq, IfOk, OnOk, OnErr};
 ghost use Rattle.indexmap.specs.IndexMap.{insert_entry};
 ghost use Rattle.indexmap.specs.IndexSet.{insert_key};
 ghost use Rattle.agent_core.specs.Targets.{same_series};
-ghost use Rattle.agent_core.specs.Told.{carried, greatest, is_later, is_open, mark_of, marks_for, nothing_told, with_report};
+ghost use Rattle.agent_core.specs.Told.{carried, greatest, is_later, is_open, mark_in, mark_of, marks_for, nothing_told, shared_mark, with_marks, with_report};
 
 use crate::report::Report;
 use crate::target::{Listed, Series};
 use indexmap::{IndexMap, IndexSet};
-use lists::Plain;
+use lists::{Plain, Text};
 use std::alloc::{AllocError, Global};
 use std::marker::Model;
 
@@ -184,10 +184,37 @@ impl Memory {
     {
         let mut marks = IndexMap::new(self.alloc);
         for listed in targets {
-            let mark = self.mark_or(&listed.series, floor);
-            marks.insert(listed.series.copy()?, mark)?;
+            self.add_marks(&mut marks, floor, listed)?;
         }
         Ok(marks)
+    }
+
+    /// Adds the mark of a target's series, and that it is shared.
+    fn add_marks(
+        &self,
+        marks: &mut IndexMap<Series, u64>,
+        floor: u64,
+        listed: &Listed,
+    ) -> Result<(), AllocError>
+        ensures { OnOk result (marks.new.entries ≡ with_marks (record self.now { floor = floor }) marks.old.entries listed.now) }
+    {
+        let key = shared_mark(self.alloc, &listed.series)?;
+        set_mark(marks, &listed.series, self.mark_in(floor, &key, listed))?;
+        if listed.shared {
+            set_mark(marks, &key, floor)?;
+        }
+        Ok(())
+    }
+
+    /// The mark of a target's series in a list. One that was shared, and is the target's alone now, has this one.
+    fn mark_in(&self, floor: u64, key: &Series, listed: &Listed) -> u64
+        ensures { result ≡ mark_in (record self.now { floor = floor }) key.now listed.now }
+    {
+        if self.marks.contains_key(key) && !listed.shared {
+            floor
+        } else {
+            self.mark_or(&listed.series, floor)
+        }
     }
 
     /// The mark of a series, or another one where it has none.
@@ -199,6 +226,17 @@ impl Memory {
             None => floor,
         }
     }
+}
+
+/// Under this is noted that targets share a series.
+fn shared_mark(alloc: Global, series: &Series) -> Result<Series, AllocError>
+    ensures { IfOk result (λ s. s ≡ shared_mark series.now) }
+{
+    let mut labels = String::from_str(alloc, "shared ")?;
+    labels.push_str(series.labels.as_str())?;
+    Ok(Series {
+        labels: Text::from_string(labels),
+    })
 }
 
 /// A series has this mark. Without memory nothing changes.

@@ -1,4 +1,5 @@
 //! What a list has: targets with the series that their scrapes make.
+use crate::url::Url;
 use lists::{Plain, Text};
 use std::alloc::AllocError;
 use std::hash::{Hash, Hasher};
@@ -20,8 +21,12 @@ pub struct Listed {
     pub target: u32,
     /// The series of its scrapes.
     pub series: Series,
-    /// Whether no other target of the list has this series. Where one has, nobody can tell whose a scrape is.
+    /// Whether no other target of the list has this series.
     pub alone: bool,
+    /// Whether another one has it. Whose a scrape is, is then told by its URL.
+    pub shared: bool,
+    /// Where it is scraped.
+    pub url: Url,
 }
 
 impl Plain for Series {

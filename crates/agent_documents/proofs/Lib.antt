@@ -1,3 +1,4 @@
+pub mod ListLemmas
 pub mod MarkLemmas
 pub mod NumberLemmas
 pub mod SeriesLemmas

@@ -5,3 +5,4 @@ pub mod Reading
 pub mod Series
 pub mod Serving
 pub mod States
+pub mod Urls

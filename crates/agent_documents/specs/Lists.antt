@@ -18,13 +18,14 @@ use Rattle.agent_core.specs.declared.target.Series.{Series}
 use Rattle.agent_documents.specs.Numbers.{small_said}
 use Rattle.agent_documents.specs.Reading.{◌>>=◌}
 use Rattle.agent_documents.specs.Series.{public_labels, series_of}
+use Rattle.agent_documents.specs.Urls.{url_of}
 use Rattle.agent_documents.specs.declared.error.DocumentError.{DocumentError}
 use Rattle.agent_documents.specs.declared.error.DocumentError.TheVariants.{Shape, NotJson, Memory}
 use Rattle.agent_documents.specs.declared.error.Part.TheVariants as part
 
 -- the target of a list, with its number if it has one
-abbrev pub listed_for : ℕ → Option ℕ → FinalTarget → Listed
-listed_for job number target = record { job = job; group = target_text target; target = unwrap_or number 0; series = series_of (public_labels target.labels); alone = is_some number }
+unfoldable pub listed_for : ℕ → Option ℕ → FinalTarget → Listed
+listed_for job number target = record { job = job; group = target_text target; target = unwrap_or number 0; series = series_of (public_labels target.labels); alone = is_some number; shared = false; url = url_of target }
 
 abbrev pub listed_by : ℕ → Option ℕ → Finished → Result Listed DocumentError
 listed_by job number (Target target) = Ok (listed_for job number target)
@@ -56,8 +57,11 @@ seen_with seen (listed ∷ targets) = seen_with (with_seen seen listed.series) t
 abbrev pub is_shared : List (Series × Bool) → Series → Bool
 is_shared seen series = unwrap_or (lookup (same_series series) seen) false
 
+-- a target with a number is alone, or it shares its series
 abbrev pub with_alone : List (Series × Bool) → Listed → Listed
-with_alone seen listed = record listed { alone = listed.alone && not (is_shared seen listed.series) }
+with_alone seen listed =
+    let is = is_shared seen listed.series in
+    record listed { alone = listed.alone && not is; shared = listed.alone && is }
 
 -- the targets, each group once
 abbrev pub targets_with : List (Series × Bool) → List Listed → List Listed → List Listed

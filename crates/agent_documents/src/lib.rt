@@ -13,13 +13,14 @@ mod scrapes;
 mod series;
 mod serving;
 mod state;
+mod url;
 
 pub use error::{DocumentError, Part};
 pub use laws::series_decides;
 pub use listing::{all_targets, read_list};
 pub use numbers::{read_head, read_until};
 pub use posting::report_text;
-pub use scrapes::read_said;
+pub use scrapes::{Durations, nanoseconds, read_durations, read_said};
 pub use series::{series_of_labels, series_of_metric};
 pub use serving::list_of;
 pub use state::{read_memory, write_memory};

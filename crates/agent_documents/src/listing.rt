@@ -1,12 +1,13 @@
 //! The allocator's list of a collector and a job, as the targets of an agent.
 ghost use Rattle.std.specs.Prelude.{◌≡◌, [], IfOk, OnOk, codes};
 ghost use Rattle.label_sets.specs.Labels.{with_label};
-ghost use Rattle.agent_documents.specs.Lists.{group_said, is_shared, listed_for, lists_said, refused, seen_with, targets_said, targets_with, with_alone, with_seen};
+ghost use Rattle.agent_documents.specs.Lists.{group_said, is_shared, listed_by, listed_for, lists_said, refused, seen_with, targets_said, targets_with, with_alone, with_seen};
 ghost use Rattle.agent_documents.specs.Reading.{Gives};
 
 use crate::error::{DocumentError, Part};
 use crate::numbers::small_in;
 use crate::series::series_of_labels;
+use crate::url::url_of;
 use agent_core::{Listed, Series};
 use indexmap::{IndexMap, IndexSet};
 use label_sets::{Finished, LabelError, Labels, Target, finish};
@@ -58,8 +59,21 @@ fn listed_of(alloc: Global, job: u32, group: &Group) -> Result<Listed, DocumentE
     };
     let number = small_in(group.labels.get("__meta_allocator_target"));
     let labels = at_address(&group.labels, address.as_str())?;
-    match finish(alloc, &labels)? {
-        Finished::Target(target) => Ok(listed_for(alloc, job, number, &target)?),
+    let finished = finish(alloc, &labels)?;
+    listed_by(alloc, job, number, &finished)
+}
+
+/// The target that labels are finished to.
+fn listed_by(
+    alloc: Global,
+    job: u32,
+    number: Option<u32>,
+    finished: &Finished,
+) -> Result<Listed, DocumentError>
+    ensures { Gives (λ l. l) result (listed_by job number finished.now) }
+{
+    match finished {
+        Finished::Target(target) => Ok(listed_for(alloc, job, number, target)?),
         Finished::NoAddress => Err(DocumentError::Shape(Part::Group)),
     }
 }
@@ -76,6 +90,8 @@ fn at_address(labels: &Labels, address: &str) -> Result<Labels, AllocError>
     }
 }
 
+/// The target of a list, with its number if it has one.
+#[tactic(auto, unfolding(crate::specs::Lists::listed_for))]
 fn listed_for(
     alloc: Global,
     job: u32,
@@ -86,16 +102,19 @@ fn listed_for(
 {
     let group = Text::from_str(alloc, target.text())?;
     let series = series_of_labels(target.labels())?;
+    let url = url_of(alloc, target)?;
     Ok(Listed {
         job,
         group,
         target: number.unwrap_or(0),
         series,
         alone: number.is_some(),
+        shared: false,
+        url,
     })
 }
 
-/// The targets of all jobs' lists: of those that share a series none is alone.
+/// The targets of all jobs' lists: of those that share a series none is alone, and those with a number are marked as shared.
 pub fn all_targets(alloc: Global, targets: Vec<Listed>) -> Result<IndexSet<Listed>, AllocError>
     ensures { IfOk result (λ s. s.keys ≡ targets_with (seen_with [] targets.items) [] targets.items) }
 {
@@ -118,12 +137,14 @@ fn marked(
     Ok(all)
 }
 
-/// The target, which is alone only if its series is not shared.
+/// The target, if it has a number, is alone or shares its series.
 fn with_alone(seen: &IndexMap<Series, bool>, listed: Listed) -> Listed
     ensures { result ≡ with_alone seen.now.entries listed }
 {
     let mut listed = listed;
-    listed.alone = listed.alone && !is_shared(seen, &listed.series);
+    let is_shared = is_shared(seen, &listed.series);
+    listed.shared = listed.alone && is_shared;
+    listed.alone = listed.alone && !is_shared;
     listed
 }
 

@@ -1,5 +1,5 @@
 -- What the allocator says where a list of a job is asked for: docs/operate/HTTP.md.
-use Rattle.std.specs.Prelude.{ℕ, ◌==◌, ◌&&◌, not, Bool, List, [], Option, Some, None, codes, if◌then◌else◌}
+use Rattle.std.specs.Prelude.{ℕ, ◌==◌, ◌&&◌, not, Bool, List, Option, Some, None, codes, if◌then◌else◌}
 use Rattle.std.specs.Str.{bytes_eq}
 use Rattle.agent_core.specs.declared.report.Head.{Head}
 use Rattle.agent_documents.specs.Numbers.{head_said, until_said}

@@ -17,7 +17,7 @@ pub fn read_active(alloc: Global, bytes: &[u8]) -> Result<Vec<Series>, DocumentE
 }
 
 /// The targets of a success.
-fn targets_in(value: &Value) -> Option<&[Value]> {
+pub(crate) fn targets_in(value: &Value) -> Option<&[Value]> {
     if value.get("status")?.as_str()? != "success" {
         return None;
     }

@@ -1,4 +1,5 @@
 //! What is made of settings, of what is asked, and of what is answered.
+use crate::shared::listed_in;
 use agent_core::{Head, Listed, Report, Series};
 use agent_documents::DocumentError;
 use agent_exchanges::{
@@ -194,7 +195,7 @@ fn fault(alloc: Global, error: DocumentError) -> Result<String, AllocError> {
 /// Series of held targets, the places of those that are served, and the series that are scraped, with `|` between: whether all others are let go.
 pub(crate) fn let_go(alloc: Global, text: &str) -> Result<String, AllocError> {
     let mut parts = text.splitn(3, '|');
-    let held = listed_in(alloc, parts.next().unwrap_or(""))?;
+    let held = held_in(alloc, parts.next().unwrap_or(""))?;
     let served = places_in(alloc, parts.next().unwrap_or(""))?;
     let scraped = scraped_in(alloc, parts.next().unwrap_or(""))?;
     let goes = lets_go(
@@ -206,18 +207,18 @@ pub(crate) fn let_go(alloc: Global, text: &str) -> Result<String, AllocError> {
     String::from_str(alloc, if goes { "let go" } else { "not yet" })
 }
 
-fn listed_in(alloc: Global, text: &str) -> Result<Vec<Listed>, AllocError> {
+/// Targets by their series.
+fn held_in(alloc: Global, text: &str) -> Result<Vec<Listed>, AllocError> {
     let mut all = Vec::new(alloc);
     for word in text.split(' ') {
-        all.push(Listed {
-            job: 0,
-            group: Text::from_str(alloc, word)?,
-            target: 0,
-            series: series_of(alloc, word)?,
-            alone: true,
-        })?;
+        all.push(held_as(alloc, word)?)?;
     }
     Ok(all)
+}
+
+fn held_as(alloc: Global, series: &str) -> Result<Listed, AllocError> {
+    let word = format!(in alloc; "0={series}")?;
+    listed_in(alloc, word.as_str())
 }
 
 fn places_in(alloc: Global, text: &str) -> Result<Vec<usize>, AllocError> {

@@ -4,11 +4,14 @@
 
 mod documents;
 mod exchanges;
+mod lasts;
 mod runs;
+mod shared;
 mod turns;
 
 use documents::{head, list, memory, said};
 use exchanges::{active, jobs, join, let_go, paths, posted, range, reports, saying, settings};
+use lasts::{lasts, urls};
 use runs::run;
 use std::alloc::{AllocError, Global};
 use std::io::{Read, Write};
@@ -50,6 +53,8 @@ fn answer_of_exchange(alloc: Global, reader: &str, text: &str) -> Result<String,
         "jobs" => jobs(alloc, text),
         "active" => active(alloc, text),
         "let_go" => let_go(alloc, text),
+        "urls" => urls(alloc, text),
+        "lasts" => lasts(alloc, text),
         "turns" => take_turns(alloc, text),
         _ => String::from_str(alloc, "no reader"),
     }

@@ -1,11 +1,13 @@
 //! A run of an agent, in steps with ` | ` between:
 //!
-//!     take AT EPOCH NUMBER ROUND UNTIL NUMBER=SERIES ..     a list is taken
+//!     take AT EPOCH NUMBER ROUND UNTIL NUMBER=SERIES ..     a list is taken; NUMBER=SERIES@JOB/URL?NAME=VALUE shares its series
 //!     look AT EPOCH NUMBER ROUND UNTIL NUMBER=SERIES ..     a list is shown
 //!     gone AT, unknown AT, over, serve AT
-//!     ask AT SERIES:TIME:SAMPLES ..                         Prometheus says these scrapes; with `down` in place of the samples one that failed
+//!     ask AT SERIES:TIME:SAMPLES ..                         Prometheus says these scrapes; with `down` in place of the samples one that failed,
+//!                                                           and with SERIES@JOB/URL?NAME=VALUE:TIME a last one of a series that is shared
 //!
 //! The answer has the reports, as EPOCH.NUMBER.ROUND.TARGET:TIME:SAMPLES, and what is served.
+use crate::shared::{is_last, lasts_in, listed_in};
 use agent_core::{Agent, Head, Listed, Lists, Memory, Point, Report, Said, Series, Serving};
 use indexmap::{IndexMap, IndexSet};
 use lists::{List, Text};
@@ -68,7 +70,7 @@ pub(crate) fn lists_in(alloc: Global, text: &str) -> Result<Lists, AllocError> {
     let until = words.next().unwrap_or("").parse().unwrap_or(0);
     let mut targets = IndexSet::new(alloc);
     for word in words {
-        targets.insert(target_in(alloc, word)?)?;
+        targets.insert(listed_in(alloc, word)?)?;
     }
     Ok(Lists {
         head: Head {
@@ -82,19 +84,6 @@ pub(crate) fn lists_in(alloc: Global, text: &str) -> Result<Lists, AllocError> {
     })
 }
 
-fn target_in(alloc: Global, word: &str) -> Result<Listed, AllocError> {
-    let (number, series) = word.split_once('=').unwrap_or((word, ""));
-    Ok(Listed {
-        job: 0,
-        group: Text::from_str(alloc, series)?,
-        target: number.parse().unwrap_or(0),
-        series: Series {
-            labels: Text::from_str(alloc, series)?,
-        },
-        alone: true,
-    })
-}
-
 fn ask(
     alloc: Global,
     agent: &mut Agent,
@@ -103,7 +92,8 @@ fn ask(
     text: &str,
 ) -> Result<(), AllocError> {
     let said = said_in(alloc, text)?;
-    let reports = agent.choose(at, &said)?;
+    let lasts = lasts_in(alloc, text)?;
+    let reports = agent.choose(at, &said, &lasts)?;
     for report in reports.as_slice() {
         add_report(alloc, line, report)?;
     }
@@ -113,10 +103,16 @@ fn ask(
 pub(crate) fn said_in(alloc: Global, text: &str) -> Result<Said, AllocError> {
     let mut said = IndexMap::new(alloc);
     for word in text.split(' ') {
-        let (series, point) = word.split_once(':').unwrap_or((word, ""));
-        add_point(alloc, &mut said, series, point)?;
+        if !is_last(word) {
+            add_word(alloc, &mut said, word)?;
+        }
     }
     Ok(said)
+}
+
+fn add_word(alloc: Global, said: &mut Said, word: &str) -> Result<(), AllocError> {
+    let (series, point) = word.split_once(':').unwrap_or((word, ""));
+    add_point(alloc, said, series, point)
 }
 
 /// Adds a point behind those of its series.

@@ -4,8 +4,10 @@
 //!
 //! The answer has what was done: `wrote`, the reports that were posted, and `took`; and behind each turn the numbers of targets held and served.
 use crate::runs::{add_report, lists_in, said_in};
-use agent_core::{Agent, Memory, Report, Said};
+use crate::shared::lasts_in;
+use agent_core::{Agent, Lasts, Memory, Report, Said};
 use agent_turns::{Heard, Outside, Posted, turn};
+use indexmap::IndexMap;
 use std::alloc::{AllocError, Global};
 use std::cell::Cell;
 
@@ -110,6 +112,10 @@ impl Outside for Scripted<'_> {
 
     fn look(&self, _at: u64) -> Heard {
         heard_in(self.alloc, self.shown)
+    }
+
+    fn lasts(&self, _agent: &Agent) -> Lasts {
+        lasts_in(self.alloc, self.said).unwrap_or(IndexMap::new(self.alloc))
     }
 
     fn said(&self) -> Option<Said> {

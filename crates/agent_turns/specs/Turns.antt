@@ -1,6 +1,7 @@
 -- One turn of an agent: what it is told, and what it does outside of itself.
 use Rattle.std.specs.Prelude.{◌≡◌, ◌⊎◌, ℕ, List}
 use Rattle.agent_core.specs.Agents.{Input, Asked, Cut, Gone, Over, Shown, Taken, Unknown, State, next, reported}
+use Rattle.agent_core.specs.declared.sharing.LastScrape.{LastScrape}
 use Rattle.agent_core.specs.declared.slot.Point.{Point}
 use Rattle.agent_core.specs.declared.target.Series.{Series}
 use Rattle.agent_turns.specs.Acts.{Act, Acted, Takes}
@@ -23,15 +24,15 @@ after_take s at heard.Nothing = s
 
 -- What Prometheus said was told to the agent, all of it or as far as there was memory; and what was done then is that what was told is written, and
 -- behind that the first of the reports that the agent chose are posted.
-pub record Reported {S : Type 0} (may_act : S → Act → S → Type 0) (now : ℕ) (said : List (Series × List Point)) (old new : S) (s t : State) : Type 0 where
+pub record Reported {S : Type 0} (may_act : S → Act → S → Type 0) (now : ℕ) (said : List (Series × List Point)) (lasts : List (Series × List LastScrape)) (old new : S) (s t : State) : Type 0 where
   pub input : Input
-  pub is : (input ≡ Asked now said) ⊎ ((count : ℕ) × (input ≡ Cut now said count))
+  pub is : (input ≡ Asked now said lasts) ⊎ ((count : ℕ) × ((more : ℕ) × (input ≡ Cut now said lasts count more)))
   pub acts : Acted may_act old new t.told (reported s input)
   pub state : (t ≡ next s input) ⊎ (t ≡ next (next s input) Over)
 
 -- the same, where Prometheus said anything
 abbrev pub Tried : {S : Type 0} → (S → Act → S → Type 0) → S → S → State → State → Type 0
-Tried may_act old new s t = ((new ≡ old) × (t ≡ s)) ⊎ ((now : ℕ) × (said : List (Series × List Point)) × Reported may_act now said old new s t)
+Tried may_act old new s t = ((new ≡ old) × (t ≡ s)) ⊎ ((now : ℕ) × (said : List (Series × List Point)) × (lasts : List (Series × List LastScrape)) × Reported may_act now said lasts old new s t)
 
 -- what came of a take at a time was told to the agent
 abbrev pub Settles : ℕ → State → State → Type 0

@@ -1,14 +1,16 @@
 //! Whether Prometheus follows what is served.
 ghost use Rattle.std.specs.Prelude.{◌≡◌, [], IfOk, OnOk};
-ghost use Rattle.agent_turns.specs.Following.{all_let_go, held_from, lets_go, served_from, with_place};
+ghost use Rattle.indexmap.specs.IndexMap.{insert_entry};
+ghost use Rattle.agent_core.specs.Targets.{same_series};
+ghost use Rattle.agent_turns.specs.Following.{all_let_go, held_from, left, lets_go, served_from, with_one, with_place};
 
 use agent_core::{Listed, Series};
-use indexmap::IndexSet;
+use indexmap::{IndexMap, IndexSet};
 use lists::Plain;
 use std::alloc::{AllocError, Global};
 
-/// Whether none of the series that Prometheus scrapes is one that only targets have which are held and no longer served. Those that are served are
-/// named by their places.
+/// Whether of none of the series that are held more targets are scraped by Prometheus than are served. Those that are served are named by their
+/// places; each target that is scraped is named by its series.
 pub fn lets_go(
     alloc: Global,
     targets: &[Listed],
@@ -18,8 +20,8 @@ pub fn lets_go(
     ensures { IfOk result (λ b. b ≡ lets_go targets.now served.now scraped.now) }
 {
     let held = held_in(alloc, targets)?;
-    let kept = served_in(alloc, targets, served)?;
-    Ok(all_let_go(&held, &kept, scraped))
+    let mut kept = served_in(alloc, targets, served)?;
+    all_let_go(&held, &mut kept, scraped)
 }
 
 /// The series of targets.
@@ -33,38 +35,76 @@ fn held_in(alloc: Global, targets: &[Listed]) -> Result<IndexSet<Series>, AllocE
     Ok(all)
 }
 
-/// The series of the targets at these places.
+/// How many of the targets at these places have each series.
 fn served_in(
     alloc: Global,
     targets: &[Listed],
     served: &[usize],
-) -> Result<IndexSet<Series>, AllocError>
-    ensures { IfOk result (λ s. s.keys ≡ served_from targets.now [] served.now) }
+) -> Result<IndexMap<Series, usize>, AllocError>
+    ensures { IfOk result (λ m. m.entries ≡ served_from targets.now [] served.now) }
 {
-    let mut all = IndexSet::new(alloc);
+    let mut kept = IndexMap::new(alloc);
     for place in served {
-        add_at(&mut all, targets, *place)?;
+        add_at(&mut kept, targets, *place)?;
     }
-    Ok(all)
+    Ok(kept)
 }
 
-/// Adds the series of the target at a place.
-fn add_at(all: &mut IndexSet<Series>, targets: &[Listed], place: usize) -> Result<(), AllocError>
-    ensures { OnOk result (all.new.keys ≡ with_place targets.now all.old.keys place) }
+/// Counts the series of the target at a place.
+fn add_at(
+    kept: &mut IndexMap<Series, usize>,
+    targets: &[Listed],
+    place: usize,
+) -> Result<(), AllocError>
+    ensures { OnOk result (kept.new.entries ≡ with_place targets.now kept.old.entries place) }
 {
     if let Some(listed) = targets.get(place) {
-        all.insert(listed.series.copy()?)?;
+        add_one(kept, &listed.series)?;
     }
     Ok(())
 }
 
-fn all_let_go(held: &IndexSet<Series>, kept: &IndexSet<Series>, scraped: &[Series]) -> bool
-    ensures { result ≡ all_let_go held.now.keys kept.now.keys scraped.now }
+/// One more of a series.
+fn add_one(kept: &mut IndexMap<Series, usize>, series: &Series) -> Result<(), AllocError>
+    ensures { OnOk result (kept.new.entries ≡ with_one kept.old.entries series.now) }
+{
+    let more = left(kept, series).saturating_add(1);
+    set(kept, series, more)
+}
+
+/// How many of a series are left.
+fn left(kept: &IndexMap<Series, usize>, series: &Series) -> usize
+    ensures { result ≡ left kept.now.entries series.now }
+{
+    match kept.get(series) {
+        Some(count) => *count,
+        None => 0,
+    }
+}
+
+fn set(kept: &mut IndexMap<Series, usize>, series: &Series, count: usize) -> Result<(), AllocError>
+    ensures { OnOk result (kept.new.entries ≡ insert_entry same_series kept.old.entries series.now count) }
+{
+    kept.insert(series.copy()?, count)?;
+    Ok(())
+}
+
+/// Whether of each series that is held no more targets are scraped than are left.
+fn all_let_go(
+    held: &IndexSet<Series>,
+    kept: &mut IndexMap<Series, usize>,
+    scraped: &[Series],
+) -> Result<bool, AllocError>
+    ensures { IfOk result (λ b. b ≡ all_let_go held.now.keys kept.old.entries scraped.now) }
 {
     for series in scraped {
-        if held.contains(series) && !kept.contains(series) {
-            return false;
+        if held.contains(series) {
+            let count = left(kept, series);
+            if count == 0 {
+                return Ok(false);
+            }
+            set(kept, series, count - 1)?;
         }
     }
-    true
+    Ok(true)
 }

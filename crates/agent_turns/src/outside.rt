@@ -1,7 +1,7 @@
 //! What lies outside of an agent: the clock, the device of its state file, the allocator, its Prometheus and who serves that one its lists.
 ghost use Rattle.agent_turns.specs.Acts.{Act, PostedFirst, Takes, Wrote};
 
-use agent_core::{Agent, Lists, Report, Said};
+use agent_core::{Agent, Lasts, Lists, Report, Said};
 
 /// What the allocator said of an agent's lists.
 #[derive(Drop)]
@@ -37,6 +37,10 @@ pub trait Outside {
 
     /// Has the allocator show the lists, and takes none.
     fn look(&self, at: u64) -> Heard;
+
+    /// What Prometheus says of the last scrapes of the series that targets share which the agent holds. Of other series it may say nothing, and
+    /// where nobody shares one it need not be asked.
+    fn lasts(&self, agent: &Agent) -> Lasts;
 
     /// What Prometheus says of its scrapes.
     fn said(&self) -> Option<Said>;

@@ -5,7 +5,7 @@ ghost use Rattle.agent_turns.specs.Acts.{PostedFirst};
 ghost use Rattle.agent_turns.specs.Turns.{Reported, Tried};
 
 use crate::outside::{Outside, Posted};
-use agent_core::{Agent, Report, Said, Standing};
+use agent_core::{Agent, Lasts, Report, Said, Standing};
 use agent_documents::write_memory;
 use std::alloc::{AllocError, Global};
 
@@ -19,19 +19,28 @@ pub(crate) fn report<O: Outside>(
     ensures { Tried O.may_act outside.old outside.new agent.old agent.new }
 {
     match said_to(agent, outside, came) {
-        Some(said) => {
+        Some((said, lasts)) => {
             let now = outside.now();
-            report_all(alloc, agent, outside, now, &said)
+            report_all(alloc, agent, outside, now, &said, &lasts)
         }
         None => Ok(()),
     }
 }
 
 /// What Prometheus says to an agent that holds a list, where the allocator was heard.
-fn said_to<O: Outside>(agent: &Agent, outside: &O, came: bool) -> Option<Said> {
+fn said_to<O: Outside>(agent: &Agent, outside: &O, came: bool) -> Option<(Said, Lasts)> {
     match agent.standing() {
-        Standing::Holding | Standing::Following(_) if came => outside.said(),
+        Standing::Holding | Standing::Following(_) if came => said_by(agent, outside),
         Standing::Nobody | Standing::Holding | Standing::Following(_) => None,
+    }
+}
+
+/// What Prometheus says. Of last scrapes it is asked first: then those are stored when it is asked for scrapes.
+fn said_by<O: Outside>(agent: &Agent, outside: &O) -> Option<(Said, Lasts)> {
+    let lasts = outside.lasts(agent);
+    match outside.said() {
+        Some(said) => Some((said, lasts)),
+        None => None,
     }
 }
 
@@ -43,10 +52,11 @@ pub fn report_all<O: Outside>(
     outside: &mut O,
     now: u64,
     said: &Said,
+    lasts: &Lasts,
 ) -> Result<(), AllocError>
-    ensures { Reported O.may_act now said.now.entries outside.old outside.new agent.old agent.new }
+    ensures { Reported O.may_act now said.now.entries lasts.now.entries outside.old outside.new agent.old agent.new }
 {
-    let reports = agent.choose(now, said)?;
+    let reports = agent.choose(now, said, lasts)?;
     if reports.is_empty() {
         return Ok(());
     }

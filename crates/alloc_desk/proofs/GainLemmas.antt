@@ -7,7 +7,7 @@ use Rattle.fleet_events.specs.declared.event.Event.{Event}
 use Rattle.fleet_events.specs.declared.event.Event.TheVariants.{Discover, Join, Leave, Drain, SetLimits, Install, Spread, NextRound, Take, Serve, Release, Report}
 use Rattle.fleet_events.specs.declared.answer.Answer.{Answer}
 use Rattle.fleet_events.specs.declared.answer.Answer.TheVariants.{Discovered, Joined, Left, Draining, LimitsSet, Published, RoundOpen, Taken, Served, Released, Booked, Not}
-use Rattle.alloc_desk.specs.declared.entry.Entry.{Entry}
+use Rattle.journal_entries.specs.declared.entry.Entry.{Entry}
 use Rattle.alloc_desk.specs.Gains.{offered, is_booked}
 use Rattle.alloc_desk.specs.History.{gained_in}
 

@@ -2,6 +2,8 @@ pub mod AttemptLemmas
 pub mod ChangedLemmas
 pub mod GainLemmas
 pub mod JournalLemmas
+pub mod LogLemmas
+pub mod Prefixes
 pub mod ReachedLemmas
 pub mod ReceiptLemmas
 pub mod SpareLemmas

@@ -3,7 +3,7 @@ use Rattle.std.proofs.Common.{◌≡◌, ℕ, ◌+◌, ◌≤◌, List, [], ◌�
 use Rattle.scrape_books.specs.Books.{total_of}
 use Rattle.allocation_core.specs.State.{State}
 use Rattle.allocation_core.specs.Steps.{answer_of, state_after, gained}
-use Rattle.alloc_desk.specs.declared.entry.Entry.{Entry}
+use Rattle.journal_entries.specs.declared.entry.Entry.{Entry}
 use Rattle.alloc_desk.specs.declared.limits.TheConstants.{MOST_ENTRIES}
 use Rattle.alloc_desk.specs.Counts.{Counts}
 use Rattle.alloc_desk.specs.History.{History, IsAccounted, gained_in}

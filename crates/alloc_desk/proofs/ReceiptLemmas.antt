@@ -6,8 +6,8 @@ use Rattle.allocation_core.specs.State.{State}
 use Rattle.allocation_core.specs.Runs.{answers_of}
 use Rattle.fleet_events.specs.declared.event.Event.{Event}
 use Rattle.fleet_events.specs.declared.answer.Answer.{Answer}
-use Rattle.alloc_desk.specs.History.{IsLegal, events_in, answers_in}
-use Rattle.alloc_desk.specs.declared.entry.Entry.{Entry}
+use Rattle.journal_entries.specs.Legal.{IsLegal, events_in, answers_in}
+use Rattle.journal_entries.specs.declared.entry.Entry.{Entry}
 use Rattle.alloc_desk.specs.declared.receipt.Receipt.{Receipt}
 use Rattle.alloc_desk.specs.Receipts.{told, told_from}
 

@@ -3,7 +3,7 @@ use Rattle.std.specs.Prelude.{◌||◌, Bool, true, false, nat_lt, List, [], ◌
 use Rattle.fleet_events.specs.declared.answer.Answer.{Answer}
 use Rattle.fleet_events.specs.declared.answer.Answer.TheVariants.{Discovered, Joined, Left, Draining, LimitsSet, Published, Not}
 use Rattle.fleet_events.specs.declared.refusal.Refusal.TheVariants.{Unchanged}
-use Rattle.alloc_desk.specs.declared.entry.Entry.{Entry}
+use Rattle.journal_entries.specs.declared.entry.Entry.{Entry}
 
 -- after this answer: an allocation that is published, or found again, is a best one of its moment, or the best within its caps
 abbrev pub changed_by : Bool → Answer → Bool

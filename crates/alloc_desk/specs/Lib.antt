@@ -4,10 +4,12 @@ pub mod Counts
 pub mod Gains
 pub mod History
 pub mod Idle
+pub mod Log
 pub mod Reached
 pub mod Reallocating
 pub mod Reallocation
 pub mod Receipts
+pub mod Seen
 pub mod Spare
 pub mod Spreading
 pub mod Views

@@ -6,7 +6,8 @@ use Rattle.fleet_events.specs.declared.event.Event.{Event}
 use Rattle.alloc_desk.specs.declared.limits.TheConstants.{MOST_ENTRIES}
 use Rattle.alloc_desk.specs.declared.receipt.Receipt.{Receipt}
 use Rattle.alloc_desk.specs.Counts.{Counts}
-use Rattle.alloc_desk.specs.History.{History, IsLegal, gained_in}
+use Rattle.alloc_desk.specs.History.{History, gained_in}
+use Rattle.journal_entries.specs.Legal.{IsLegal}
 
 -- some history of which this holds
 pub record Reached (opening : State) (counts : Counts) (Holds : History → Type 0) : Type 0 where

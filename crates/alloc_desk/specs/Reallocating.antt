@@ -8,7 +8,7 @@ use Rattle.fleet_events.specs.declared.event.Event.TheVariants.{Install}
 use Rattle.fleet_events.specs.declared.answer.Answer.{Answer}
 use Rattle.fleet_events.specs.declared.answer.Answer.TheVariants.{Published as IsPublished, Not}
 use Rattle.fleet_events.specs.declared.refusal.Refusal.TheVariants.{Refused, Unchanged as IsUnchanged, NumbersSpent as AreSpent}
-use Rattle.alloc_desk.specs.declared.entry.Entry.{Entry}
+use Rattle.journal_entries.specs.declared.entry.Entry.{Entry}
 use Rattle.alloc_desk.specs.declared.attempt.Attempt.{Attempt}
 use Rattle.alloc_desk.specs.declared.attempt.Attempt.TheVariants.{Published, Unchanged, NumbersSpent, Lost as IsLost}
 use Rattle.alloc_desk.specs.declared.attempt.Lost.{Lost}
@@ -17,7 +17,7 @@ use Rattle.alloc_desk.specs.declared.attempt.Reallocated.TheVariants.{Published 
 use Rattle.alloc_desk.specs.declared.attempt.ReallocateError.{ReallocateError}
 use Rattle.alloc_desk.specs.declared.attempt.ReallocateError.TheVariants.{JournalFull, Memory, Overtaken, NumbersSpent as NumbersRanOut}
 use Rattle.alloc_desk.specs.Counts.{Counts}
-use Rattle.alloc_desk.specs.History.{IsLegal}
+use Rattle.journal_entries.specs.Legal.{IsLegal}
 use Rattle.alloc_desk.specs.Reached.{Reached, IsFull}
 
 -- some legal journal of at least so many entries ends in this event with this answer

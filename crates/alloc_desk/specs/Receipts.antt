@@ -1,7 +1,7 @@
 -- The receipts that a journal gave.
 use Rattle.std.specs.Prelude.{ℕ, ◌+◌, List, [], ◌∷◌}
 use Rattle.fleet_events.specs.declared.event.Event.{Event}
-use Rattle.alloc_desk.specs.declared.entry.Entry.{Entry}
+use Rattle.journal_entries.specs.declared.entry.Entry.{Entry}
 use Rattle.alloc_desk.specs.declared.receipt.Receipt.{Receipt}
 
 -- an entry's event, with its receipt at a position

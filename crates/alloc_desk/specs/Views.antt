@@ -8,8 +8,8 @@ use Rattle.fleet.specs.declared.known_target.KnownTarget.{KnownTarget}
 use Rattle.allocation_core.specs.State.{State, current_of, held_by, instance_at}
 use Rattle.alloc_desk.specs.declared.view.View.{View}
 use Rattle.alloc_desk.specs.declared.view.CollectorView.{CollectorView}
-use Rattle.alloc_desk.specs.declared.view.NumberedTarget.{NumberedTarget}
-use Rattle.alloc_desk.specs.declared.view.Share.{Share}
+use Rattle.target_shares.specs.declared.numbered_target.NumberedTarget.{NumberedTarget}
+use Rattle.target_shares.specs.declared.share.Share.{Share}
 
 abbrev pub collector_view_of : State → Collector → CollectorView
 collector_view_of m c = record { id = c.id; name = c.name; draining = c.draining; held = held_by m c.id }

@@ -1,34 +1,38 @@
 //! A closed desk.
 ghost use Rattle.std.specs.Prelude.{◌≡◌, ◌↔◌, map, IsTrue};
+ghost use mathlib.Core.List.{IsPrefix};
 ghost use Rattle.allocation_core.specs.Runs.{answers_of};
 ghost use Rattle.fleet_events.specs.declared.event.Event.{Event as AnyEvent};
 ghost use Rattle.alloc_desk.specs.declared.receipt.Receipt.{Receipt as AnyReceipt};
-ghost use Rattle.alloc_desk.specs.History.{IsLegal};
+ghost use Rattle.journal_entries.specs.Legal.{IsLegal};
 ghost use Rattle.alloc_desk.specs.Receipts.{told, told_from};
 
-use crate::entry::Entry;
+use crate::front::Front;
 use crate::name::DeskName;
 use crate::receipt::Receipt;
 use crate::record::Record;
 use allocation_core::{Core, Event};
+use journal_entries::Entry;
 use lists::Plain;
-use std::marker::{Model, PhantomData};
+use std::marker::Model;
 
 /// A closed desk: a state, and the journal that leads to it from the opening state.
 #[derive(Drop)]
 pub struct Closed<N: DeskName> {
     pub(crate) record: Record,
-    pub(crate) of: PhantomData<N>,
+    pub(crate) front: Front<N>,
 }
 
 impl<N: DeskName> Model for Closed<N> {
-    ghost use Rattle.alloc_desk.specs.History.{History, IsLegal};
+    ghost use Rattle.std.specs.Prelude.{◌≡◌};
+    ghost use Rattle.alloc_desk.specs.History.{History};
+    ghost use Rattle.journal_entries.specs.Legal.{IsLegal};
 
     ghost Value = { History };
 
     ghost view = { λ c. c.record };
 
-    ghost invariant = { λ c. IsLegal N.opening c.record.journal c.record.state };
+    ghost invariant = { λ c. IsLegal N.opening c.record.journal c.record.state × (c.front ≡ c.record.journal) };
 }
 
 impl<N: DeskName> Closed<N> {
@@ -38,6 +42,13 @@ impl<N: DeskName> Closed<N> {
         ensures legal { IsLegal N.opening self.now.journal self.now.state }
     {
         self.record.journal()
+    }
+
+    /// Whether a front has seen a beginning of the journal.
+    pub fn begins_with(&self, front: &Front<N>) -> bool
+        ensures { IsTrue result ↔ IsPrefix front.now self.now.journal }
+    {
+        self.front.covers(front)
     }
 
     /// The allocator as it is after all events of the journal.

@@ -1,9 +1,12 @@
 //! The allocator under its lock.
 ghost use Rattle.std.specs.Prelude.{◌≡◌, ◌≢◌, ◌↔◌, ◌+◌, ◌<◌, ◌≤◌, sum_by, vec_len, length, Err, IfOk, IfErr, OnErr, IsErr};
+ghost use Rattle.std.specs.Sync.Mutex.{mutex_guard_value};
+ghost use mathlib.Core.List.{IsPrefix};
 ghost use Rattle.scrape_books.specs.Books.{total_of};
 ghost use Rattle.allocation_core.specs.Steps.{gained};
 ghost use Rattle.alloc_desk.specs.Counts.{Counts, first_counts};
-ghost use Rattle.alloc_desk.specs.History.{IsLegal};
+ghost use Rattle.alloc_desk.specs.History.{end_of};
+ghost use Rattle.journal_entries.specs.Legal.{IsLegal};
 ghost use Rattle.alloc_desk.specs.Reached.{IsFull, IsReceipt, Reached};
 ghost use Rattle.alloc_desk.specs.declared.limits.TheConstants.{MOST_PASSES};
 
@@ -12,6 +15,8 @@ mod reallocating;
 mod spreading;
 
 use crate::closed::Closed;
+use crate::front::Front;
+use crate::log::Log;
 use crate::name::{DeskName, Fits};
 use crate::pass::Pass;
 use crate::receipt::Receipt;
@@ -21,7 +26,7 @@ use allocation_core::{Core, Event};
 use std::alloc::Global;
 use std::marker::PhantomData;
 use std::sync::ledger::{Blank, Ledger};
-use std::sync::{Mutex, Wait};
+use std::sync::{Mutex, MutexGuard, Wait};
 
 /// The allocator under its lock, with the journal of all events. `L` and `B` are the ledgers of the passes' calls and of the samples
 /// that they booked, `N` says which desk it is.
@@ -50,11 +55,13 @@ impl<L: Ledger, B: Ledger, N: DeskName> Desk<L, B, N> {
         passes: u32,
         calls: Blank,
         samples: Blank,
+        log: Log,
     ) -> Result<(Desk<L, B, N>, Vec<Pass<L, B, N>>), Core>
         requires core { core ≡ N.opening }
         requires passes { (passes ≡ N.seats) × (0 < passes) × (passes ≤ MOST_PASSES) }
         requires calls { (calls.name ≡ L.name) × (calls.parts ≡ L.parts) × (L.parts ≡ N.seats) }
         requires samples { (samples.name ≡ B.name) × (samples.parts ≡ B.parts) × (B.parts ≡ N.seats) }
+        requires log { log ≡ N.book }
         ensures count { IfOk result (λ r. vec_len r.1 ≡ passes) }
         ensures passes { IfOk result (λ r. r.1.items ≡ first_counts passes) }
         ensures core { IfErr result (λ c. c ≡ core) }
@@ -72,7 +79,7 @@ impl<L: Ledger, B: Ledger, N: DeskName> Desk<L, B, N> {
             );
             all.push_reserved(pass);
         }
-        let shelf = Shelf::new(Record::open(alloc, core), calls, samples);
+        let shelf = Shelf::new(Record::open(alloc, core), calls, samples, log);
         Ok((
             Desk {
                 shelf: Mutex::new(shelf),
@@ -97,7 +104,32 @@ impl<L: Ledger, B: Ledger, N: DeskName> Desk<L, B, N> {
         ensures full { result ≡ Err EnterError.JournalFull → Reached N.opening pass.old IsFull }
         ensures err { OnErr result (pass.new ≡ pass.old) }
     {
-        self.shelf.lock(rt).submit(pass, event)
+        self.shelf.lock(rt).submit(rt, pass, event)
+    }
+
+    /// What the journal has now.
+    pub fn front(&self, rt: &impl Wait) -> Front<N>
+        ensures { IsLegal N.opening result (end_of N.opening result) }
+    {
+        self.shelf.lock(rt).front().again()
+    }
+
+    /// What lies under the lock, once its journal has all that a front has seen. It has it at the first look, since the front is of an
+    /// earlier one.
+    pub(crate) fn shelf_past(
+        &self,
+        rt: &impl Wait,
+        front: &Front<N>,
+    ) -> MutexGuard<'_, Shelf<L, B, N>>
+        ensures { IsPrefix front.now (mutex_guard_value result).journal }
+    {
+        for _look in rt.forever() {
+            let shelf = self.shelf.lock(rt);
+            if shelf.front().covers(front) {
+                return shelf;
+            }
+        }
+        unreachable!()
     }
 
     /// The state and the journal, where all passes came back; else the desk and the passes.

@@ -4,14 +4,14 @@ ghost use Rattle.scrape_books.specs.Books.{total_of};
 ghost use Rattle.allocation_core.specs.State.{State};
 ghost use Rattle.allocation_core.specs.Steps.{answer_of, state_after, gained};
 ghost use Rattle.alloc_desk.specs.Changed.{changed_in};
-ghost use Rattle.alloc_desk.specs.History.{IsLegal};
+ghost use Rattle.journal_entries.specs.Legal.{IsLegal};
 ghost use Rattle.alloc_desk.specs.declared.limits.TheConstants.{MOST_ENTRIES};
 
 use crate::changed::changed_by;
-use crate::entry::Entry;
 use crate::limits::MOST_ENTRIES;
 use crate::spare::{copy_with, spare_of};
 use allocation_core::{Answer, Core, Event};
+use journal_entries::Entry;
 use lists::Plain;
 use std::alloc::Global;
 use std::marker::Model;

@@ -1,54 +1,65 @@
 //! What lies under a desk's lock.
-ghost use Rattle.std.specs.Prelude.{◌≡◌, ◌+◌, ◌<◌, ◌≤◌, length, sum_by, vec_len, [], Err, IfOk, OnErr};
+ghost use Rattle.std.specs.Prelude.{◌≡◌, ◌+◌, ◌<◌, ◌≤◌, ◌∷◌, ◌++◌, length, sum_by, vec_len, [], Err, IfOk, OnErr};
 ghost use Rattle.scrape_books.specs.Books.{total_of};
 ghost use Rattle.allocation_core.specs.Steps.{gained};
 ghost use Rattle.alloc_desk.specs.Counts.{Counts};
-ghost use Rattle.alloc_desk.specs.History.{History, IsLegal};
+ghost use Rattle.alloc_desk.specs.History.{History};
+ghost use Rattle.journal_entries.specs.Legal.{IsLegal};
 ghost use Rattle.alloc_desk.specs.Reached.{IsFull, IsReceipt, Reached};
+ghost use Rattle.alloc_desk.specs.Seen.{entry_of};
+ghost use Rattle.alloc_desk.specs.declared.limits.TheConstants.{MOST_ENTRIES};
 
 use crate::closed::Closed;
+use crate::front::Front;
 use crate::gains::{gained, offered};
+use crate::log::{Head, Log};
 use crate::name::DeskName;
 use crate::pass::Pass;
 use crate::receipt::Receipt;
 use crate::record::{EnterError, Record};
 use allocation_core::Event;
-use std::marker::{Model, PhantomData};
+use std::marker::Model;
+use std::sync::Wait;
 use std::sync::ledger::{Book, Ledger, Share};
 
-/// What lies under the lock: a record whose journal is legal from the opening state, with the books of the two ledgers. Contracts
-/// see its history.
+/// What lies under the lock: a record whose journal is legal from the opening state, with the books of the two ledgers, and with the
+/// log of all entries, whose front has seen the journal. Contracts see its history.
 #[derive(Drop)]
 pub(crate) struct Shelf<L: Ledger, B: Ledger, N: DeskName> {
     record: Record,
     calls: Book<L>,
     samples: Book<B>,
-    of: PhantomData<N>,
+    head: Head<N>,
+    front: Front<N>,
 }
 
 impl<L: Ledger, B: Ledger, N: DeskName> Model for Shelf<L, B, N> {
+    ghost use Rattle.std.specs.Prelude.{◌≡◌};
     ghost use Rattle.alloc_desk.specs.History.{History, IsAccounted};
 
     ghost Value = { History };
 
     ghost view = { λ s. s.record };
 
-    ghost invariant = { λ s. IsAccounted N.opening s.record s.calls.total s.samples.total };
+    ghost invariant = { λ s. IsAccounted N.opening s.record s.calls.total s.samples.total × (s.front ≡ s.record.journal) };
 }
 
 impl<L: Ledger, B: Ledger, N: DeskName> Shelf<L, B, N> {
     /// A shelf over a record with no journal yet.
-    pub(crate) fn new(kept: Record, calls: Book<L>, samples: Book<B>) -> Shelf<L, B, N>
+    pub(crate) fn new(kept: Record, calls: Book<L>, samples: Book<B>, log: Log) -> Shelf<L, B, N>
         requires opening { kept.state ≡ N.opening }
         requires empty { kept.journal ≡ [] }
         requires books { (calls.total ≡ 0) × (samples.total ≡ 0) }
+        requires log { log ≡ N.book }
         ensures { result ≡ kept }
     {
+        let (head, front) = log.named::<N>();
         Shelf {
             record: kept,
             calls,
             samples,
-            of: PhantomData,
+            head,
+            front,
         }
     }
 
@@ -69,21 +80,33 @@ impl<L: Ledger, B: Ledger, N: DeskName> Shelf<L, B, N> {
         &self.record
     }
 
+    /// The front that has seen all of the journal.
+    pub(crate) fn front(&self) -> &Front<N>
+        ensures { result.now ≡ self.now.journal }
+    {
+        &self.front
+    }
+
     /// Enters an event for a pass.
     pub(crate) fn submit(
         &mut self,
+        rt: &impl Wait,
         pass: &mut Pass<L, B, N>,
         event: Event,
     ) -> Result<Receipt, EnterError>
-        ensures answered { IfOk result (λ r. Reached N.opening pass.old (IsReceipt event pass.old r)) }
+        ensures answered { IfOk result (λ r. Reached N.opening pass.old (λ h. (h ≡ self.old) × IsReceipt event pass.old r h)) }
+        ensures entered { IfOk result (λ r. self.new.journal ≡ self.old.journal ++ entry_of event r ∷ []) }
         ensures counts { IfOk result (λ r. pass.new ≡ record { seat = pass.old.seat; calls = pass.old.calls + 1; booked = pass.old.booked + gained event r.answer }) }
         ensures full { result ≡ Err EnterError.JournalFull → Reached N.opening pass.old IsFull }
-        ensures err { OnErr result (pass.new ≡ pass.old) }
+        ensures most { result ≡ Err EnterError.JournalFull → length self.new.journal ≡ MOST_ENTRIES }
+        ensures err { OnErr result ((pass.new ≡ pass.old) × (self.new ≡ self.old)) }
     {
         self.calls.audit(&mut pass.call_share);
         self.samples.audit(&mut pass.sample_share);
         let samples = offered(&event);
         let (position, answer) = self.record.enter(pass.seat, event)?;
+        self.front
+            .push(rt, &self.head, &self.record.journal()[position as usize]);
         let gain = gained(samples, &answer);
         self.calls.add(&mut pass.call_share, 1);
         self.samples.add(&mut pass.sample_share, u64::from(gain));
@@ -110,15 +133,13 @@ impl<L: Ledger, B: Ledger, N: DeskName> Shelf<L, B, N> {
             record,
             mut calls,
             mut samples,
-            of: _,
+            head: _,
+            front,
         } = self;
         let (mut call_share, mut sample_share) = merged(passes);
         calls.audit(&mut call_share);
         samples.audit(&mut sample_share);
-        Closed {
-            record,
-            of: PhantomData,
-        }
+        Closed { record, front }
     }
 }
 

@@ -1,8 +1,10 @@
 //! The journal's copy of an answer, which takes no memory after the event: what it needs was made before.
-ghost use Rattle.std.specs.Prelude.{◌≡◌, IfOk, None, Some};
-ghost use Rattle.alloc_desk.specs.Spare.{IsSpareOf, IsSpareFor};
+ghost use Rattle.std.specs.Prelude.{◌≡◌, [], IfOk, None, Some};
+ghost use Rattle.allocation_core.specs.State.{held_by, left_out_at, list_at};
+ghost use Rattle.allocation_core.specs.Steps.{place_of};
+ghost use Rattle.alloc_desk.specs.Spare.{lists_of, IsSpareOf, IsSpareFor};
 
-use allocation_core::{Answer, Core, Event, ServedList};
+use allocation_core::{Answer, CollectorId, Core, Event, ServedList};
 use lists::List;
 use std::alloc::{AllocError, Global};
 
@@ -15,12 +17,40 @@ pub(crate) fn spare_of(
     ensures { IfOk result (IsSpareOf core.now event.now) }
 {
     match event {
-        Event::Take(collector) => Ok(Some(ServedList {
-            listed: core.held(*collector)?,
+        Event::Take(collector) => held_spare(alloc, core, *collector),
+        Event::Serve { collector, job } => list_spare(core, *collector, job.as_str()),
+        _ => Ok(None),
+    }
+}
+
+/// What a collector holds, which is taken whole.
+fn held_spare(
+    alloc: Global,
+    core: &Core,
+    collector: CollectorId,
+) -> Result<Option<ServedList>, AllocError>
+    ensures { IfOk result (λ o. o ≡ Some (lists_of (held_by core.now collector) [])) }
+{
+    match core.held(collector) {
+        Ok(listed) => Ok(Some(ServedList {
+            listed,
             left_out: List::new(alloc),
         })),
-        Event::Serve { collector, job } => Ok(Some(core.list(*collector, job.as_str())?)),
-        _ => Ok(None),
+        Err(error) => Err(error),
+    }
+}
+
+/// A collector's list of a job.
+fn list_spare(
+    core: &Core,
+    collector: CollectorId,
+    job: &str,
+) -> Result<Option<ServedList>, AllocError>
+    ensures { IfOk result (λ o. o ≡ Some (lists_of (list_at core.now collector (place_of core.now job.now)) (left_out_at core.now collector (place_of core.now job.now)))) }
+{
+    match core.list(collector, job) {
+        Ok(list) => Ok(Some(list)),
+        Err(error) => Err(error),
     }
 }
 

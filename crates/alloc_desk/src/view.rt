@@ -9,6 +9,7 @@ use lists::{List, Plain};
 use price_certificate::{Instance, Plan};
 use reach_rules::CollectorName;
 use std::alloc::{AllocError, Global};
+use target_shares::{NumberedTarget, Share};
 
 /// A live collector.
 #[derive(Debug, Drop)]
@@ -36,20 +37,6 @@ pub struct View {
     pub round: Round,
     /// The samples of all reports that are booked.
     pub total: u128,
-}
-
-/// A target beside its number.
-#[derive(Debug, Drop)]
-pub struct NumberedTarget {
-    pub number: TargetId,
-    pub target: Target,
-}
-
-/// What a live collector holds of one job in the current allocation, in order of number.
-#[derive(Debug, Drop)]
-pub struct Share {
-    pub collector: CollectorName,
-    pub targets: List<NumberedTarget>,
 }
 
 /// What is shown of a state.

@@ -27,8 +27,9 @@ use Rattle.fleet_events.specs.declared.answer.Answer.TheVariants.{Discovered, Jo
 use Rattle.fleet_events.specs.declared.refusal.Refusal.TheVariants.{UnknownCollector, Unchanged, NumbersSpent, RoundsSpent, NotTaken, UnknownTarget, NotHolder, StillServed, RoundClosed, RoundNotOpen, AlreadyBooked}
 use Rattle.handover.specs.declared.holders.TheConstants.{LAST_NUMBER}
 use Rattle.allocation_core.specs.declared.limits.TheConstants.{LAST_ROUND}
-use Rattle.allocation_core.specs.State.{State, allocation_at, current_of, current_pairs, held_by, instance_at, left_out_at, list_at, was_given}
-use Rattle.allocation_core.specs.Steps.{answer_by, answer_of, is_booked, is_holder, number_for, place_named, place_of, plan_refusal, same_pairs, spread_refusal, unless_released, unless_served, undrained, unjoined, unlimited, unlisted}
+use Rattle.allocation_core.specs.State.{State, allocation_at, current_of, current_pairs, first_round, held_by, instance_at, left_out_at, list_at, was_given}
+use Rattle.scrape_books.specs.Books.{is_booked}
+use Rattle.allocation_core.specs.Steps.{answer_by, answer_of, is_holder, number_for, place_named, place_of, plan_refusal, same_pairs, spread_refusal, unless_released, unless_served, undrained, unjoined, unlimited, unlisted}
 use Rattle.allocation_core.specs.Answers.{IsAnswerTo, is_discover_answer, is_join_answer, is_leave_answer, is_drain_answer, is_limits_answer, is_install_answer, is_spread_answer, is_round_answer, is_take_answer, is_serve_answer, is_release_answer, is_report_answer}
 
 discover_answer : (o : Option ListRefusal) (x y : ℕ) → IsTrue (is_discover_answer (answer_by (option_map unlisted o) (Discovered x y)))
@@ -102,17 +103,17 @@ release_answer m id None count = given_by is_release_answer (was_given m id) (Re
 release_answer m id (Some name) count = released_answer m id (place_of m name) count
 
 report_answer :
-    (joined took there holds free closed ahead twice : Bool) (number other round : ℕ) (holder : Option ℕ)
-    → IsTrue (is_report_answer (answer_by (cond joined (cond took (cond there (cond holds (cond free (cond closed (Some (RoundClosed round)) (cond ahead (Some (RoundNotOpen round)) (cond twice (Some AlreadyBooked) None))) (Some (StillServed other))) (Some (NotHolder holder))) (Some UnknownTarget)) (Some (NotTaken number))) (Some UnknownCollector)) Booked))
-report_answer false took there holds free closed ahead twice number other round holder = refl
-report_answer true false there holds free closed ahead twice number other round holder = refl
-report_answer true true false holds free closed ahead twice number other round holder = refl
-report_answer true true true false free closed ahead twice number other round holder = refl
-report_answer true true true true false closed ahead twice number other round holder = refl
-report_answer true true true true true true ahead twice number other round holder = refl
-report_answer true true true true true false true twice number other round holder = refl
-report_answer true true true true true false false true number other round holder = refl
-report_answer true true true true true false false false number other round holder = refl
+    (joined took there holds free closed ahead twice : Bool) (number other first round : ℕ) (holder : Option ℕ)
+    → IsTrue (is_report_answer (answer_by (cond joined (cond took (cond there (cond holds (cond free (cond closed (Some (RoundClosed first)) (cond ahead (Some (RoundNotOpen round)) (cond twice (Some AlreadyBooked) None))) (Some (StillServed other))) (Some (NotHolder holder))) (Some UnknownTarget)) (Some (NotTaken number))) (Some UnknownCollector)) Booked))
+report_answer false took there holds free closed ahead twice number other first round holder = refl
+report_answer true false there holds free closed ahead twice number other first round holder = refl
+report_answer true true false holds free closed ahead twice number other first round holder = refl
+report_answer true true true false free closed ahead twice number other first round holder = refl
+report_answer true true true true false closed ahead twice number other first round holder = refl
+report_answer true true true true true true ahead twice number other first round holder = refl
+report_answer true true true true true false true twice number other first round holder = refl
+report_answer true true true true true false false true number other first round holder = refl
+report_answer true true true true true false false false number other first round holder = refl
 
 pub answers_fit : (m : State) (e : Event) → IsAnswerTo e (answer_of m e)
 unfolding answer_of
@@ -130,5 +131,5 @@ answers_fit m (Release id name) = release_answer m id name (count_had m.fleet.kn
 answers_fit m (Report report) =
     let holder : Option ℕ = holder_in m.published report.allocation report.target in
     let number : ℕ = number_for m report.collector report.target in
-    report_answer (is_joined m.fleet report.collector) (number == report.allocation) (nat_lt report.target (length m.fleet.known)) (is_holder holder report.collector) (is_free m.served.slots report.collector report.target) (nat_lt report.round m.round) (nat_lt m.round report.round) (is_booked m.booked report.target report.round)
-    number (slot_of m.served.slots report.target) m.round holder
+    report_answer (is_joined m.fleet report.collector) (number == report.allocation) (nat_lt report.target (length m.fleet.known)) (is_holder holder report.collector) (is_free m.served.slots report.collector report.target) (nat_lt report.round (first_round m)) (nat_lt m.round report.round) (is_booked m.booked report.target report.round)
+    number (slot_of m.served.slots report.target) (first_round m) m.round holder

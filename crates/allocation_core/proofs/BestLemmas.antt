@@ -211,7 +211,7 @@ run_best laws m (e ∷ es) k kept once low high = elim (cases_lt k (length (stat
 ]
 
 pub always_best : Laws → AlwaysBest
-always_best laws jobs events place less = run_best laws (first_state jobs) events place (start_kept jobs) (All-nil IsOnce) (omega arith) less
+always_best laws jobs report_rounds events place less = run_best laws (first_state jobs report_rounds) events place (start_kept jobs report_rounds) (All-nil IsOnce) (omega arith) less
 
 -- with more events behind
 farther : (first : State) (events done left : List Event) (place : ℕ) (pairs : List (ℕ × ℕ)) → events ≡ done ++ left → WasPublished first done place pairs → WasPublished first events place pairs
@@ -267,7 +267,7 @@ without_spread first events place pairs none (inr was) = absurd (not_both (list_
     not_both b e f = cc
 
 pub installed_are_best : AlwaysBest → InstalledAreBest
-installed_are_best always jobs events none place less = without_spread (first_state jobs) events place _ none (always jobs events place less)
+installed_are_best always jobs report_rounds events none place less = without_spread (first_state jobs report_rounds) events place _ none (always jobs report_rounds events place less)
 
 pub published_cover_most : BestCoverMost → PublishedCoverMost
 published_cover_most law first events place pairs (inl was) =
@@ -294,18 +294,18 @@ published_cover_most law first events place pairs (inr was) =
     }
 
 pub always_most : AlwaysBest → BestCoverMost → AlwaysMost
-always_most always law jobs events place less = published_cover_most law (first_state jobs) events place _ (always jobs events place less)
+always_most always law jobs report_rounds events place less = published_cover_most law (first_state jobs report_rounds) events place _ (always jobs report_rounds events place less)
 
 -- a run that did the first of the events
-pub best_after : AlwaysBest → (jobs : List JobSpec) (events done left : List Event) (old new : State) → old ≡ first_state jobs → events ≡ done ++ left → new ≡ state_of old done → AllBest (first_state jobs) events new
-best_after always jobs events done left old new opened split is =
-    let same : new ≡ state_of (first_state jobs) done = is ∙ ap (λ (m : State). state_of m done) opened in
-    subst (λ (m : State). AllBest (first_state jobs) events m) (sym same)
-    (λ place less. farther (first_state jobs) events done left place (get_or (state_of (first_state jobs) done).published place []) split (always jobs done place less))
+pub best_after : AlwaysBest → (jobs : List JobSpec) (report_rounds : ℕ) (events done left : List Event) (old new : State) → old ≡ first_state jobs report_rounds → events ≡ done ++ left → new ≡ state_of old done → AllBest (first_state jobs report_rounds) events new
+best_after always jobs report_rounds events done left old new opened split is =
+    let same : new ≡ state_of (first_state jobs report_rounds) done = is ∙ ap (λ (m : State). state_of m done) opened in
+    subst (λ (m : State). AllBest (first_state jobs report_rounds) events m) (sym same)
+    (λ place less. farther (first_state jobs report_rounds) events done left place (get_or (state_of (first_state jobs report_rounds) done).published place []) split (always jobs report_rounds done place less))
 
 -- the same, after earlier events
-pub best_after_earlier : AlwaysBest → (jobs : List JobSpec) (earlier events done left : List Event) (old new : State) → old ≡ state_of (first_state jobs) earlier → events ≡ done ++ left → new ≡ state_of old done → AllBest (first_state jobs) (earlier ++ events) new
-best_after_earlier always jobs earlier events done left old new reached split is =
-    best_after always jobs (earlier ++ events) (earlier ++ done) left (first_state jobs) new refl
+pub best_after_earlier : AlwaysBest → (jobs : List JobSpec) (report_rounds : ℕ) (earlier events done left : List Event) (old new : State) → old ≡ state_of (first_state jobs report_rounds) earlier → events ≡ done ++ left → new ≡ state_of old done → AllBest (first_state jobs report_rounds) (earlier ++ events) new
+best_after_earlier always jobs report_rounds earlier events done left old new reached split is =
+    best_after always jobs report_rounds (earlier ++ events) (earlier ++ done) left (first_state jobs report_rounds) new refl
     (ap (λ (es : List Event). earlier ++ es) split ∙ sym (append_assoc earlier done left))
-    (is ∙ ap (λ (m : State). state_of m done) reached ∙ sym (state_of_append (first_state jobs) earlier done))
+    (is ∙ ap (λ (m : State). state_of m done) reached ∙ sym (state_of_append (first_state jobs report_rounds) earlier done))

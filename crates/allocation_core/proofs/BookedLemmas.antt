@@ -1,6 +1,6 @@
 -- Every booked report is one of the target's holder, and the only one of its target and round.
 use Rattle.std.proofs.Common.{◌≡◌, ℕ, zero, suc, ◌+◌, ◌<◌, ◌≤◌, ◌⊎◌, List, [], ◌∷◌, ◌++◌, Bool, true, false, Option, Some, None, All, length, eqb, get_or, refl, sym, ap, subst, ◌∙◌, inl, inr, arith, append_assoc, length-append}
-use Rattle.std.specs.Prelude.{is_some, if◌then◌else◌, slice_get, slice_index_or, ◌&&◌, ◌||◌}
+use Rattle.std.specs.Prelude.{is_some, nat_lt, if◌then◌else◌, slice_get, slice_index_or, ◌&&◌, ◌||◌}
 use Rattle.std.proofs.lemmas.Bool.{cases_lt, eq-eqb, cases_eq, or_parts, cond-true}
 use Rattle.std.proofs.lemmas.List.{append-nil}
 use Rattle.std.proofs.lemmas.List.Elements.{All-nil, All-push, All-tail}
@@ -8,24 +8,26 @@ use Rattle.std.proofs.lemmas.List.Quantifiers.{all_pairs_push}
 use Rattle.std.proofs.lemmas.List.Sums.{sum_by-append, sum_by-cons}
 use Rattle.std.proofs.lemmas.Option.{slice_get_past}
 use Rattle.handover.specs.Handover.{beside, holder_in}
-use Rattle.scrape_books.specs.Books.{samples_of, total_of}
-use Rattle.scrape_books.specs.Kept.{RoundsRise}
+use Rattle.scrape_books.specs.Books.{is_booked, samples_of, total_of}
+use Rattle.scrape_books.specs.Kept.{BookedOnce}
+use Rattle.scrape_books.proofs.EntryLemmas.{once_push}
 use Rattle.scrape_books.specs.declared.report.Entry.{Entry}
 use Rattle.scrape_books.specs.declared.report.Outcome.{Outcome}
 use Rattle.fleet.specs.Fleet.{is_joined}
-use Rattle.allocation_core.specs.State.{State, first_state}
-use Rattle.allocation_core.specs.Steps.{report_refusal, answer_of, answer_by, state_after, changed, entry_of, gained, is_booked, refusal_of}
+use Rattle.allocation_core.specs.State.{State, first_round, first_state}
+use Rattle.allocation_core.specs.Steps.{report_refusal, answer_of, answer_by, state_after, changed, entry_of, gained, refusal_of, round_refusal}
 use Rattle.allocation_core.specs.Runs.{state_of}
 use Rattle.allocation_core.specs.Kept.{IsKept}
-use Rattle.allocation_core.specs.Booked.{AllBooked, AlwaysBooked, WasBooked, report_of}
+use Rattle.allocation_core.specs.Booked.{AllBooked, AlwaysBooked, RoundsRise, WasBooked, WithOneAllIsAsBefore, WithOneItStays, one_round_refusal, report_of}
 use Rattle.fleet.specs.declared.job.JobSpec.{JobSpec}
 use Rattle.fleet_events.specs.declared.event.Event.{Event}
 use Rattle.fleet_events.specs.declared.event.Event.TheVariants.{Discover, Join, Leave, Drain, SetLimits, Install, Spread, NextRound, Take, Serve, Release, Report}
 use Rattle.fleet_events.specs.declared.answer.Answer.TheVariants.{Booked}
 use Rattle.fleet_events.specs.declared.refusal.Refusal.{Refusal}
+use Rattle.fleet_events.specs.declared.refusal.Refusal.TheVariants.{RoundClosed, RoundNotOpen, AlreadyBooked}
 use Rattle.allocation_core.proofs.Admission.{Admitted, admitted}
 use Rattle.allocation_core.proofs.BestLemmas.{step_grows}
-use Rattle.allocation_core.proofs.StepLemmas.{step_kept, start_kept}
+use Rattle.allocation_core.proofs.StepLemmas.{run_kept, start_kept, step_kept}
 use Rattle.allocation_core.proofs.RunLemmas.{state_of_append}
 
 -- an event books nothing, or it is a Report that nothing is against
@@ -117,6 +119,7 @@ here_booked m e es k b low high there p =
       held = p.free.held;
       free = p.free.free;
       opened = p.free.opened;
+      reached = p.free.reached;
     })
 
 pub run_booked : (m : State) (es : List Event) (k : ℕ) (b : ℕ × Entry) → length m.booked ≤ k → slice_get (state_of m es).booked k ≡ Some b → WasBooked m es k b
@@ -139,6 +142,7 @@ run_booked m (e ∷ es) k b low there = elim (cases_lt k (length (state_after m 
         held = later.held;
         free = later.free;
         opened = later.opened;
+        reached = later.reached;
       }
 ]
 
@@ -172,6 +176,58 @@ pub run_held : (m : State) (es : List Event) → AreHeld m → AreHeld (state_of
 run_held m [] held = held
 run_held m (e ∷ es) held = run_held (state_after m e) es (step_held m e held)
 
+step_once : (m : State) (e : Event) → BookedOnce m.booked → BookedOnce (state_after m e).booked
+step_once m e once = elim (books m e) [
+  | inl same ↦ subst BookedOnce (sym same) once
+  | inr p ↦ subst BookedOnce (sym p.grown) (once_push m.booked p.entry once p.free.fresh)
+]
+
+pub run_once : (m : State) (es : List Event) → BookedOnce m.booked → BookedOnce (state_of m es).booked
+run_once m [] once = once
+run_once m (e ∷ es) once = run_once (state_after m e) es (step_once m e once)
+
+pub always_booked : AlwaysBooked
+always_booked jobs report_rounds events =
+    record {
+      each = λ place b there. run_booked (first_state jobs report_rounds) events place b (omega arith) there;
+      held = run_held (first_state jobs report_rounds) events (All-nil _);
+      once = run_once (first_state jobs report_rounds) events (λ i j d less in_range. absurd (omega arith));
+    }
+
+-- of how many rounds reports are booked stays
+count_by : (m n : State) (o : Option Refusal) → n.report_rounds ≡ m.report_rounds → (if is_some o then m else n).report_rounds ≡ m.report_rounds
+count_by m n None e = e
+count_by m n (Some r) e = refl
+
+changed_count : (m : State) (e : Event) → (changed m e).report_rounds ≡ m.report_rounds
+changed_count m (Discover name source targets) = refl
+changed_count m (Join name reach limits) = refl
+changed_count m (Leave id) = refl
+changed_count m (Drain id) = refl
+changed_count m (SetLimits id limits) = refl
+changed_count m (Install plan) = refl
+changed_count m (Spread spread) = refl
+changed_count m NextRound = refl
+changed_count m (Take id) = refl
+changed_count m (Serve id name) = refl
+changed_count m (Release id name) = refl
+changed_count m (Report report) = refl
+
+step_count : (m : State) (e : Event) → (state_after m e).report_rounds ≡ m.report_rounds
+unfolding state_after
+step_count m e = count_by m (changed m e) (refusal_of m e) (changed_count m e)
+
+pub run_count : (m : State) (es : List Event) → (state_of m es).report_rounds ≡ m.report_rounds
+run_count m [] = refl
+run_count m (e ∷ es) = run_count (state_after m e) es ∙ step_count m e
+
+one_by : (m : State) → m.report_rounds ≡ 1 → m.begun ≤ m.round → first_round m ≡ m.round
+one_by m one begun = omega (arith, one, begun)
+
+refused_as_one : (m : State) (target round : ℕ) → first_round m ≡ m.round → round_refusal m target round ≡ one_round_refusal m target round
+refused_as_one m target round first =
+    ap (λ (n : ℕ). (let o : Option Refusal = (if nat_lt round n then Some (RoundClosed n) else if nat_lt m.round round then Some (RoundNotOpen m.round) else if is_booked m.booked target round then Some AlreadyBooked else None) in o)) first
+
 -- of one target no round is booked that another report has
 other_by : (t r : Bool) (rest : Bool) → ((t && r) || rest) ≡ false → t ≡ true → r ≡ false
 other_by true false rest e s = refl
@@ -190,26 +246,29 @@ earlier_rounds (b ∷ booked) target round fresh past zero d l s = elim (cases_e
 earlier_rounds (b ∷ booked) target round fresh past (suc k) d l s =
     earlier_rounds booked target round (rest_by (eqb b.0 target) (eqb b.1.round round) (is_booked booked target round) fresh) (All-tail (λ (x : ℕ × Entry). x.1.round ≤ round) b booked past) k d (omega arith) s
 
-step_once : (m : State) (e : Event) → IsKept m → RoundsRise m.booked → RoundsRise (state_after m e).booked
-step_once m e kept once = elim (books m e) [
-  | inl same ↦ subst RoundsRise (sym same) once
+-- where reports are booked of the open round alone, the rounds of a target rise
+step_rises : (m : State) (e : Event) → IsKept m → m.report_rounds ≡ 1 → RoundsRise m.booked → RoundsRise (state_after m e).booked
+step_rises m e kept one rise = elim (books m e) [
+  | inl same ↦ subst RoundsRise (sym same) rise
   | inr p ↦
-      let past : All (λ (b : ℕ × Entry). b.1.round ≤ p.entry.1.round) m.booked = subst (λ (r : ℕ). All (λ (b : ℕ × Entry). b.1.round ≤ r) m.booked) p.free.opened kept.past_rounds in
+      let now : m.round ≡ p.entry.1.round = omega (arith, one_by m one kept.begun, p.free.opened, p.free.reached) in
+      let past : All (λ (b : ℕ × Entry). b.1.round ≤ p.entry.1.round) m.booked = subst (λ (r : ℕ). All (λ (b : ℕ × Entry). b.1.round ≤ r) m.booked) now kept.past_rounds in
       let earlier = earlier_rounds m.booked p.entry.0 p.entry.1.round p.free.fresh past in
-      subst RoundsRise (sym p.grown) (all_pairs_push (λ (a b : ℕ × Entry). a.0 ≡ b.0 → a.1.round < b.1.round) m.booked p.entry once earlier)
+      subst RoundsRise (sym p.grown) (all_pairs_push (λ (a b : ℕ × Entry). a.0 ≡ b.0 → a.1.round < b.1.round) m.booked p.entry rise earlier)
 ]
 
-pub run_once : (m : State) (es : List Event) → IsKept m → RoundsRise m.booked → RoundsRise (state_of m es).booked
-run_once m [] kept once = once
-run_once m (e ∷ es) kept once = run_once (state_after m e) es (step_kept m e kept) (step_once m e kept once)
+run_rises : (m : State) (es : List Event) → IsKept m → m.report_rounds ≡ 1 → RoundsRise m.booked → RoundsRise (state_of m es).booked
+run_rises m [] kept one rise = rise
+run_rises m (e ∷ es) kept one rise = run_rises (state_after m e) es (step_kept m e kept) (step_count m e ∙ one) (step_rises m e kept one rise)
 
-pub always_booked : AlwaysBooked
-always_booked jobs events =
-    record {
-      each = λ place b there. run_booked (first_state jobs) events place b (omega arith) there;
-      held = run_held (first_state jobs) events (All-nil _);
-      once = run_once (first_state jobs) events (start_kept jobs) (λ i j d less in_range. absurd (omega arith));
-    }
+pub it_stays : WithOneItStays
+it_stays start events kept one rise =
+    let end : State = state_of start events in
+    let first : first_round end ≡ end.round = one_by end (run_count start events ∙ one) (run_kept start events kept).begun in
+    record { first = first; refusal = λ target round. refused_as_one end target round first; rise = run_rises start events kept one rise }
+
+pub with_one : WithOneAllIsAsBefore
+with_one jobs events = it_stays (first_state jobs 1) events (start_kept jobs 1) refl (λ i j d less in_range. absurd (omega arith))
 
 -- with more events behind
 farther : (first : State) (events done left : List Event) (place : ℕ) (b : ℕ × Entry) → events ≡ done ++ left → WasBooked first done place b → WasBooked first events place b
@@ -225,15 +284,16 @@ farther first events done left place b e was =
       held = was.held;
       free = was.free;
       opened = was.opened;
+      reached = was.reached;
     }
 
 -- a run that did the first of the events
-pub booked_after : AlwaysBooked → (jobs : List JobSpec) (events done left : List Event) (old new : State) → old ≡ first_state jobs → events ≡ done ++ left → new ≡ state_of old done → AllBooked (first_state jobs) events new
-booked_after always jobs events done left old new opened split is =
-    let same : new ≡ state_of (first_state jobs) done = is ∙ ap (λ (m : State). state_of m done) opened in
-    let all = always jobs done in
-    subst (λ (m : State). AllBooked (first_state jobs) events m) (sym same)
-    (record { each = λ place b there. farther (first_state jobs) events done left place b split (all.each place b there); held = all.held; once = all.once })
+pub booked_after : AlwaysBooked → (jobs : List JobSpec) (report_rounds : ℕ) (events done left : List Event) (old new : State) → old ≡ first_state jobs report_rounds → events ≡ done ++ left → new ≡ state_of old done → AllBooked (first_state jobs report_rounds) events new
+booked_after always jobs report_rounds events done left old new opened split is =
+    let same : new ≡ state_of (first_state jobs report_rounds) done = is ∙ ap (λ (m : State). state_of m done) opened in
+    let all = always jobs report_rounds done in
+    subst (λ (m : State). AllBooked (first_state jobs report_rounds) events m) (sym same)
+    (record { each = λ place b there. farther (first_state jobs report_rounds) events done left place b split (all.each place b there); held = all.held; once = all.once })
 
 -- the total rises by what an event books
 gained_by : (m n : State) (collector number target round : ℕ) (outcome : Outcome) (o : Option Refusal) → n.booked ≡ m.booked ++ (target, entry_of collector number round outcome) ∷ []
@@ -272,8 +332,8 @@ unfolding answer_of
 booked_answer m collector number target round outcome joined free = ap (λ (o : Option Refusal). answer_by o Booked) (sym (nothing_against m collector number target round outcome joined free))
 
 -- the same, after earlier events
-pub booked_after_earlier : AlwaysBooked → (jobs : List JobSpec) (earlier events done left : List Event) (old new : State) → old ≡ state_of (first_state jobs) earlier → events ≡ done ++ left → new ≡ state_of old done → AllBooked (first_state jobs) (earlier ++ events) new
-booked_after_earlier always jobs earlier events done left old new reached split is =
-    booked_after always jobs (earlier ++ events) (earlier ++ done) left (first_state jobs) new refl
+pub booked_after_earlier : AlwaysBooked → (jobs : List JobSpec) (report_rounds : ℕ) (earlier events done left : List Event) (old new : State) → old ≡ state_of (first_state jobs report_rounds) earlier → events ≡ done ++ left → new ≡ state_of old done → AllBooked (first_state jobs report_rounds) (earlier ++ events) new
+booked_after_earlier always jobs report_rounds earlier events done left old new reached split is =
+    booked_after always jobs report_rounds (earlier ++ events) (earlier ++ done) left (first_state jobs report_rounds) new refl
     (ap (λ (es : List Event). earlier ++ es) split ∙ sym (append_assoc earlier done left))
-    (is ∙ ap (λ (m : State). state_of m done) reached ∙ sym (state_of_append (first_state jobs) earlier done))
+    (is ∙ ap (λ (m : State). state_of m done) reached ∙ sym (state_of_append (first_state jobs report_rounds) earlier done))

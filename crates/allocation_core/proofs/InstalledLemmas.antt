@@ -36,7 +36,7 @@ unfolding answer_of
 installed law problems m plan kept h = faultless m plan (fault_of (instance_at m) plan.pairs plan.item_prices plan.bin_prices) ((law (instance_at m) plan.pairs plan.item_prices plan.bin_prices (problems m.fleet (current_pairs m) kept.fleet)).1 h)
 
 pub certified_are_installed : NoFaultIsCertified → InstancesAreProblems → CertifiedAreInstalled
-certified_are_installed law problems jobs events plan h = installed law problems (state_of (first_state jobs) events) plan (run_kept (first_state jobs) events (start_kept jobs)) h
+certified_are_installed law problems jobs report_rounds events plan h = installed law problems (state_of (first_state jobs report_rounds) events) plan (run_kept (first_state jobs report_rounds) events (start_kept jobs report_rounds)) h
 
 -- ---- spreads
 
@@ -60,4 +60,4 @@ unfolding answer_of
 spread_installed law problems m spread kept h = faultless_within m spread (spread_fault (instance_at m) spread) (no_fault_within law m spread (problems m.fleet (current_pairs m) kept.fleet) h)
 
 pub spreads_are_installed : NoBestFaultIsCertified → InstancesAreProblems → SpreadsAreInstalled
-spreads_are_installed law problems jobs events spread h = spread_installed law problems (state_of (first_state jobs) events) spread (run_kept (first_state jobs) events (start_kept jobs)) h
+spreads_are_installed law problems jobs report_rounds events spread h = spread_installed law problems (state_of (first_state jobs report_rounds) events) spread (run_kept (first_state jobs report_rounds) events (start_kept jobs report_rounds)) h

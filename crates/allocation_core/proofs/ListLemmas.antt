@@ -62,13 +62,13 @@ run_tells : (m : State) (lists : ℕ → ℕ → List ℕ) (es : List Event) →
 run_tells m lists [] kept tells = tells
 run_tells m lists (e ∷ es) kept tells = run_tells (state_after m e) (lists_by m lists e (answer_of m e)) es (step_kept m e kept) (step_tells m lists e kept tells)
 
-pub always_told : (jobs : List JobSpec) (events : List Event) → TellsAt (state_of (first_state jobs) events) (last_lists jobs events)
-always_told jobs events = run_tells (first_state jobs) no_lists events (start_kept jobs) (none_tell (first_state jobs).fleet.known)
+pub always_told : (jobs : List JobSpec) (report_rounds : ℕ) (events : List Event) → TellsAt (state_of (first_state jobs report_rounds) events) (last_lists jobs report_rounds events)
+always_told jobs report_rounds events = run_tells (first_state jobs report_rounds) no_lists events (start_kept jobs report_rounds) (none_tell (first_state jobs report_rounds).fleet.known)
 
 pub always_disjoint : AlwaysDisjoint
-always_disjoint jobs events one other one_job other_job target one_given other_given differ here =
-    let m : State = state_of (first_state jobs) events in
-    lists_are_disjoint m.fleet.known m.served.slots (last_lists jobs events) one one_job other other_job target (always_told jobs events) one_given other_given differ here
+always_disjoint jobs report_rounds events one other one_job other_job target one_given other_given differ here =
+    let m : State = state_of (first_state jobs report_rounds) events in
+    lists_are_disjoint m.fleet.known m.served.slots (last_lists jobs report_rounds events) one one_job other other_job target (always_told jobs report_rounds events) one_given other_given differ here
 
 -- what a Serve was answered
 answered_by :
@@ -106,8 +106,8 @@ whole m lists id job tells =
     }
 
 pub always_whole : AlwaysWhole
-always_whole jobs events id job allocation round name listed left_out at answered =
-    let m : State = state_of (first_state jobs) events in
+always_whole jobs report_rounds events id job allocation round name listed left_out at answered =
+    let m : State = state_of (first_state jobs report_rounds) events in
     let is = served_is m id job allocation round name listed left_out at answered in
-    subst (λ (list : List ℕ). IsWhole m (last_lists jobs events) id job list left_out) is.0
-    (subst (λ (rest : List ℕ). IsWhole m (last_lists jobs events) id job (list_at m id (Some job)) rest) is.1 (whole m (last_lists jobs events) id job (always_told jobs events)))
+    subst (λ (list : List ℕ). IsWhole m (last_lists jobs report_rounds events) id job list left_out) is.0
+    (subst (λ (rest : List ℕ). IsWhole m (last_lists jobs report_rounds events) id job (list_at m id (Some job)) rest) is.1 (whole m (last_lists jobs report_rounds events) id job (always_told jobs report_rounds events)))

@@ -51,9 +51,9 @@ slots_given m jobs kept =
     let all = renewed_slots_all (λ (c : ℕ). c ≤ m.fleet.last_collector) m.fleet (current_pairs m) m.served.slots jobs kept.given_slots (omega arith) in
     λ k d l. omega (arith, all k d l, last_stays m.fleet (current_pairs m) m.served.slots jobs)
 
-pub renewed_state_kept : (m : State) (jobs : List JobSpec) → IsKept m → are_jobs m.fleet.jobs ≡ true → renewal_refusal m jobs ≡ None → IsKept (renewed m jobs)
+pub renewed_state_kept : (m : State) (jobs : List JobSpec) (report_rounds : ℕ) → IsKept m → are_jobs m.fleet.jobs ≡ true → renewal_refusal m jobs ≡ None → IsKept (renewed m jobs report_rounds)
 unfolding renewed
-renewed_state_kept m jobs kept named free =
+renewed_state_kept m jobs report_rounds kept named free =
     let fits = free_fleet m jobs free in
     record {
       fleet = renewed_kept m.fleet (current_pairs m) m.served.slots jobs kept.fleet named fits.good fits.bins;
@@ -61,5 +61,7 @@ renewed_state_kept m jobs kept named free =
       few_slots = omega (arith, renewed_slots_fit m.fleet (current_pairs m) m.served.slots jobs);
       given_slots = slots_given m jobs kept;
       opened = omega arith;
+      from_one = omega arith;
+      begun = omega arith;
       past_rounds = λ k d less. absurd (omega arith);
     }

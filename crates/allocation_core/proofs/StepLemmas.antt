@@ -37,7 +37,7 @@ use Rattle.fleet_events.specs.declared.event.Event.{Event}
 use Rattle.fleet_events.specs.declared.event.Event.TheVariants.{Discover, Join, Leave, Drain, SetLimits, Install, Spread, NextRound, Take, Serve, Release, Report}
 use Rattle.fleet_events.specs.declared.refusal.Refusal.{Refusal}
 use Rattle.fleet_events.specs.declared.refusal.Refusal.TheVariants.{UnknownCollector, Unchanged, NumbersSpent}
-use Rattle.allocation_core.specs.State.{State, allocation_at, current_of, current_pairs, first_state, held_live, instance_at, served_at, was_given}
+use Rattle.allocation_core.specs.State.{State, allocation_at, current_of, current_pairs, first_state, held_live, instance_at, served_at, was_given, with_rounds}
 use Rattle.allocation_core.specs.Steps.{answer_by, answer_of, changed, entry_of, number_refusal, plan_refusal, place_named, place_of, refusal_of, same_pairs, spread_refusal, state_after, unjoined, unless_served, unlisted, with_plan}
 use Rattle.handover.specs.declared.holders.TheConstants.{LAST_NUMBER}
 use Rattle.allocation_core.specs.Runs.{state_of}
@@ -71,6 +71,8 @@ published_kept m problem plan kept e =
       few_slots = kept.few_slots;
       given_slots = kept.given_slots;
       opened = kept.opened;
+      from_one = kept.from_one;
+      begun = kept.begun;
       past_rounds = kept.past_rounds;
     }
 
@@ -83,6 +85,8 @@ fleet_kept m fleet kept sound known joined =
       few_slots = omega (arith, kept.few_slots, known);
       given_slots = λ k d l. omega (arith, kept.given_slots k d l, joined);
       opened = kept.opened;
+      from_one = kept.from_one;
+      begun = kept.begun;
       past_rounds = kept.past_rounds;
     }
 
@@ -130,6 +134,8 @@ lists_kept m served kept few given =
       few_slots = few;
       given_slots = given;
       opened = kept.opened;
+      from_one = kept.from_one;
+      begun = kept.begun;
       past_rounds = kept.past_rounds;
     }
 
@@ -169,15 +175,31 @@ not_joined None e = refl
 not_joined (Some r) e = cc
 
 -- the same state in all that the other facts speak of
-kept_with : (m : State) (taken : List (ℕ × ℕ)) (round : ℕ) (booked : List (ℕ × Entry)) → IsKept m → 1 ≤ round → All (λ (b : ℕ × Entry). b.1.round ≤ round) booked → IsKept (record m { taken = taken; round = round; booked = booked })
-kept_with m taken round booked kept opened past =
+kept_with : (m : State) (taken : List (ℕ × ℕ)) (round : ℕ) (booked : List (ℕ × Entry)) → IsKept m → 1 ≤ round → m.begun ≤ round → All (λ (b : ℕ × Entry). b.1.round ≤ round) booked → IsKept (record m { taken = taken; round = round; booked = booked })
+kept_with m taken round booked kept opened begun past =
     record {
       fleet = kept.fleet;
       few_published = kept.few_published;
       few_slots = kept.few_slots;
       given_slots = kept.given_slots;
       opened = opened;
+      from_one = kept.from_one;
+      begun = begun;
       past_rounds = past;
+    }
+
+-- of how many rounds reports are booked is of no matter
+pub rounds_kept : (m : State) (report_rounds : ℕ) → IsKept m → IsKept (with_rounds report_rounds m)
+rounds_kept m report_rounds kept =
+    record {
+      fleet = kept.fleet;
+      few_published = kept.few_published;
+      few_slots = kept.few_slots;
+      given_slots = kept.given_slots;
+      opened = kept.opened;
+      from_one = kept.from_one;
+      begun = kept.begun;
+      past_rounds = kept.past_rounds;
     }
 
 changed_kept : (m : State) (e : Event) → IsKept m → refusal_of m e ≡ None → IsKept (changed m e)
@@ -188,32 +210,34 @@ changed_kept m (Drain id) kept free = fleet_kept m (with_draining m.fleet id) ke
 changed_kept m (SetLimits id limits) kept free = fleet_kept m (with_limits m.fleet id limits) kept (fleet_changed_kept m.fleet (with_limits_at id limits) (λ c. refl) (λ c. refl) kept.fleet) (omega arith) (omega arith)
 changed_kept m (Install plan) kept free = published_kept m (instance_at m) plan kept (plan_by m plan (fault_of (instance_at m) plan.pairs plan.item_prices plan.bin_prices) free).1
 changed_kept m (Spread spread) kept free = published_kept m (capped spread.caps (instance_at m)) spread.plan kept (spread_by m spread (spread_fault (instance_at m) spread) free).1
-changed_kept m NextRound kept free = kept_with m m.taken (m.round + 1) m.booked kept (omega arith) (λ k d l. omega (arith, kept.past_rounds k d l))
-changed_kept m (Take id) kept free = kept_with m (with_taken m.taken id (current_of m)) m.round m.booked kept kept.opened kept.past_rounds
+changed_kept m NextRound kept free = kept_with m m.taken (m.round + 1) m.booked kept (omega arith) (omega (arith, kept.begun)) (λ k d l. omega (arith, kept.past_rounds k d l))
+changed_kept m (Take id) kept free = kept_with m (with_taken m.taken id (current_of m)) m.round m.booked kept kept.opened kept.begun kept.past_rounds
 changed_kept m (Serve id name) kept free = serve_kept m id (place_of m name) kept free
 changed_kept m (Release id name) kept free = release_kept m id (place_named m name) kept
 changed_kept m (Report report) kept free =
     let b : ℕ × Entry = (report.target, entry_of report.collector report.allocation report.round report.outcome) in
-    let opened : m.round ≡ report.round = (admitted m report.collector report.allocation report.target report.round report.outcome free).opened in
-    kept_with m m.taken m.round (m.booked ++ b ∷ []) kept kept.opened (All-push (λ (x : ℕ × Entry). x.1.round ≤ m.round) m.booked b kept.past_rounds (omega (arith, opened)))
+    let reached = (admitted m report.collector report.allocation report.target report.round report.outcome free).reached in
+    kept_with m m.taken m.round (m.booked ++ b ∷ []) kept kept.opened kept.begun (All-push (λ (x : ℕ × Entry). x.1.round ≤ m.round) m.booked b kept.past_rounds reached)
 
 pub step_kept : (m : State) (e : Event) → IsKept m → IsKept (state_after m e)
 unfolding state_after
 step_kept m e kept = after_by m (changed m e) IsKept (refusal_of m e) kept (changed_kept m e kept)
 
-pub first_kept : (m : State) → IsFleet m.fleet → m.published ≡ [] → m.served.slots ≡ [] → m.round ≡ 1 → m.booked ≡ [] → IsKept m
-first_kept m fleet published slots round booked =
+pub first_kept : (m : State) → IsFleet m.fleet → m.published ≡ [] → m.served.slots ≡ [] → m.round ≡ 1 → m.booked ≡ [] → m.begun ≡ 1 → IsKept m
+first_kept m fleet published slots round booked begun =
     record {
       fleet = fleet;
       few_published = rw published (omega arith);
       few_slots = rw slots (omega arith);
       given_slots = rw slots (λ k d less. absurd (omega arith));
       opened = omega (arith, round);
+      from_one = omega (arith, begun);
+      begun = omega (arith, begun, round);
       past_rounds = rw booked (λ k d less. absurd (omega arith));
     }
 
-pub start_kept : (jobs : List JobSpec) → IsKept (first_state jobs)
-start_kept jobs = first_kept (first_state jobs) (fleet_first_kept (first_fleet jobs) refl refl refl refl) refl refl refl refl
+pub start_kept : (jobs : List JobSpec) (report_rounds : ℕ) → IsKept (first_state jobs report_rounds)
+start_kept jobs report_rounds = first_kept (first_state jobs report_rounds) (fleet_first_kept (first_fleet jobs) refl refl refl refl) refl refl refl refl refl
 
 pub run_kept : (m : State) (es : List Event) → IsKept m → IsKept (state_of m es)
 run_kept m [] kept = kept

@@ -66,7 +66,7 @@ AllBest first events m = (place : ℕ) → place < length m.published → WasPub
 
 -- over every list of jobs and of events
 abbrev pub AlwaysBest : Type 0
-AlwaysBest = (jobs : List JobSpec) (events : List Event) → AllBest (first_state jobs) events (state_of (first_state jobs) events)
+AlwaysBest = (jobs : List JobSpec) (report_rounds : ℕ) (events : List Event) → AllBest (first_state jobs report_rounds) events (state_of (first_state jobs report_rounds) events)
 
 abbrev pub is_spread : Event → Bool
 is_spread (Spread spread) = true
@@ -75,8 +75,8 @@ is_spread _ = false
 -- over every list of jobs and of events without a Spread, each published allocation is the best of its moment
 abbrev pub InstalledAreBest : Type 0
 InstalledAreBest =
-    (jobs : List JobSpec) (events : List Event) → list_any is_spread events ≡ false
-    → (place : ℕ) → place < length (state_of (first_state jobs) events).published → WasBest (first_state jobs) events place (slice_index_or (state_of (first_state jobs) events).published place [])
+    (jobs : List JobSpec) (report_rounds : ℕ) (events : List Event) → list_any is_spread events ≡ false
+    → (place : ℕ) → place < length (state_of (first_state jobs report_rounds) events).published → WasBest (first_state jobs report_rounds) events place (slice_index_or (state_of (first_state jobs report_rounds) events).published place [])
 
 -- One of the events published the allocation, in this place. It is sound; no sound allocation of the state just before that event covers
 -- more targets, and none that covers as many leaves fewer at draining collectors.
@@ -97,5 +97,5 @@ PublishedCoverMost = (first : State) (events : List Event) (place : ℕ) (pairs 
 -- over every list of jobs and of events, each published allocation covers the most targets of its moment, and leaves the fewest
 abbrev pub AlwaysMost : Type 0
 AlwaysMost =
-    (jobs : List JobSpec) (events : List Event) (place : ℕ) → place < length (state_of (first_state jobs) events).published
-    → WasMost (first_state jobs) events place (slice_index_or (state_of (first_state jobs) events).published place [])
+    (jobs : List JobSpec) (report_rounds : ℕ) (events : List Event) (place : ℕ) → place < length (state_of (first_state jobs report_rounds) events).published
+    → WasMost (first_state jobs report_rounds) events place (slice_index_or (state_of (first_state jobs report_rounds) events).published place [])

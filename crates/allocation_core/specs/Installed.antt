@@ -1,5 +1,5 @@
 -- What an Install of a certified plan is answered, and a Spread that is certified.
-use Rattle.std.specs.Prelude.{◌≡◌, ◌⊎◌, ◌+◌, List, None}
+use Rattle.std.specs.Prelude.{◌≡◌, ◌⊎◌, ◌+◌, ℕ, List, None}
 use Rattle.price_certificate.specs.Certificate.{IsCertified}
 use Rattle.price_certificate.specs.Derived.{bare, capped}
 use Rattle.price_certificate.specs.declared.plan.Plan.{Plan}
@@ -34,11 +34,11 @@ pub record IsCertifiedWithin (m : State) (spread : SpreadPlan) : Type 0 where
 
 -- over every list of jobs and of events
 abbrev pub CertifiedAreInstalled : Type 0
-CertifiedAreInstalled = (jobs : List JobSpec) (events : List Event) (plan : Plan) → IsCertifiedNow (state_of (first_state jobs) events) plan → IsInstalled (state_of (first_state jobs) events) (answer_of (state_of (first_state jobs) events) (Install plan))
+CertifiedAreInstalled = (jobs : List JobSpec) (report_rounds : ℕ) (events : List Event) (plan : Plan) → IsCertifiedNow (state_of (first_state jobs report_rounds) events) plan → IsInstalled (state_of (first_state jobs report_rounds) events) (answer_of (state_of (first_state jobs report_rounds) events) (Install plan))
 
 -- the same of spreads
 abbrev pub SpreadsAreInstalled : Type 0
-SpreadsAreInstalled = (jobs : List JobSpec) (events : List Event) (spread : SpreadPlan) → IsCertifiedWithin (state_of (first_state jobs) events) spread → IsInstalled (state_of (first_state jobs) events) (answer_of (state_of (first_state jobs) events) (Spread spread))
+SpreadsAreInstalled = (jobs : List JobSpec) (report_rounds : ℕ) (events : List Event) (spread : SpreadPlan) → IsCertifiedWithin (state_of (first_state jobs report_rounds) events) spread → IsInstalled (state_of (first_state jobs report_rounds) events) (answer_of (state_of (first_state jobs report_rounds) events) (Spread spread))
 
 -- an Install of a certified plan is installed, and a Spread that is certified; of other events and plans nothing is said
 abbrev pub IsAnswerToCertified : State → Event → Answer → Type 0

@@ -15,9 +15,11 @@ pub record IsKept (m : State) : Type 0 where
   pub few_slots : length m.served.slots ≤ length m.fleet.known
   pub given_slots : All (λ (collector : ℕ). collector ≤ m.fleet.last_collector) m.served.slots
   pub opened : 1 ≤ m.round
+  pub from_one : 1 ≤ m.begun
+  pub begun : m.begun ≤ m.round
   -- no round past the open one is booked
   pub past_rounds : All (λ (b : ℕ × Entry). b.1.round ≤ m.round) m.booked
 
 -- over every list of jobs and of events
 abbrev pub AlwaysKept : Type 0
-AlwaysKept = (jobs : List JobSpec) (events : List Event) → IsKept (state_of (first_state jobs) events)
+AlwaysKept = (jobs : List JobSpec) (report_rounds : ℕ) (events : List Event) → IsKept (state_of (first_state jobs report_rounds) events)

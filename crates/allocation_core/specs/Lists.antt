@@ -28,15 +28,15 @@ lists_from m lists [] = lists
 lists_from m lists (event ∷ events) = lists_from (state_after m event) (lists_by m lists event (answer_of m event)) events
 
 -- the list of each collector and job that was served last and not released since, after events from the start
-abbrev pub last_lists : List JobSpec → List Event → ℕ → ℕ → List ℕ
-last_lists jobs events = lists_from (first_state jobs) no_lists events
+abbrev pub last_lists : List JobSpec → ℕ → List Event → ℕ → ℕ → List ℕ
+last_lists jobs report_rounds events = lists_from (first_state jobs report_rounds) no_lists events
 
 -- Over every list of jobs and of events, whatever is published and whoever joins, drains, leaves or is released: no target stands in
 -- two of these lists.
 abbrev pub AlwaysDisjoint : Type 0
 AlwaysDisjoint =
-    (jobs : List JobSpec) (events : List Event) (one other one_job other_job target : ℕ) → 0 < one → 0 < other → ((one == other) && (one_job == other_job)) ≡ false
-    → is_in (last_lists jobs events one one_job) target ≡ true → is_in (last_lists jobs events other other_job) target ≡ false
+    (jobs : List JobSpec) (report_rounds : ℕ) (events : List Event) (one other one_job other_job target : ℕ) → 0 < one → 0 < other → ((one == other) && (one_job == other_job)) ≡ false
+    → is_in (last_lists jobs report_rounds events one one_job) target ≡ true → is_in (last_lists jobs report_rounds events other other_job) target ≡ false
 
 -- A list that is served has what its collector holds of the job; only what another collector's list has is left out.
 pub record IsWhole (m : State) (lists : ℕ → ℕ → List ℕ) (id job : ℕ) (listed left_out : List ℕ) : Type 0 where
@@ -47,5 +47,5 @@ pub record IsWhole (m : State) (lists : ℕ → ℕ → List ℕ) (id job : ℕ)
 -- Over every list of jobs and of events: each list that is served is whole.
 abbrev pub AlwaysWhole : Type 0
 AlwaysWhole =
-    (jobs : List JobSpec) (events : List Event) (id job allocation round : ℕ) (name listed left_out : List ℕ) → place_of (state_of (first_state jobs) events) name ≡ Some job
-    → answer_of (state_of (first_state jobs) events) (Serve id name) ≡ Served allocation round listed left_out → IsWhole (state_of (first_state jobs) events) (last_lists jobs events) id job listed left_out
+    (jobs : List JobSpec) (report_rounds : ℕ) (events : List Event) (id job allocation round : ℕ) (name listed left_out : List ℕ) → place_of (state_of (first_state jobs report_rounds) events) name ≡ Some job
+    → answer_of (state_of (first_state jobs report_rounds) events) (Serve id name) ≡ Served allocation round listed left_out → IsWhole (state_of (first_state jobs report_rounds) events) (last_lists jobs report_rounds events) id job listed left_out

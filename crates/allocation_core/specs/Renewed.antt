@@ -1,5 +1,5 @@
 -- The allocator that goes on under a new list of jobs.
-use Rattle.std.specs.Prelude.{◌≡◌, ◌+◌, nat_lt, if◌then◌else◌, List, [], Option, Some, None}
+use Rattle.std.specs.Prelude.{◌≡◌, ◌+◌, ℕ, nat_lt, if◌then◌else◌, List, [], Option, Some, None}
 use Rattle.handover.specs.Handover.{only}
 use Rattle.fleet.specs.declared.job.JobSpec.{JobSpec}
 use Rattle.fleet_renewal.specs.Renewed.{carried, fleet_refusal, renewed_fleet, renewed_slots}
@@ -11,9 +11,10 @@ use Rattle.allocation_core.specs.declared.renewal.RenewalError.{RenewalError}
 use Rattle.allocation_core.specs.declared.renewal.RenewalError.TheVariants.{BadJobs, Memory, RoundsSpent, TooManyBins}
 
 -- The fleet goes on under the jobs, and the current allocation is carried over in its new numbers as the first and only one. The lists
--- that were served last still have their targets, as far as their jobs go on. Nobody has taken anything and nothing is booked; the next round is open; the certificate is that of the last Published.
-unfoldable pub renewed : State → List JobSpec → State
-renewed m jobs =
+-- that were served last still have their targets, as far as their jobs go on. Nobody has taken anything and nothing is booked; the next round is open and those before
+-- it are closed; the certificate is that of the last Published. From now on a report is booked of so many of the last rounds.
+unfoldable pub renewed : State → List JobSpec → ℕ → State
+renewed m jobs report_rounds =
     record m {
       fleet = renewed_fleet m.fleet (current_pairs m) m.served.slots jobs;
       published = only (carried m.fleet (current_pairs m) m.served.slots jobs);
@@ -21,6 +22,8 @@ renewed m jobs =
       served = record { slots = renewed_slots m.fleet (current_pairs m) m.served.slots jobs; numbers = [] };
       round = m.round + 1;
       booked = [];
+      begun = m.round + 1;
+      report_rounds = report_rounds;
     }
 
 -- no round is left, where nothing else is against a renewal

@@ -1,5 +1,5 @@
 -- What the allocator knows.
-use Rattle.std.specs.Prelude.{ℕ, nat_le, nat_lt, ◌&&◌, Bool, if◌then◌else◌, List, [], length, Option, Some, None}
+use Rattle.std.specs.Prelude.{◌≤◌, ℕ, ◌+◌, ◌-◌, max, nat_le, nat_lt, ◌&&◌, Bool, if◌then◌else◌, List, [], length, Option, Some, None}
 use Rattle.price_certificate.specs.Problem.{Problem}
 use Rattle.price_certificate.specs.declared.plan.Plan.{Plan}
 use Rattle.price_certificate.specs.declared.version.Version.TheVariants.{Two}
@@ -10,6 +10,14 @@ use Rattle.fleet.specs.Fleet.{FleetState, first_fleet, is_joined}
 use Rattle.fleet.specs.declared.job.JobSpec.{JobSpec}
 use Rattle.fleet_assignment.specs.Allocation.{allocation_of}
 use Rattle.fleet_assignment.specs.Instance.{instance_of}
+
+-- of so many of the last rounds reports can be booked
+abbrev pub IsCount : ℕ → Type 0
+IsCount count = (1 ≤ count) × (count ≤ 64)
+
+-- the same number, where reports can be booked of so many rounds
+abbrev pub counted : ℕ → Option ℕ
+counted count = if nat_le 1 count && nat_le count 64 then Some count else None
 
 pub record State : Type 0 where
   -- jobs, targets and collectors
@@ -27,10 +35,22 @@ pub record State : Type 0 where
   pub round : ℕ
   -- the reports that are booked, beside their targets, in order of booking
   pub booked : List (ℕ × Entry)
+  -- the round in which it began: the first one, or that of its renewal
+  pub begun : ℕ
+  -- of how many of the last rounds a report is booked, the open one among them
+  pub report_rounds : ℕ
+
+-- the first round of which a report is booked
+abbrev pub first_round : State → ℕ
+first_round m = max m.begun (m.round + 1 - m.report_rounds)
+
+-- the state that books reports of so many of the last rounds
+abbrev pub with_rounds : ℕ → State → State
+with_rounds report_rounds m = record m { report_rounds = report_rounds }
 
 -- nothing is listed, known, published, served or booked, and nobody joined
-abbrev pub first_state : List JobSpec → State
-first_state jobs =
+abbrev pub first_state : List JobSpec → ℕ → State
+first_state jobs report_rounds =
     record {
       fleet = first_fleet jobs;
       published = [];
@@ -40,12 +60,15 @@ first_state jobs =
       served = nothing_served;
       round = 1;
       booked = [];
+      begun = 1;
+      report_rounds = report_rounds;
     }
 
 -- The state that a renewal leaves, from what it keeps: the allocation is the first and only one, or there is none where it is
--- empty. The lists that were served last still have their targets. Nobody has taken anything, and nothing is booked.
-abbrev pub restored : FleetState → List (ℕ × ℕ) → List ℕ → Problem → Plan → ℕ → State
-restored fleet pairs slots problem plan round =
+-- empty. The lists that were served last still have their targets. Nobody has taken anything, and nothing is booked: earlier rounds are
+-- closed.
+abbrev pub restored : FleetState → List (ℕ × ℕ) → List ℕ → Problem → Plan → ℕ → ℕ → State
+restored fleet pairs slots problem plan round report_rounds =
     record {
       fleet = fleet;
       published = only pairs;
@@ -55,6 +78,8 @@ restored fleet pairs slots problem plan round =
       served = record { slots = slots; numbers = [] };
       round = round;
       booked = [];
+      begun = round;
+      report_rounds = report_rounds;
     }
 
 -- the number of the current allocation

@@ -1,6 +1,5 @@
 -- One step of the machine: the first refusal is the answer, and the state stays; else the answer and the new state.
 use Rattle.std.specs.Prelude.{ℕ, ◌+◌, ◌==◌, ◌&&◌, Bool, false, if◌then◌else◌, nat_lt, List, [], ◌∷◌, ◌++◌, length, slice_get, option_and_then, Option, Some, None, is_some, Result, Ok, Err}
-use Rattle.std.specs.List.{list_any}
 use Rattle.std.specs.Option.{option_map, option_map_or}
 use Rattle.std.specs.Cmp.Lexicographic.{pointwise}
 use Rattle.price_certificate.specs.Derived.{capped}
@@ -13,7 +12,7 @@ use Rattle.spread_certificate.specs.declared.spread.Spread.{Spread as SpreadPlan
 use Rattle.spread_certificate.specs.declared.verdict.SpreadFault.{SpreadFault}
 use Rattle.handover.specs.Handover.{holder_in, taken_by, with_taken}
 use Rattle.served_lists.specs.Served.{count_had, is_free, number_of, slot_of, without_list}
-use Rattle.scrape_books.specs.Books.{samples_of}
+use Rattle.scrape_books.specs.Books.{is_booked, samples_of}
 use Rattle.scrape_books.specs.declared.report.Entry.{Entry}
 use Rattle.scrape_books.specs.declared.report.Outcome.{Outcome}
 use Rattle.fleet.specs.Fleet.{is_joined}
@@ -38,7 +37,7 @@ use Rattle.fleet.specs.declared.outcome.LimitsRefusal.{LimitsRefusal}
 use Rattle.fleet.specs.declared.outcome.LimitsRefusal.TheVariants.{UnknownCollector as NobodyLimited, UnknownJob as NoJobLimited}
 use Rattle.handover.specs.declared.holders.TheConstants.{LAST_NUMBER}
 use Rattle.allocation_core.specs.declared.limits.TheConstants.{LAST_ROUND}
-use Rattle.allocation_core.specs.State.{State, allocation_at, current_of, current_pairs, held_by, instance_at, left_out_at, list_at, served_at, was_given}
+use Rattle.allocation_core.specs.State.{State, allocation_at, current_of, current_pairs, first_round, held_by, instance_at, left_out_at, list_at, served_at, was_given}
 use Rattle.fleet_events.specs.declared.event.Event.{Event}
 use Rattle.fleet_events.specs.declared.event.Event.TheVariants.{Discover, Join, Leave, Drain, SetLimits, Install, Spread, NextRound, Take, Serve, Release, Report}
 use Rattle.fleet_events.specs.declared.answer.Answer.{Answer}
@@ -143,14 +142,10 @@ abbrev pub is_holder : Option ℕ → ℕ → Bool
 is_holder None collector = false
 is_holder (Some holder) collector = holder == collector
 
--- a report of the target in the round is booked
-abbrev pub is_booked : List (ℕ × Entry) → ℕ → ℕ → Bool
-is_booked booked target round = list_any (λ (b : ℕ × Entry). (b.0 == target) && (b.1.round == round)) booked
-
--- the round is not the open one, or the target's report of it is booked
+-- the round is before the first one of which a report is booked, or behind the open one, or the target's report of it is booked
 abbrev pub round_refusal : State → ℕ → ℕ → Option Refusal
 round_refusal m target round =
-    if nat_lt round m.round then Some (RoundClosed m.round) else if nat_lt m.round round then Some (RoundNotOpen m.round) else if is_booked m.booked target round then Some AlreadyBooked else None
+    if nat_lt round (first_round m) then Some (RoundClosed (first_round m)) else if nat_lt m.round round then Some (RoundNotOpen m.round) else if is_booked m.booked target round then Some AlreadyBooked else None
 
 -- the list of another collector has the target
 abbrev pub slot_refusal : State → ℕ → ℕ → ℕ → Option Refusal

@@ -3,7 +3,7 @@ ghost use Rattle.allocation_core.specs.State.{State};
 ghost use Rattle.allocation_core.specs.Steps.{answer_of};
 ghost use Rattle.allocation_core.specs.Answers.{IsAnswerTo};
 ghost use Rattle.allocation_core.specs.Best.{AlwaysBest, AlwaysMost, InstalledAreBest, PublishedCoverMost};
-ghost use Rattle.allocation_core.specs.Booked.{AlwaysBooked};
+ghost use Rattle.allocation_core.specs.Booked.{AlwaysBooked, WithOneAllIsAsBefore, WithOneItStays};
 ghost use Rattle.allocation_core.specs.Installed.{CertifiedAreInstalled, SpreadsAreInstalled};
 ghost use Rattle.allocation_core.specs.Kept.{AlwaysKept};
 ghost use Rattle.allocation_core.specs.Lists.{AlwaysDisjoint, AlwaysWhole};
@@ -52,9 +52,16 @@ pub fn published_cover_most()
 }
 
 /// Over every list of events, a report is booked only from the target's holder in the allocation that it names, the one that
-/// this collector last took, in the round then open, and at most once for each target and round.
+/// this collector last took, in one of the rounds then open, and at most once for each target and round.
 pub fn booked_by_holders()
     ensures { AlwaysBooked }
+{}
+
+/// Over every list of events, where reports are booked of one round, this is the open one: reports of others are refused, and the rounds
+/// of a target rise. So it stays from whatever state it holds of.
+pub fn with_one_all_is_as_before()
+    ensures first { WithOneAllIsAsBefore }
+    ensures stays { WithOneItStays }
 {}
 
 /// Over every list of events, no target stands in two of the lists that collectors were served last and that are not released: whatever

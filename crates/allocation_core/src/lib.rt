@@ -10,6 +10,7 @@ mod laws;
 mod limits;
 mod machine;
 mod renewal;
+mod report_rounds;
 mod runs;
 
 pub use fleet::{Collector, JobSpec, OpenError};
@@ -17,10 +18,11 @@ pub use fleet_events::{Answer, CollectorId, Event, Outcome, Refusal, Report, Tar
 pub use laws::{
     answers_fit, booked_by_holders, certified_are_installed, installed_are_best,
     lists_are_disjoint, lists_are_whole, published_are_best, published_cover_most,
-    spreads_are_installed, states_are_kept,
+    spreads_are_installed, states_are_kept, with_one_all_is_as_before,
 };
 pub use limits::LAST_ROUND;
 pub use machine::Core;
 pub use renewal::{NotRenewed, RenewalError};
+pub use report_rounds::{MOST_REPORT_ROUNDS, ReportRounds};
 pub use runs::{Stopped, run};
 pub use served_lists::ServedList;

@@ -1,7 +1,7 @@
 //! The event machine: one step for each event, and readers of the state.
-ghost use Rattle.std.specs.Prelude.{◌≡◌, ◌↔◌, ◌+◌, Some, None, Ok, Err, true, false, slice_get, MatchOption, IfOk, IsOk, OnOk, OnErr, length};
+ghost use Rattle.std.specs.Prelude.{◌≡◌, ◌↔◌, ◌+◌, ◌<◌, Some, None, Ok, Err, true, false, slice_get, MatchOption, IfOk, IsOk, OnOk, OnErr, length};
 ghost use Rattle.scrape_books.specs.Books.{total_of};
-ghost use Rattle.allocation_core.specs.State.{current_of, first_state, held_by};
+ghost use Rattle.allocation_core.specs.State.{current_of, first_round, first_state, held_by, with_rounds};
 ghost use Rattle.handover.specs.Handover.{held_since, holder_in, taken_by};
 ghost use Rattle.fleet.specs.Fleet.{id_named};
 ghost use Rattle.fleet.specs.Jobs.{are_jobs};
@@ -21,6 +21,7 @@ mod serving;
 mod taking;
 
 use crate::certificate::{empty_instance, empty_plan};
+use crate::report_rounds::ReportRounds;
 use fleet::{Collector, Fleet, JobSpec, OpenError};
 use fleet_events::{Answer, CollectorId, Event, TargetId};
 use handover::Holders;
@@ -43,6 +44,8 @@ pub struct Core {
     served: ServedLists,
     round: u32,
     books: Books,
+    begun: u32,
+    report_rounds: ReportRounds,
 }
 
 impl Model for Core {
@@ -51,15 +54,15 @@ impl Model for Core {
 
     ghost Value = { State };
 
-    ghost view = { λ c. record { fleet = c.fleet; published = c.holders.published; problem = c.instance; plan = c.plan; taken = c.holders.taken; served = c.served; round = c.round; booked = c.books } };
+    ghost view = { λ c. record { fleet = c.fleet; published = c.holders.published; problem = c.instance; plan = c.plan; taken = c.holders.taken; served = c.served; round = c.round; booked = c.books; begun = c.begun; report_rounds = c.report_rounds } };
 
-    ghost invariant = { λ c. IsKept (record { fleet = c.fleet; published = c.holders.published; problem = c.instance; plan = c.plan; taken = c.holders.taken; served = c.served; round = c.round; booked = c.books }) };
+    ghost invariant = { λ c. IsKept (record { fleet = c.fleet; published = c.holders.published; problem = c.instance; plan = c.plan; taken = c.holders.taken; served = c.served; round = c.round; booked = c.books; begun = c.begun; report_rounds = c.report_rounds }) };
 }
 
 impl Core {
-    /// The allocator of these jobs: nothing is listed, and nobody joined.
+    /// The allocator of these jobs: nothing is listed, and nobody joined. A report is booked of the open round alone.
     pub fn open(alloc: Global, jobs: Vec<JobSpec>) -> Result<Core, OpenError>
-        ensures first { IfOk result (λ c. c ≡ first_state jobs.items) }
+        ensures first { IfOk result (λ c. c ≡ first_state jobs.items 1) }
         ensures bad { (result ≡ Err OpenError.BadJobs) ↔ (are_jobs jobs.items ≡ false) }
     {
         let fleet = Fleet::open(alloc, jobs)?;
@@ -73,7 +76,27 @@ impl Core {
             served: ServedLists::open(alloc),
             round: 1,
             books: Books::open(alloc),
+            begun: 1,
+            report_rounds: ReportRounds::least(),
         })
+    }
+
+    /// The same allocator, which from now on books reports of so many of the last rounds. Rounds before its own stay closed.
+    pub fn with_report_rounds(self, report_rounds: ReportRounds) -> Core
+        ensures { result ≡ with_rounds report_rounds self }
+    {
+        Core {
+            alloc: self.alloc,
+            fleet: self.fleet,
+            holders: self.holders,
+            instance: self.instance,
+            plan: self.plan,
+            served: self.served,
+            round: self.round,
+            books: self.books,
+            begun: self.begun,
+            report_rounds,
+        }
     }
 
     /// One step. Without memory nothing changes, and Leave, Drain, SetLimits, NextRound and Release take none. Join, Take, Serve and
@@ -125,6 +148,22 @@ impl Core {
         ensures { result ≡ self.now.round }
     {
         self.round
+    }
+
+    /// Of how many of the last rounds a report is booked.
+    pub fn report_rounds(&self) -> ReportRounds
+        ensures { result ≡ self.now.report_rounds }
+    {
+        self.report_rounds
+    }
+
+    /// The first round of which a report is booked.
+    pub fn first_round(&self) -> u32
+        ensures first { result ≡ first_round self.now }
+        ensures near { self.now.round < result + 64 }
+    {
+        let before = self.report_rounds.count() - 1;
+        self.begun.max(self.round.saturating_sub(before))
     }
 
     /// The samples of all reports that are booked.

@@ -1,5 +1,5 @@
 //! Runs of the machine over a list of events.
-ghost use Rattle.std.specs.Prelude.{◌≡◌, ◌++◌, List, IfOk, IfErr, OnOk};
+ghost use Rattle.std.specs.Prelude.{◌≡◌, ◌++◌, ℕ, List, IfOk, IfErr, OnOk};
 ghost use Rattle.fleet.specs.declared.job.JobSpec.{JobSpec};
 ghost use Rattle.allocation_core.specs.State.{first_state};
 ghost use Rattle.allocation_core.specs.Best.{AllBest};
@@ -23,8 +23,8 @@ pub struct Stopped {
 pub fn run(core: &mut Core, events: Vec<Event>) -> Result<Vec<Answer>, Stopped>
     ensures answers { IfOk result (λ v. v.items ≡ answers_of core.old events.items) }
     ensures state { OnOk result (core.new ≡ state_of core.old events.items) }
-    ensures best { (jobs : List JobSpec) (earlier : List Event) → core.old ≡ state_of (first_state jobs) earlier → AllBest (first_state jobs) (earlier ++ events.items) core.new }
-    ensures booked { (jobs : List JobSpec) (earlier : List Event) → core.old ≡ state_of (first_state jobs) earlier → AllBooked (first_state jobs) (earlier ++ events.items) core.new }
+    ensures best { (jobs : List JobSpec) (report_rounds : ℕ) (earlier : List Event) → core.old ≡ state_of (first_state jobs report_rounds) earlier → AllBest (first_state jobs report_rounds) (earlier ++ events.items) core.new }
+    ensures booked { (jobs : List JobSpec) (report_rounds : ℕ) (earlier : List Event) → core.old ≡ state_of (first_state jobs report_rounds) earlier → AllBooked (first_state jobs report_rounds) (earlier ++ events.items) core.new }
     ensures stopped { IfErr result (λ s. StopsAt core.old events.items s.answers.items core.new) }
 {
     published_are_best();

@@ -1,5 +1,5 @@
 -- Of a state that a first line opens a history leaves nothing out.
-use Rattle.std.proofs.Common.{◌≡◌, ◌==◌, ℕ, Bool, true, false, not, cond, List, [], ◌∷◌, Option, Some, None, option_and_then, Result, Ok, Err, refl, sym, ap, ◌∙◌, subst}
+use Rattle.std.proofs.Common.{◌≡◌, ◌==◌, ℕ, Bool, true, false, not, cond, List, [], ◌∷◌, Option, Some, None, option_and_then, option_map, Result, Ok, Err, refl, sym, ap, ◌∙◌, subst}
 use Rattle.std.specs.List.{onto_first}
 use Rattle.std.specs.Option.{option_map_or}
 use Rattle.serde_json.specs.Data.{Data}
@@ -11,13 +11,13 @@ use Rattle.fleet.specs.Jobs.{are_jobs}
 use Rattle.fleet.specs.Parts.{fleet_of, parts_fault}
 use Rattle.fleet.specs.declared.error.PartsError.{PartsError}
 use Rattle.fleet.specs.declared.job.JobSpec.{JobSpec}
-use Rattle.allocation_core.specs.State.{State, first_state, restored}
-use Rattle.core_history.specs.History.{are_slots, by_fault, checked, checked_in, history_in, is_allocation, parts_in, slots_of, slots_said, state_of}
+use Rattle.allocation_core.specs.State.{State, first_state, restored, with_rounds}
+use Rattle.core_history.specs.History.{are_slots, by_fault, checked, checked_in, history_in, is_allocation, parts_in, slots_of, slots_said}
 use Rattle.core_history.proofs.Checking.{length-slots_of, whole_said}
 use Rattle.core_history.specs.declared.error.HistoryError.{HistoryError}
 use Rattle.core_history.specs.declared.error.HistoryError.TheVariants.{BadAllocation, BadRound, BadServed}
 use Rattle.replay_lines.specs.AsRuns.{events_of}
-use Rattle.replay_lines.specs.Configurations.{history_of, jobs_in, opened, opened_from, resumed_with, same_jobs}
+use Rattle.replay_lines.specs.Configurations.{history_of, jobs_in, opened, opened_by as opening, opened_from, opened_in, resumed_with, rounds_of, same_jobs}
 use Rattle.replay_lines.specs.Replays.{lines_in}
 use Rattle.replay_lines.specs.Resumes.{damage_at, resumed, resumed_by, resumed_from, resumption_at, unread_from}
 use Rattle.replay_lines.specs.declared.resuming.Resumption.{Resumption}
@@ -32,11 +32,11 @@ last_only [] = refl
 last_only (q ∷ pairs) = refl
 
 restored_whole :
-    (fleet : FleetState) (pairs : List (ℕ × ℕ)) (slots : List ℕ) (problem : Problem) (plan : Plan) (round : ℕ) → is_allocation fleet pairs ≡ true → slots_of fleet (slots_said slots) ≡ slots → IsWhole (restored fleet pairs slots problem plan round)
+    (fleet : FleetState) (pairs : List (ℕ × ℕ)) (slots : List ℕ) (problem : Problem) (plan : Plan) (round : ℕ) → is_allocation fleet pairs ≡ true → slots_of fleet (slots_said slots) ≡ slots → IsWhole (restored fleet pairs slots problem plan round 1)
 restored_whole fleet pairs slots problem plan round e said =
     record {
       allocation = ap (λ (ps : List (ℕ × ℕ)). is_allocation fleet ps) (last_only pairs) ∙ e;
-      is = (λ i. restored fleet (last_only pairs i) (said i) problem plan round);
+      is = (λ i. restored fleet (last_only pairs i) (said i) problem plan round 1);
     }
 
 -- what passes all checks
@@ -50,13 +50,19 @@ passes true false true m n e = record { good = refl; same = ok_same m n e }
 passes true false false m n e = absurd (no_err BadServed n e)
 passes false c d m n e = absurd (no_err BadAllocation n e)
 
+-- of plain parts, whose fleet has no fault
+passed :
+    (fleet : FleetState) (pairs : List (ℕ × ℕ)) (slots : List ℕ) (problem : Problem) (plan : Plan) (round : ℕ) (fits : Bool) (n : State) → slots_of fleet (slots_said slots) ≡ slots
+    → ◌≡◌ {A = Result State HistoryError} (cond (not (is_allocation fleet pairs)) (Err BadAllocation) (cond (round == 0) (Err BadRound) (cond (not fits) (Err BadServed) (Ok (restored fleet pairs slots problem plan round 1))))) (Ok n) → IsWhole n
+passed fleet pairs slots problem plan round fits n said e =
+    let p = passes (is_allocation fleet pairs) (round == 0) fits (restored fleet pairs slots problem plan round 1) n e in
+    subst IsWhole p.same (restored_whole fleet pairs slots problem plan round p.good said)
+
 whole_by : (fault : Option PartsError) (h : _) (n : State) → by_fault fault h ≡ Ok n → IsWhole n
 whole_by (Some fault) h n e = absurd (no_err _ n e)
 whole_by None h n e =
-    let fleet = fleet_of h.fleet in
-    let p = passes (is_allocation fleet h.allocation) (h.round == 0) (are_slots fleet h.served) (state_of h) n e in
-    let slots = slots_of fleet h.served in
-    subst IsWhole p.same (restored_whole fleet h.allocation slots h.certificate.instance h.certificate.plan h.round p.good (whole_said fleet slots (length-slots_of fleet h.served)))
+    passed (fleet_of h.fleet) h.allocation (slots_of (fleet_of h.fleet) h.served) h.certificate.instance h.certificate.plan h.round (are_slots (fleet_of h.fleet) h.served) n
+    (whole_said (fleet_of h.fleet) (slots_of (fleet_of h.fleet) h.served) (length-slots_of (fleet_of h.fleet) h.served)) e
 
 history_whole : (h : _) (n : State) → checked_in h ≡ Ok n → IsWhole n
 unfolding checked
@@ -69,7 +75,7 @@ said_whole d n e = history_whole (parts_in d) n e
 
 -- ---- or the first one of its jobs
 
-first_whole : (jobs : List JobSpec) → IsWhole (first_state jobs)
+first_whole : (jobs : List JobSpec) → IsWhole (first_state jobs 1)
 first_whole jobs = record { allocation = refl; is = refl }
 
 some_by : (b : Bool) (m n : State) → cond b (Some m) None ≡ Some n → m ≡ n
@@ -81,16 +87,28 @@ resumed_whole jobs (Err fault) n whole e = absurd (no_none n e)
 resumed_whole jobs (Ok m) n whole e = subst IsWhole (some_by (same_jobs m.fleet.jobs jobs) m n e) (whole m refl)
 
 from_whole : (history : Option Data) (jobs : List JobSpec) (n : State) → opened_from history jobs ≡ Some n → IsWhole n
-from_whole None jobs n e = subst IsWhole (some_by (are_jobs jobs) (first_state jobs) n e) (first_whole jobs)
+from_whole None jobs n e = subst IsWhole (some_by (are_jobs jobs) (first_state jobs 1) n e) (first_whole jobs)
 from_whole (Some d) jobs n e = resumed_whole jobs (history_in d) n (said_whole d) e
 
-whole_in : (history : Option Data) (jobs : Option (List JobSpec)) (n : State) → option_and_then (opened_from history) jobs ≡ Some n → IsWhole n
-whole_in history None n e = absurd (no_none n e)
-whole_in history (Some jobs) n e = from_whole history jobs n e
+-- of how many rounds reports are booked is of no matter
+counted_whole : (report_rounds : ℕ) (n : State) → IsWhole n → IsWhole (with_rounds report_rounds n)
+counted_whole report_rounds n whole = record { allocation = whole.allocation; is = ap (with_rounds report_rounds) whole.is }
+
+booking_whole : (report_rounds : ℕ) (opened : Option State) (n : State) → ((m : State) → opened ≡ Some m → IsWhole m) → option_map (with_rounds report_rounds) opened ≡ Some n → IsWhole n
+booking_whole report_rounds None n whole e = absurd (no_none n e)
+booking_whole report_rounds (Some m) n whole e = subst IsWhole (some_same (with_rounds report_rounds m) n e) (counted_whole report_rounds m (whole m refl))
+
+by_whole : (rounds : Option ℕ) (opened : Option State) (n : State) → ((m : State) → opened ≡ Some m → IsWhole m) → opening rounds opened ≡ Some n → IsWhole n
+by_whole None opened n whole e = absurd (no_none n e)
+by_whole (Some report_rounds) opened n whole e = booking_whole report_rounds opened n whole e
+
+whole_in : (line : List ℕ) (jobs : Option (List JobSpec)) (n : State) → option_and_then (opened_in line) jobs ≡ Some n → IsWhole n
+whole_in line None n e = absurd (no_none n e)
+whole_in line (Some jobs) n e = by_whole (rounds_of line) (opened_from (history_of line) jobs) n (from_whole (history_of line) jobs) e
 
 pub opened_whole : OpenedAreWhole
 unfolding opened
-opened_whole line n e = whole_in (history_of line) (jobs_in line) n e
+opened_whole line n e = whole_in line (jobs_in line) n e
 
 -- ---- a first line alone
 

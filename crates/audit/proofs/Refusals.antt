@@ -18,7 +18,7 @@ fault_refused (Err e) refusal m n why is said other = tt
 
 -- or that the next state is another one, where it is granted
 pub fault_granted :
-    {E : Type 0} (result : Result (Option Why) E) (refusal : Option RenewalError) (m n next : State) → refusal ≡ None → next ≡ renewed m n.fleet.jobs → IfOk result (λ o. o ≡ (if same_history next n then None else Some OtherState))
+    {E : Type 0} (result : Result (Option Why) E) (refusal : Option RenewalError) (m n next : State) → refusal ≡ None → next ≡ renewed m n.fleet.jobs n.report_rounds → IfOk result (λ o. o ≡ (if same_history next n then None else Some OtherState))
     → IfOk result (λ o. o ≡ renewal_fault_by refusal m n)
 fault_granted (Ok o) None m n next granted is said = said ∙ ap (λ (s : State). (let w : Option Why = if same_history s n then None else Some OtherState in w)) is
 fault_granted (Ok o) (Some refusal) m n next granted is said = cc

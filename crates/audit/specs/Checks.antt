@@ -42,7 +42,7 @@ refused_why renewal.Memory = None
 
 -- why the state n is not the renewal of m
 abbrev pub renewal_fault_by : Option RenewalError → State → State → Option Why
-renewal_fault_by None m n = if same_history (renewed m n.fleet.jobs) n then None else Some OtherState
+renewal_fault_by None m n = if same_history (renewed m n.fleet.jobs n.report_rounds) n then None else Some OtherState
 renewal_fault_by (Some refusal) m n = refused_why refusal
 
 -- under the jobs of n

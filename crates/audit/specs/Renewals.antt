@@ -8,10 +8,10 @@ use Rattle.replay_lines.specs.Resumes.{resumed}
 use Rattle.replay_lines.specs.declared.resuming.Resumption.{Resumption}
 use Rattle.audit.specs.Checks.{first_line}
 
--- n is the renewal of m under n's own jobs, and nothing is against that
+-- n is the renewal of m under n's own jobs, with reports booked of as many rounds as n's first line says, and nothing is against that
 pub record IsRenewalOf (m n : State) : Type 0 where
   pub granted : renewal_refusal m n.fleet.jobs ≡ None
-  pub is : n ≡ renewed m n.fleet.jobs
+  pub is : n ≡ renewed m n.fleet.jobs n.report_rounds
 
 -- the first line opens the renewal of the state, where there is one
 abbrev pub BeginsWithRenewal : Option State → List ℕ → Type 0

@@ -8,12 +8,12 @@ ghost use Rattle.audit.specs.Renewals.{IsRenewalOf};
 
 use crate::fault::Why;
 use crate::laws::histories_tell;
-use allocation_core::{Core, JobSpec, RenewalError};
+use allocation_core::{Core, JobSpec, RenewalError, ReportRounds};
 use core_history::write_history;
 use lists::copies;
 use std::alloc::{AllocError, Global};
 
-/// Why the next allocator is not the renewal of the core under its own jobs, if it is not.
+/// Why the next allocator is not the renewal of the core under its own jobs, with reports of as many rounds, if it is not.
 #[tactic(auto, unfolding(crate::specs::Checks::renewal_fault))]
 pub(crate) fn renewal_fault(
     alloc: Global,
@@ -25,20 +25,24 @@ pub(crate) fn renewal_fault(
 {
     histories_tell();
     let jobs = copies(alloc, next.fleet().jobs())?;
-    match renewed_under(core, jobs) {
+    match renewed_under(core, jobs, next.report_rounds()) {
         Ok(renewed) => other_state(alloc, &renewed, next),
         Err(why) => why_refused(why),
     }
 }
 
-fn renewed_under(core: Core, jobs: Vec<JobSpec>) -> Result<Core, RenewalError>
-    ensures renewed { IfOk result (λ c. c ≡ renewed core jobs.items) }
+fn renewed_under(
+    core: Core,
+    jobs: Vec<JobSpec>,
+    report_rounds: ReportRounds,
+) -> Result<Core, RenewalError>
+    ensures renewed { IfOk result (λ c. c ≡ renewed core jobs.items report_rounds) }
     ensures granted { OnOk result (renewal_refusal core jobs.items ≡ None) }
     ensures ascending { OnOk result (AllPairs (λ (a b : ℕ × ℕ). a.0 < b.0) (current_pairs core)) }
     ensures refused { IfErr result (λ why. IsWhyNot (renewal_refusal core jobs.items) why) }
 {
     let _pairs = core.allocation();
-    match core.renew(jobs) {
+    match core.renew(jobs, report_rounds) {
         Ok(renewed) => Ok(renewed),
         Err(refused) => Err(refused.why),
     }

@@ -56,11 +56,11 @@ is_whole fleet pairs slots jobs ascending =
 
 pub read_back : RenewedReadBack
 unfolding renewed
-read_back m jobs said ascending back =
+read_back m jobs report_rounds said ascending back =
     let pairs = carried m.fleet (current_pairs m) m.served.slots jobs in
     let after = renewed_fleet m.fleet (current_pairs m) m.served.slots jobs in
     let slots = renewed_slots m.fleet (current_pairs m) m.served.slots jobs in
     let whole = ap (λ (ps : List (ℕ × ℕ)). is_allocation after ps) (last_only pairs) ∙ is_whole m.fleet (current_pairs m) m.served.slots jobs ascending in
-    let same = ap (λ (ps : List (ℕ × ℕ)). (let o : Result State HistoryError = Ok (restored after ps (slots_of after (slots_said slots)) m.problem m.plan (m.round + 1)) in o)) (last_only pairs) in
-    let said = ap (λ (ss : List ℕ). (let o : Result State HistoryError = Ok (restored after pairs ss m.problem m.plan (m.round + 1)) in o)) (whole_said after slots (renewed_slots_fit m.fleet (current_pairs m) m.served.slots jobs)) in
+    let same = ap (λ (ps : List (ℕ × ℕ)). (let o : Result State HistoryError = Ok (restored after ps (slots_of after (slots_said slots)) m.problem m.plan (m.round + 1) 1) in o)) (last_only pairs) in
+    let said = ap (λ (ss : List ℕ). (let o : Result State HistoryError = Ok (restored after pairs ss m.problem m.plan (m.round + 1) 1) in o)) (whole_said after slots (renewed_slots_fit m.fleet (current_pairs m) m.served.slots jobs)) in
     back whole ∙ same ∙ said

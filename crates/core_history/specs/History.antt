@@ -83,7 +83,7 @@ abbrev pub slots_of : FleetState → Option (List ℕ) → List ℕ
 slots_of fleet served = tabulated (slot_of (said_slots served)) (length fleet.known)
 
 abbrev pub state_of : History → State
-state_of history = restored (fleet_of history.fleet) history.allocation (slots_of (fleet_of history.fleet) history.served) history.certificate.instance history.certificate.plan history.round
+state_of history = restored (fleet_of history.fleet) history.allocation (slots_of (fleet_of history.fleet) history.served) history.certificate.instance history.certificate.plan history.round 1
 
 -- what a history comes to whose fleet has no fault
 abbrev pub with_fleet : History → Result State HistoryError
@@ -147,6 +147,7 @@ abbrev pub kept_of : State → History
 kept_of m = history_of (current_pairs m) (certificate_of m.problem m.plan) (parts_of m.fleet) m.round (slots_said m.served.slots)
 
 -- What is written of a state where its allocation names known targets and live collectors reads back as the state without its
--- earlier allocations, takes and reports: so a renewed state reads back whole.
+-- earlier allocations, takes and reports, and with reports booked of one round: so a renewed state reads back whole but for that, which
+-- another member of a first line says.
 abbrev pub ReadsBack : State → Result State HistoryError → Type 0
-ReadsBack m said = is_allocation m.fleet (current_pairs m) ≡ true → said ≡ Ok (restored m.fleet (current_pairs m) (slots_of m.fleet (slots_said m.served.slots)) m.problem m.plan m.round)
+ReadsBack m said = is_allocation m.fleet (current_pairs m) ≡ true → said ≡ Ok (restored m.fleet (current_pairs m) (slots_of m.fleet (slots_said m.served.slots)) m.problem m.plan m.round 1)

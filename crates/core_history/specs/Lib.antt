@@ -1,3 +1,4 @@
 pub mod Parts
 pub mod History
 pub mod Laws
+pub mod Rounds

@@ -13,10 +13,12 @@ mod known_target;
 mod laws;
 mod part;
 mod reading;
+mod report_rounds;
 mod restoring;
 mod writing;
 
 pub use error::HistoryError;
 pub use laws::renewed_read_back;
 pub use reading::{history_in, read_history};
+pub use report_rounds::read_report_rounds;
 pub use writing::{history_value, write_history};

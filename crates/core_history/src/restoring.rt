@@ -10,7 +10,7 @@ ghost use Rattle.core_history.specs.declared.error.HistoryError.TheVariants.{Mem
 
 use crate::error::HistoryError;
 use crate::history::{Certificate, History};
-use allocation_core::Core;
+use allocation_core::{Core, ReportRounds};
 use fleet::{Fleet, FleetParts};
 use lists::List;
 use std::alloc::{AllocError, Global};
@@ -40,7 +40,16 @@ pub(crate) fn restored(alloc: Global, history: History) -> Result<Core, HistoryE
     }
     let slots = slots_of(alloc, &fleet, &served)?;
     let Certificate { instance, plan } = certificate;
-    let core = Core::restored(alloc, fleet, allocation, slots, round, instance, plan)?;
+    let core = Core::restored(
+        alloc,
+        fleet,
+        allocation,
+        slots,
+        round,
+        instance,
+        plan,
+        ReportRounds::least(),
+    )?;
     Ok(core)
 }
 

@@ -4,8 +4,8 @@ use Rattle.allocation_core.specs.State.{State}
 use Rattle.allocation_core.specs.Steps.{state_after}
 use Rattle.allocation_core.specs.Runs.{state_of}
 use Rattle.allocation_core.specs.Renewed.{renewed}
-use Rattle.alloc_desk.specs.History.{IsLegal, events_in}
-use Rattle.alloc_desk.specs.declared.entry.Entry.{Entry}
+use Rattle.journal_entries.specs.Legal.{IsLegal, events_in}
+use Rattle.journal_entries.specs.declared.entry.Entry.{Entry}
 use Rattle.fleet_events.specs.declared.event.Event.{Event}
 use Rattle.renewal.specs.Histories.{Stretch, AreGranted, stretch_end}
 use Rattle.service_tasks.specs.Later.{IsLater, end_of}
@@ -15,7 +15,7 @@ run-append m [] fs = refl
 run-append m (e ∷ es) fs = run-append (state_after m e) es fs
 
 extended : Stretch → List Event → Stretch
-extended s fs = record { jobs = s.jobs; events = s.events ++ fs }
+extended s fs = record { jobs = s.jobs; report_rounds = s.report_rounds; events = s.events ++ fs }
 
 -- a stretch and those behind it, the last of them with more events, and then others
 followed : Stretch → List Stretch → List Event → List Stretch → List Stretch
@@ -25,13 +25,13 @@ followed s (r ∷ rs) fs ts = s ∷ followed r rs fs ts
 followed-end : (m : State) (s : Stretch) (rs : List Stretch) (fs : List Event) (ts : List Stretch)
     → end_of m (followed s rs fs ts) ≡ end_of (state_of (end_of m (s ∷ rs)) fs) ts
 unfolding followed extended
-followed-end m s [] fs ts = ap (λ n. end_of n ts) (run-append (renewed m s.jobs) s.events fs)
+followed-end m s [] fs ts = ap (λ n. end_of n ts) (run-append (renewed m s.jobs s.report_rounds) s.events fs)
 followed-end m s (r ∷ rs) fs ts = followed-end (stretch_end m s) r rs fs ts
 
 followed-granted : (m : State) (s : Stretch) (rs : List Stretch) (fs : List Event) (ts : List Stretch)
     → AreGranted m (s ∷ rs) → AreGranted (state_of (end_of m (s ∷ rs)) fs) ts → AreGranted m (followed s rs fs ts)
 unfolding followed extended
-followed-granted m s [] fs ts g h = (g.0, subst (λ (n : State). AreGranted n ts) (sym (run-append (renewed m s.jobs) s.events fs)) h)
+followed-granted m s [] fs ts g h = (g.0, subst (λ (n : State). AreGranted n ts) (sym (run-append (renewed m s.jobs s.report_rounds) s.events fs)) h)
 followed-granted m s (r ∷ rs) fs ts g h = (g.0, followed-granted (stretch_end m s) r rs fs ts g.1 h)
 
 later-by : (a c : State) (es : List Event) (ss : List Stretch) (fs : List Event) (ts : List Stretch)

@@ -3,7 +3,7 @@ ghost use Rattle.std.specs.Prelude.{◌≡◌, IfOk};
 ghost use Rattle.service_tasks.specs.Later.{IsLater};
 
 use crate::running::Served;
-use alloc_desk::{Desk, DeskName, Pass};
+use alloc_desk::{Desk, DeskName, Log, Pass};
 use allocation_core::Core;
 use durable_journal::Device;
 use event_loops::{Gate, Times};
@@ -33,6 +33,7 @@ pub(crate) fn serve_desk<R, L, B, N, S, F, C>(
     core: Core,
     calls: Blank,
     samples: Blank,
+    log: Log,
 ) -> io::Result<(Core, Ending)>
 where
     R: Wait
@@ -55,9 +56,10 @@ where
     requires core { (core ≡ N.opening) × (N.seats ≡ SEATS) }
     requires calls { (calls.name ≡ L.name) × (calls.parts ≡ L.parts) × (L.parts ≡ SEATS) }
     requires samples { (samples.name ≡ B.name) × (samples.parts ≡ B.parts) × (B.parts ≡ SEATS) }
+    requires log { log ≡ N.book }
     ensures { IfOk result (λ r. IsLater N.opening r.0) }
 {
-    match Desk::<L, B, N>::open(alloc, core, SEATS, calls, samples) {
+    match Desk::<L, B, N>::open(alloc, core, SEATS, calls, samples, log) {
         Ok((desk, passes)) => serve_open(rt, alloc, service, office, desk, passes),
         Err(_) => Err(AllocError.into()),
     }
@@ -93,14 +95,19 @@ where
     ensures { IfOk result (λ r. IsLater N.opening r.0) }
 {
     let Some(asked) = passes.pop() else {
+        drop((desk, passes));
         return Err(AllocError.into());
     };
     let Some(crew) = Crew::muster(passes) else {
+        drop((desk, asked));
         return Err(AllocError.into());
     };
     match handler_of(rt, alloc, office, desk, asked) {
         Ok(handler) => serve_by(rt, service, office, handler, crew),
-        Err(AllocError) => Err(AllocError.into()),
+        Err(AllocError) => {
+            drop(crew);
+            Err(AllocError.into())
+        }
     }
 }
 
@@ -134,7 +141,10 @@ where
 {
     match run(rt, service, office, &handler, &mut crew) {
         Ok(ending) => ended(handler, crew, ending),
-        Err(error) => Err(error),
+        Err(error) => {
+            drop((handler, crew));
+            Err(error)
+        }
     }
 }
 
@@ -245,7 +255,10 @@ fn ended<R: Drop, L: Ledger, B: Ledger, N: DeskName>(
             Ok(core) => Ok((core, ending)),
             Err(error) => Err(error),
         },
-        Err(AllocError) => Err(AllocError.into()),
+        Err(AllocError) => {
+            drop(handler);
+            Err(AllocError.into())
+        }
     }
 }
 

@@ -3,6 +3,7 @@ ghost use Rattle.std.specs.Prelude.{◌≡◌, IfOk};
 ghost use Rattle.service_tasks.specs.Later.{IsLater};
 
 use crate::one_desk::{SEATS, serve_desk};
+use alloc_desk::Log;
 use allocation_core::Core;
 use durable_journal::{Archive, Device};
 use file_configs::ReadFiles;
@@ -140,6 +141,7 @@ where
         core,
         Blank::new(seats),
         Blank::new(seats),
+        Log::new(),
     );
     match ended {
         Ok((_, Ending::Broken)) => Err(io::Error::other("the journal cannot be written")),

@@ -4,7 +4,7 @@ ghost use Rattle.alloc_desk.specs.declared.limits.TheConstants.{MOST_PASSES};
 
 use crate::notes::{Notes, Told};
 use crate::steps::{Steps, does_all};
-use alloc_desk::{Closed, Desk, DeskName, Pass, PassMissing};
+use alloc_desk::{Closed, Desk, DeskName, Front, Log, Pass, PassMissing};
 use allocation_core::Core;
 use std::alloc::Global;
 use std::marker::Brand;
@@ -12,10 +12,11 @@ use std::sync::Wait;
 use std::sync::ledger::{Blank, Ledger};
 use std::thread::{Threads, for_each_mut};
 
-/// A thread's pass, and what it was told.
+/// A thread's pass, what it has seen of the journal, and what it was told.
 #[derive(Drop)]
 struct Worker<L: Ledger, B: Ledger, N: DeskName> {
     pass: Pass<L, B, N>,
+    front: Front<N>,
     notes: Notes,
     done: bool,
 }
@@ -33,6 +34,8 @@ pub(crate) struct Ended {
     pub(crate) entries: usize,
     /// The journal agrees with what was told.
     pub(crate) agrees: bool,
+    /// It begins with what each thread has seen.
+    pub(crate) begins: bool,
     /// It does so too where the first two receipts change places.
     pub(crate) agrees_exchanged: bool,
 }
@@ -55,6 +58,7 @@ pub(crate) fn ended_over<R: Threads + Wait + Sync>(
         seats,
         Blank::new(parts),
         Blank::new(parts),
+        Log::new(),
         steps,
     )
 }
@@ -71,14 +75,16 @@ fn ended_at<
     seats: u32,
     calls: Blank,
     samples: Blank,
+    log: Log,
     steps: &Steps,
 ) -> Option<Ended>
     requires core { (core ≡ N.opening) × (N.seats ≡ seats) }
     requires seats { (0 < seats) × (seats ≤ MOST_PASSES) }
     requires calls { (calls.name ≡ L.name) × (calls.parts ≡ L.parts) × (L.parts ≡ seats) }
     requires samples { (samples.name ≡ B.name) × (samples.parts ≡ B.parts) × (B.parts ≡ seats) }
+    requires log { log ≡ N.book }
 {
-    match Desk::<L, B, N>::open(alloc, core, seats, calls, samples) {
+    match Desk::<L, B, N>::open(alloc, core, seats, calls, samples, log) {
         Ok((desk, passes)) => worked(rt, alloc, desk, passes, steps),
         Err(_) => None,
     }
@@ -97,8 +103,17 @@ fn worked<
     steps: &Steps,
 ) -> Option<Ended> {
     let mut notes = Notes::new(alloc);
-    all_work(rt, alloc, &desk, &mut passes, steps, &mut notes);
-    left_of(desk, passes, notes)
+    let mut fronts = Vec::new(alloc);
+    all_work(
+        rt,
+        alloc,
+        &desk,
+        &mut passes,
+        &mut fronts,
+        steps,
+        &mut notes,
+    );
+    left_of(desk, passes, fronts, notes)
 }
 
 /// Each pass does all steps. The passes of those that failed do not come back.
@@ -112,31 +127,36 @@ fn all_work<
     alloc: Global,
     desk: &Desk<L, B, N>,
     passes: &mut Vec<Pass<L, B, N>>,
+    fronts: &mut Vec<Front<N>>,
     steps: &Steps,
     notes: &mut Notes,
 ) {
     let mut workers = Vec::new(alloc);
-    let _is_hired = hire(alloc, &mut workers, passes);
+    let _is_hired = hire(rt, alloc, desk, &mut workers, passes);
     work(rt, alloc, desk, workers.as_mut_slice(), steps);
-    dismiss(passes, notes, &mut workers);
+    dismiss(passes, fronts, notes, &mut workers);
 }
 
 /// Gives each pass to a worker.
-fn hire<L: Ledger, B: Ledger, N: DeskName>(
+fn hire<L: Ledger, B: Ledger, N: DeskName, R: Wait>(
+    rt: &R,
     alloc: Global,
+    desk: &Desk<L, B, N>,
     workers: &mut Vec<Worker<L, B, N>>,
     passes: &mut Vec<Pass<L, B, N>>,
 ) -> bool {
     for _ in 0..passes.len() {
-        if !hires(alloc, workers, passes.pop()) {
+        if !hires(rt, alloc, desk, workers, passes.pop()) {
             return false;
         }
     }
     true
 }
 
-fn hires<L: Ledger, B: Ledger, N: DeskName>(
+fn hires<L: Ledger, B: Ledger, N: DeskName, R: Wait>(
+    rt: &R,
     alloc: Global,
+    desk: &Desk<L, B, N>,
     workers: &mut Vec<Worker<L, B, N>>,
     pass: Option<Pass<L, B, N>>,
 ) -> bool {
@@ -144,6 +164,7 @@ fn hires<L: Ledger, B: Ledger, N: DeskName>(
         Some(pass) => workers
             .push(Worker {
                 pass,
+                front: desk.front(rt),
                 notes: Notes::new(alloc),
                 done: false,
             })
@@ -163,33 +184,45 @@ fn work<
         workers,
         8,
         &|_, worker| {
-            let Worker { pass, notes, done } = worker;
-            *done = does_all(rt, alloc, desk, pass, steps, notes);
+            let Worker {
+                pass,
+                front,
+                notes,
+                done,
+            } = worker;
+            *done = does_all(rt, alloc, desk, pass, front, steps, notes);
         },
     );
 }
 
-/// Takes the passes of the workers that did all steps, and what they were told.
+/// Takes the passes of the workers that did all steps, and what they were told and have seen.
 fn dismiss<L: Ledger, B: Ledger, N: DeskName>(
     passes: &mut Vec<Pass<L, B, N>>,
+    fronts: &mut Vec<Front<N>>,
     notes: &mut Notes,
     workers: &mut Vec<Worker<L, B, N>>,
 ) {
     for _ in 0..workers.len() {
-        let _is_back = is_back(passes, notes, workers.pop());
+        let _is_back = is_back(passes, fronts, notes, workers.pop());
     }
 }
 
 fn is_back<L: Ledger, B: Ledger, N: DeskName>(
     passes: &mut Vec<Pass<L, B, N>>,
+    fronts: &mut Vec<Front<N>>,
     all: &mut Notes,
     worker: Option<Worker<L, B, N>>,
 ) -> bool {
     match worker {
         Some(worker) => {
-            let Worker { pass, notes, done } = worker;
+            let Worker {
+                pass,
+                front,
+                notes,
+                done,
+            } = worker;
             all.calls = all.calls.saturating_add(pass.calls());
-            done && all.adds(notes) && passes.push(pass).is_ok()
+            done && all.adds(notes) && fronts.push(front).is_ok() && passes.push(pass).is_ok()
         }
         None => false,
     }
@@ -198,10 +231,11 @@ fn is_back<L: Ledger, B: Ledger, N: DeskName>(
 fn left_of<L: Ledger, B: Ledger, N: DeskName>(
     desk: Desk<L, B, N>,
     passes: Vec<Pass<L, B, N>>,
+    fronts: Vec<Front<N>>,
     notes: Notes,
 ) -> Option<Ended> {
     match closed_in_two_steps(desk, passes) {
-        Some(closed) => ended_with(closed, notes),
+        Some(closed) => ended_with(closed, fronts.as_slice(), notes),
         None => None,
     }
 }
@@ -244,20 +278,27 @@ fn gives_back<L: Ledger, B: Ledger, N: DeskName>(
     }
 }
 
-fn ended_with<N: DeskName>(closed: Closed<N>, notes: Notes) -> Option<Ended> {
+fn ended_with<N: DeskName>(closed: Closed<N>, fronts: &[Front<N>], notes: Notes) -> Option<Ended> {
     let Notes {
         mut told,
         said,
         calls,
     } = notes;
     match told.sort_by_key(|one| one.1.position) {
-        Ok(()) => Some(seen(closed, told, said, calls)),
+        Ok(()) => Some(seen(closed, fronts, told, said, calls)),
         Err(_) => None,
     }
 }
 
-fn seen<N: DeskName>(closed: Closed<N>, mut told: Told, said: String, calls: u64) -> Ended {
+fn seen<N: DeskName>(
+    closed: Closed<N>,
+    fronts: &[Front<N>],
+    mut told: Told,
+    said: String,
+    calls: u64,
+) -> Ended {
     let agrees = closed.agrees(told.as_slice());
+    let begins = begins_with_all(&closed, fronts);
     let agrees_exchanged = agrees_exchanged(&closed, &mut told);
     let entries = closed.journal().len();
     Ended {
@@ -267,8 +308,18 @@ fn seen<N: DeskName>(closed: Closed<N>, mut told: Told, said: String, calls: u64
         calls,
         entries,
         agrees,
+        begins,
         agrees_exchanged,
     }
+}
+
+fn begins_with_all<N: DeskName>(closed: &Closed<N>, fronts: &[Front<N>]) -> bool {
+    for front in fronts {
+        if !closed.begins_with(front) {
+            return false;
+        }
+    }
+    true
 }
 
 fn agrees_exchanged<N: DeskName>(closed: &Closed<N>, told: &mut Told) -> bool {

@@ -1,6 +1,7 @@
 //! What passes are told, and what is said of it.
-use alloc_desk::{Entry, ReallocateError, Reallocated, Receipt, SpreadError};
+use alloc_desk::{ReallocateError, Reallocated, Receipt, SpreadError};
 use allocation_core::{Answer, Event, Refusal};
+use journal_entries::Entry;
 use lists::Text;
 use std::alloc::{AllocError, Global};
 

@@ -224,6 +224,7 @@ fn is_as_in(ended: &Ended, script: &Script) -> bool {
         && ended.entries == script.calls
         && ended.calls == script.calls as u64
         && ended.core.round() == script.round
+        && ended.begins
         && says(ended.said.as_str(), script.says)
 }
 

@@ -2,7 +2,7 @@
 use crate::mixed::line_of;
 use crate::notes::Notes;
 use crate::opening::event_in;
-use alloc_desk::{Desk, DeskName, Pass};
+use alloc_desk::{Desk, DeskName, Front, Pass};
 use allocation_core::Event;
 use assign_engine::solve;
 use lists::Plain;
@@ -41,6 +41,7 @@ pub(crate) fn does_all<L: Ledger, B: Ledger, N: DeskName, R: Wait>(
     alloc: Global,
     desk: &Desk<L, B, N>,
     pass: &mut Pass<L, B, N>,
+    front: &mut Front<N>,
     steps: &Steps,
     notes: &mut Notes,
 ) -> bool {
@@ -48,7 +49,7 @@ pub(crate) fn does_all<L: Ledger, B: Ledger, N: DeskName, R: Wait>(
         let Some(step) = step_of(steps, number) else {
             return false;
         };
-        if !does(rt, alloc, desk, pass, step, number, notes) {
+        if !does(rt, alloc, desk, pass, front, step, number, notes) {
             return false;
         }
     }
@@ -65,15 +66,16 @@ fn does<L: Ledger, B: Ledger, N: DeskName, R: Wait>(
     alloc: Global,
     desk: &Desk<L, B, N>,
     pass: &mut Pass<L, B, N>,
+    front: &mut Front<N>,
     step: Step,
     number: usize,
     notes: &mut Notes,
 ) -> bool {
     match step {
-        Step::Line(line) => tells(rt, alloc, desk, pass, event_in(alloc, line), notes),
+        Step::Line(line) => tells(rt, alloc, desk, pass, front, event_in(alloc, line), notes),
         Step::Mixed => {
-            let event = mixed_event(rt, alloc, desk, pass, number);
-            tells(rt, alloc, desk, pass, event, notes)
+            let event = mixed_event(rt, alloc, desk, pass, front, number);
+            tells(rt, alloc, desk, pass, front, event, notes)
         }
         Step::Reallocate(tries) => {
             let ended = desk.reallocate(rt, alloc, pass, tries);
@@ -84,14 +86,14 @@ fn does<L: Ledger, B: Ledger, N: DeskName, R: Wait>(
             notes.ends_spread(alloc, ended)
         }
         Step::IsChanged => {
-            let text = if desk.is_changed(rt, pass) {
+            let text = if front.is_changed(rt, desk, pass) {
                 "changed"
             } else {
                 "as it was"
             };
             notes.says(text)
         }
-        Step::Entries(from, most) => match desk.entries(rt, alloc, pass, from, most) {
+        Step::Entries(from, most) => match front.entries(rt, desk, pass, alloc, from, most) {
             Ok(entries) => notes.lists(alloc, entries.as_slice()),
             Err(_) => false,
         },
@@ -103,11 +105,12 @@ fn tells<L: Ledger, B: Ledger, N: DeskName, R: Wait>(
     alloc: Global,
     desk: &Desk<L, B, N>,
     pass: &mut Pass<L, B, N>,
+    front: &mut Front<N>,
     event: Option<Event>,
     notes: &mut Notes,
 ) -> bool {
     match twice(event) {
-        Some((event, copy)) => match desk.submit(rt, pass, copy) {
+        Some((event, copy)) => match front.submit(rt, desk, pass, copy) {
             Ok(receipt) => notes.takes(alloc, event, receipt),
             Err(_) => false,
         },
@@ -131,10 +134,11 @@ fn mixed_event<L: Ledger, B: Ledger, N: DeskName, R: Wait>(
     alloc: Global,
     desk: &Desk<L, B, N>,
     pass: &mut Pass<L, B, N>,
+    front: &mut Front<N>,
     number: usize,
 ) -> Option<Event> {
     if number % 50 == 49 {
-        match desk.instance(rt, pass) {
+        match front.instance(rt, desk, pass) {
             Ok(instance) => installs(alloc, &instance),
             Err(_) => None,
         }

@@ -7,8 +7,8 @@ use lists::Text;
 use reach_rules::{OwnLimits, Reach};
 use serde_json::Value;
 use service_settings::{
-    Collector, CollectorTimeout, JoiningPattern, ReleaseAfter, Settings, SettingsError, Spread,
-    address_of, duration_of, read_settings,
+    Collector, CollectorTimeout, DEFAULT_REPORT_ROUNDS, JoiningPattern, ReleaseAfter, Settings,
+    SettingsError, Spread, address_of, duration_of, read_settings,
 };
 use std::alloc::{AllocError, Global};
 
@@ -115,7 +115,16 @@ fn add_rest(alloc: Global, text: &mut String, settings: &Settings) -> Result<(),
     text.push_str(rest_outline(alloc, settings)?.as_str())?;
     text.push_str(doors_outline(alloc, settings)?.as_str())?;
     text.push_str(handover_outline(alloc, settings)?.as_str())?;
-    text.push_str(spread_outline(alloc, settings.spread)?.as_str())
+    text.push_str(spread_outline(alloc, settings.spread)?.as_str())?;
+    text.push_str(rounds_outline(alloc, settings.report_rounds)?.as_str())
+}
+
+/// Of how many rounds reports are booked, where it is not the usual number.
+fn rounds_outline(alloc: Global, report_rounds: u32) -> Result<String, AllocError> {
+    if report_rounds == DEFAULT_REPORT_ROUNDS {
+        return Ok(String::new(alloc));
+    }
+    format!(in alloc; " rounds {report_rounds}")
 }
 
 /// The other settings.

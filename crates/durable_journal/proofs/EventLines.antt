@@ -1,7 +1,7 @@
 -- Lines of events, one after the other.
 use Rattle.std.proofs.Common.{◌≡◌, ℕ, ◌+◌, ◌<◌, Bool, true, false, cond, List, [], ◌∷◌, ◌++◌, length, get_or, take, Option, Some, None, ap, sym, subst, ◌∙◌, refl, append_assoc, append-nil}
 use Rattle.std.proofs.lemmas.List.{take_more}
-use Rattle.alloc_desk.specs.declared.entry.Entry.{Entry}
+use Rattle.journal_entries.specs.declared.entry.Entry.{Entry}
 use Rattle.fleet_events.specs.Writing.{event_text}
 use Rattle.fleet_events.specs.declared.event.Event.{Event}
 use Rattle.sealed_lines.specs.Lines.{AreLines, with_line, written}

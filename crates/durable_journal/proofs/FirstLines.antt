@@ -12,7 +12,7 @@ use Rattle.serde_json.specs.Data.{Data, Members, no_members, member, null, boole
 use Rattle.serde_json.specs.Written.{blank, blank_members, members_outline, outline}
 use Rattle.json_values.specs.Texts.{json_of}
 use Rattle.json_pieces.specs.Texts.{IsTextOf}
-use Rattle.allocation_core.specs.State.{State}
+use Rattle.allocation_core.specs.State.{IsCount, State}
 use Rattle.core_history.specs.History.{ReadsBack, history_data, history_in}
 use Rattle.replay_lines.specs.Configurations.{opened}
 use Rattle.sealed_lines.specs.Chains.{behind, seal, sealed, start}
@@ -98,21 +98,21 @@ configured_opens document r given =
     says_opens line p.0 (shallow document p.0 p.1) (says_marked p.0 (value_of first) line p.2 text) ∙ ap opened_data (sym p.1) ∙ sym (opened_as document))
     given
 
-renewed_line_opens : (document : List ℕ) (m : State) (first : FirstLine) → option_and_then marked (option_and_then (with_history m) (json_of document)) ≡ Some (value_of first) → Opens (goes_on m document) first
-renewed_line_opens document m first is line text =
+renewed_line_opens : (document : List ℕ) (m : State) (first : FirstLine) → IsCount m.report_rounds → option_and_then marked (option_and_then (with_history m) (json_of document)) ≡ Some (value_of first) → Opens (goes_on m document) first
+renewed_line_opens document m first count is line text =
     let p = parts marked (option_and_then (with_history m) (json_of document)) (value_of first) is in
     let q = parts (with_history m) (json_of document) p.0 p.1 in
-    renewed_opens line document m q.0 p.0 q.1 q.2 (says_marked p.0 (value_of first) line p.2 text)
+    renewed_opens line document m q.0 p.0 count q.1 q.2 (says_marked p.0 (value_of first) line p.2 text)
 
-pub renewed_first_opens : {E : Type 0} (document : List ℕ) (m : State) (r : Result (Option FirstLine) E) → IfOk r (λ x. option_map value_of x ≡ option_and_then marked (option_and_then (with_history m) (json_of document))) → IfOk r (λ x. IfSome x (Opens (goes_on m document)))
-renewed_first_opens document m r given = firsts r _ (Opens (goes_on m document)) (renewed_line_opens document m) given
+pub renewed_first_opens : {E : Type 0} (document : List ℕ) (m : State) (r : Result (Option FirstLine) E) → IsCount m.report_rounds → IfOk r (λ x. option_map value_of x ≡ option_and_then marked (option_and_then (with_history m) (json_of document))) → IfOk r (λ x. IfSome x (Opens (goes_on m document)))
+renewed_first_opens document m r count given = firsts r _ (Opens (goes_on m document)) (λ first is. renewed_line_opens document m first count is) given
 
-pub renewed_first_again : {E : Type 0} (document : List ℕ) (m : State) (r : Result (Option FirstLine) E) → IfOk r (λ x. option_map value_of x ≡ option_and_then marked (option_and_then (with_history m) (json_of document)))
+pub renewed_first_again : {E : Type 0} (document : List ℕ) (m : State) (r : Result (Option FirstLine) E) → IsCount m.report_rounds → IfOk r (λ x. option_map value_of x ≡ option_and_then marked (option_and_then (with_history m) (json_of document)))
     → IfOk r (λ x. IfSome x (λ first. ReadsBack m (history_in (history_data m)))) → IfOk r (λ x. IfSome x (OpensWhole m document))
-renewed_first_again document m (Err e) given reads = tt
-renewed_first_again document m (Ok None) given reads = tt
-renewed_first_again document m (Ok (Some first)) given reads =
-    λ line text jobs good jobs_are same. renewed_line_opens document m first (sym given) line text ∙ again_by m document (history_in (history_data m)) jobs (reads good) jobs_are same
+renewed_first_again document m (Err e) count given reads = tt
+renewed_first_again document m (Ok None) count given reads = tt
+renewed_first_again document m (Ok (Some first)) count given reads =
+    λ line text jobs good jobs_are same. renewed_line_opens document m first count (sym given) line text ∙ again_by m document (history_in (history_data m)) jobs (reads good) jobs_are same
 
 -- ---- what stands in the file
 

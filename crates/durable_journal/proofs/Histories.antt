@@ -1,9 +1,11 @@
 -- A line with the history of a state: how deep it is, and what it opens.
-use Rattle.std.proofs.Common.{◌≡◌, ◌≤◌, ℕ, true, List, length, Option, Some, None, String, BTreeMap, Global, Result, Ok, refl, sym, ap, subst, ◌∙◌, arith}
-use Rattle.std.specs.Prelude.{option_map, option_and_then, codes, if◌then◌else◌, unwrap_or}
+use Rattle.std.proofs.Common.{◌≡◌, ◌≤◌, ℕ, Bool, true, ◌&&◌, List, length, Option, Some, None, String, BTreeMap, Global, Result, Ok, refl, sym, ap, subst, ◌∙◌, arith}
+use Rattle.std.specs.Prelude.{◌^◌, option_map, option_and_then, codes, if◌then◌else◌, unwrap_or}
 use Rattle.std.specs.Option.{ok_or}
 use Rattle.std.specs.Result.{result_ok}
+use Rattle.std.proofs.lemmas.Bool.{le-leb, lt-ltb}
 use Rattle.serde_json.specs.Data.{Data, Members, null, boolean, number, string, array, object, put, depth, members_depth}
+use Rattle.serde_json.specs.Find.{get}
 use Rattle.serde_json.specs.Read.{max_depth}
 use Rattle.serde_json.specs.View.{view, members_view}
 use Rattle.serde_json.specs.declared.value.Value.{Value, Object}
@@ -17,19 +19,20 @@ use Rattle.fleet.specs.declared.collector.Collector.{Collector}
 use Rattle.fleet.specs.declared.job.JobSpec.{JobSpec}
 use Rattle.fleet.specs.declared.known_target.KnownTarget.{KnownTarget}
 use Rattle.fleet_events.proofs.Forms.{target_levels, reach_levels, limits_levels}
-use Rattle.allocation_core.specs.State.{State, current_pairs, restored}
+use Rattle.allocation_core.specs.State.{IsCount, State, counted, current_pairs, restored}
 use Rattle.core_history.specs.Parts.{job_data, known_data, collector_data, fleet_data}
 use Rattle.price_certificate.specs.Document.{document_data}
 use Rattle.core_history.specs.History.{ReadsBack, history_by, history_data, history_in, slots_of, slots_said}
+use Rattle.core_history.specs.Rounds.{rounds_or_one}
 use Rattle.core_history.specs.declared.error.HistoryError.{HistoryError}
 use Rattle.sd_documents.specs.Config.{config_said}
 use Rattle.sd_documents.specs.Reading.{◌>>=◌}
 use Rattle.sd_documents.specs.declared.error.SdError.TheVariants.{NotJson}
-use Rattle.replay_lines.specs.Configurations.{jobs_in, opened, opened_from, resumed_with, same_jobs, specs_of}
+use Rattle.replay_lines.specs.Configurations.{jobs_in, opened, opened_by, opened_from, resumed_with, same_jobs, specs_of}
 use Rattle.durable_journal.specs.Configured.{goes_on, with_history}
 use Rattle.durable_journal.specs.Marks.{SaysMarked}
 use Rattle.durable_journal.proofs.Marked.{put_levels, says_opens}
-use Rattle.durable_journal.proofs.Opening.{opened_data, shallow}
+use Rattle.durable_journal.proofs.Opening.{opened_data, opened_parts, shallow}
 
 -- ---- how deep it is
 
@@ -57,6 +60,10 @@ rest_levels m (Some slots) =
 history_levels : (m : State) → depth (history_data m) ≤ 6
 history_levels m = rest_levels m (slots_said m.served.slots)
 
+-- the members with both of the renewed state
+abbrev with_both : State → Members → Members
+with_both m ms = put (codes "report_rounds") (number_data m.report_rounds) (put (codes "history") (history_data m) ms)
+
 renewed_levels : (m : State) (d r : Data) → depth d ≤ max_depth → with_history m d ≡ Some r → depth r ≤ max_depth
 renewed_levels m null r h e = cc
 renewed_levels m (boolean b) r h e = cc
@@ -66,42 +73,63 @@ renewed_levels m (array ds) r h e = cc
 renewed_levels m (object ms) r h e =
     let inside : members_depth ms ≤ 126 = omega (arith, h) in
     let low : depth (history_data m) ≤ 126 = omega (arith, history_levels m) in
-    let deep : members_depth (put (codes "history") (history_data m) ms) ≤ 126 = put_levels 126 (codes "history") (history_data m) ms low inside in
+    let told : members_depth (put (codes "history") (history_data m) ms) ≤ 126 = put_levels 126 (codes "history") (history_data m) ms low inside in
+    let deep : members_depth (with_both m ms) ≤ 126 = put_levels 126 (codes "report_rounds") (number_data m.report_rounds) (put (codes "history") (history_data m) ms) (omega arith) told in
     subst (λ (x : Data). depth x ≤ max_depth) (ap (λ (o : Option Data). unwrap_or o null) e) (omega (arith, deep))
 
 -- ---- as a value
 
-pub put_form : (value : Value) (old new : BTreeMap (String Global) Value) (h : Data) (m : State) → value ≡ Object old → members_view new.entries ≡ put (codes "history") h (members_view old.entries) → h ≡ history_data m
-    → Some (view (Object new)) ≡ with_history m (view value)
-put_form value old new h m is added form =
-    ap Some (view-Object new ∙ ap object (added ∙ ap (λ (x : Data). put (codes "history") x (members_view old.entries)) form)) ∙ sym (ap (with_history m) (ap view is ∙ view-Object old))
+pub put_form :
+    (value : Value) (old told new : BTreeMap (String Global) Value) (h r : Data) (m : State) → value ≡ Object old → members_view told.entries ≡ put (codes "history") h (members_view old.entries)
+    → members_view new.entries ≡ put (codes "report_rounds") r (members_view told.entries) → h ≡ history_data m → r ≡ number_data m.report_rounds → Some (view (Object new)) ≡ with_history m (view value)
+put_form value old told new h r m is added counted form count =
+    let both : members_view new.entries ≡ with_both m (members_view old.entries) =
+    counted ∙ (λ i. put (codes "report_rounds") (count i) (added i)) ∙ ap (λ (x : Data). put (codes "report_rounds") (number_data m.report_rounds) (put (codes "history") x (members_view old.entries))) form in
+    ap Some (view-Object new ∙ ap object both) ∙ sym (ap (with_history m) (ap view is ∙ view-Object old))
 
 -- ---- what it opens
 
-said_same : (h : Data) (ms : Members) → config_said (object (put (codes "history") h ms)) ≡ config_said (object ms)
+said_put : (name : List ℕ) (d : Data) (ms : Members) → (codes "scrape_configs" ≡ name → ⊥) → config_said (object (put name d ms)) ≡ config_said (object ms)
 unfolding config_said
-said_same h ms = rw (get_member-put_other (codes "scrape_configs") (codes "history") h ms (λ e. omega (arith, ap length e))) refl
+said_put name d ms other = rw (get_member-put_other (codes "scrape_configs") name d ms other) refl
 
-opened_with_history : (document : List ℕ) (h : Data) (ms : Members) → json_of document ≡ Some (object ms)
-    → opened_data (Some (object (put (codes "history") h ms))) ≡ option_and_then (λ jobs. resumed_with jobs (history_in h)) (jobs_in document)
-opened_with_history document h ms before =
-    ap (λ (o : Option Data). option_and_then (opened_from o) (option_map specs_of (result_ok (config_said (object (put (codes "history") h ms)))))) (get_member-put (codes "history") h ms)
-    ∙ ap (λ r. option_and_then (opened_from (Some h)) (option_map specs_of (result_ok r))) (said_same h ms)
-    ∙ ap (λ (o : Option Data). option_and_then (opened_from (Some h)) (option_map specs_of (result_ok (ok_or o NotJson >>= config_said)))) (sym before)
+said_same : (m : State) (ms : Members) → config_said (object (with_both m ms)) ≡ config_said (object ms)
+said_same m ms =
+    said_put (codes "report_rounds") (number_data m.report_rounds) (put (codes "history") (history_data m) ms) (λ e. omega (arith, ap length e)) ∙ said_put (codes "history") (history_data m) ms (λ e. omega (arith, ap length e))
 
-opened_renewed : (document : List ℕ) (m : State) (d r : Data) → json_of document ≡ Some d → with_history m d ≡ Some r → opened_data (Some r) ≡ goes_on m document
-opened_renewed document m null r before e = cc
-opened_renewed document m (boolean b) r before e = cc
-opened_renewed document m (number n) r before e = cc
-opened_renewed document m (string s) r before e = cc
-opened_renewed document m (array ds) r before e = cc
-opened_renewed document m (object ms) r before e = ap opened_data (sym e) ∙ opened_with_history document (history_data m) ms before
+history_told : (m : State) (ms : Members) → get (codes "history") (object (with_both m ms)) ≡ Some (history_data m)
+history_told m ms =
+    get_member-put_other (codes "history") (codes "report_rounds") (number_data m.report_rounds) (put (codes "history") (history_data m) ms) (λ e. omega (arith, ap length e)) ∙ get_member-put (codes "history") (history_data m) ms
 
-pub renewed_opens : (line document : List ℕ) (m : State) (d r : Data) → json_of document ≡ Some d → with_history m d ≡ Some r → SaysMarked r line → opened line ≡ goes_on m document
-renewed_opens line document m d r before e says = says_opens line r (renewed_levels m d r (shallow document d before) e) says ∙ opened_renewed document m d r before e
+rounds_told : (m : State) (ms : Members) → get (codes "report_rounds") (object (with_both m ms)) ≡ Some (number_data m.report_rounds)
+rounds_told m ms = get_member-put (codes "report_rounds") (number_data m.report_rounds) (put (codes "history") (history_data m) ms)
 
-pub again_by : (m : State) (document : List ℕ) (said : Result State HistoryError) (jobs : List JobSpec) → said ≡ Ok (restored m.fleet (current_pairs m) (slots_of m.fleet (slots_said m.served.slots)) m.problem m.plan m.round) → jobs_in document ≡ Some jobs → same_jobs m.fleet.jobs jobs ≡ true
-    → option_and_then (λ jobs. resumed_with jobs said) (jobs_in document) ≡ Some (restored m.fleet (current_pairs m) (slots_of m.fleet (slots_said m.served.slots)) m.problem m.plan m.round)
+-- a number of rounds reads back
+count_read : (n : ℕ) → IsCount n → rounds_or_one (Some (number_data n)) ≡ Some n
+count_read n count =
+    ap (λ (b : Bool). option_and_then counted (if b then Some n else None)) (lt-ltb n (2 ^ 32) (omega (arith, count.1)))
+    ∙ (λ i. if le-leb 1 n count.0 i && le-leb n 64 count.1 i then Some n else None)
+
+opened_with_history : (document : List ℕ) (m : State) (ms : Members) → IsCount m.report_rounds → json_of document ≡ Some (object ms) → opened_data (Some (object (with_both m ms))) ≡ goes_on m document
+opened_with_history document m ms count before =
+    (λ i. opened_parts (history_told m ms i) (rounds_told m ms i) (option_map specs_of (result_ok (said_same m ms i))))
+    ∙ ap (λ (o : Option ℕ). option_and_then (λ js. opened_by o (opened_from (Some (history_data m)) js)) (option_map specs_of (result_ok (config_said (object ms))))) (count_read m.report_rounds count)
+    ∙ ap (λ (o : Option Data). option_and_then (λ js. opened_by (Some m.report_rounds) (opened_from (Some (history_data m)) js)) (option_map specs_of (result_ok (ok_or o NotJson >>= config_said)))) (sym before)
+
+opened_renewed : (document : List ℕ) (m : State) (d r : Data) → IsCount m.report_rounds → json_of document ≡ Some d → with_history m d ≡ Some r → opened_data (Some r) ≡ goes_on m document
+opened_renewed document m null r count before e = cc
+opened_renewed document m (boolean b) r count before e = cc
+opened_renewed document m (number n) r count before e = cc
+opened_renewed document m (string s) r count before e = cc
+opened_renewed document m (array ds) r count before e = cc
+opened_renewed document m (object ms) r count before e = ap opened_data (sym e) ∙ opened_with_history document m ms count before
+
+pub renewed_opens : (line document : List ℕ) (m : State) (d r : Data) → IsCount m.report_rounds → json_of document ≡ Some d → with_history m d ≡ Some r → SaysMarked r line → opened line ≡ goes_on m document
+renewed_opens line document m d r count before e says = says_opens line r (renewed_levels m d r (shallow document d before) e) says ∙ opened_renewed document m d r count before e
+
+pub again_by : (m : State) (document : List ℕ) (said : Result State HistoryError) (jobs : List JobSpec) → said ≡ Ok (restored m.fleet (current_pairs m) (slots_of m.fleet (slots_said m.served.slots)) m.problem m.plan m.round 1) → jobs_in document ≡ Some jobs → same_jobs m.fleet.jobs jobs ≡ true
+    → option_and_then (λ jobs. opened_by (Some m.report_rounds) (resumed_with jobs said)) (jobs_in document) ≡ Some (restored m.fleet (current_pairs m) (slots_of m.fleet (slots_said m.served.slots)) m.problem m.plan m.round m.report_rounds)
 again_by m document said jobs reads jobs_are same =
-    ap (λ (o : Option (List JobSpec)). option_and_then (λ js. resumed_with js said) o) jobs_are ∙ ap (resumed_with jobs) reads
-    ∙ ap (λ b. if b then Some (restored m.fleet (current_pairs m) (slots_of m.fleet (slots_said m.served.slots)) m.problem m.plan m.round) else None) same
+    let read : State = restored m.fleet (current_pairs m) (slots_of m.fleet (slots_said m.served.slots)) m.problem m.plan m.round 1 in
+    ap (λ (o : Option (List JobSpec)). option_and_then (λ js. opened_by (Some m.report_rounds) (resumed_with js said)) o) jobs_are ∙ ap (λ (s : Result State HistoryError). opened_by (Some m.report_rounds) (resumed_with jobs s)) reads
+    ∙ ap (λ b. opened_by (Some m.report_rounds) (if b then Some read else None)) same

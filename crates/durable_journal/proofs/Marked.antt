@@ -12,12 +12,12 @@ use Rattle.serde_json.specs.Written.{compact_text, has_float}
 use Rattle.serde_json.proofs.Views.{get_member-put_other}
 use Rattle.json_values.specs.Texts.{is_line_feed, json_of}
 use Rattle.sd_documents.specs.Config.{config_said}
-use Rattle.replay_lines.specs.Configurations.{opened, opened_from, specs_of}
+use Rattle.replay_lines.specs.Configurations.{opened, specs_of}
 use Rattle.durable_journal.specs.Configured.{IsLineGiven}
 use Rattle.sealed_lines.specs.Lines.{HasNoFeed}
 use Rattle.durable_journal.specs.Marks.{SaysMarked, mark_data, mark_name, mark_text, marked}
 use Rattle.durable_journal.proofs.Beginnings.{marked_begins}
-use Rattle.durable_journal.proofs.Opening.{opened_as, opened_data, shallow}
+use Rattle.durable_journal.proofs.Opening.{opened_as, opened_data, opened_parts, shallow}
 
 -- ---- how deep it is
 
@@ -54,10 +54,11 @@ said_same ms = rw (get_member-put_other (codes "scrape_configs") mark_name mark_
 history_same : (ms : Members) → get (codes "history") (object (put mark_name mark_data ms)) ≡ get (codes "history") (object ms)
 history_same ms = get_member-put_other (codes "history") mark_name mark_data ms (λ e. omega (arith, ap length e))
 
+rounds_same : (ms : Members) → get (codes "report_rounds") (object (put mark_name mark_data ms)) ≡ get (codes "report_rounds") (object ms)
+rounds_same ms = get_member-put_other (codes "report_rounds") mark_name mark_data ms (λ e. omega (arith, ap length e))
+
 opened_object : (ms : Members) → opened_data (Some (object (put mark_name mark_data ms))) ≡ opened_data (Some (object ms))
-opened_object ms =
-    ap (λ (h : Option Data). option_and_then (opened_from h) (option_map specs_of (result_ok (config_said (object (put mark_name mark_data ms)))))) (history_same ms)
-    ∙ ap (λ r. option_and_then (opened_from (get (codes "history") (object ms))) (option_map specs_of (result_ok r))) (said_same ms)
+opened_object ms = λ i. opened_parts (history_same ms i) (rounds_same ms i) (option_map specs_of (result_ok (said_same ms i)))
 
 opened_with_mark : (d m : Data) → marked d ≡ Some m → opened_data (Some m) ≡ opened_data (Some d)
 opened_with_mark null m e = cc

@@ -17,7 +17,7 @@ use Rattle.allocation_core.specs.Runs.{state_of}
 use Rattle.fleet_events.specs.Reading.{event_of}
 use Rattle.fleet_events.specs.declared.event.Event.{Event}
 use Rattle.replay_lines.specs.AsRuns.{events_of}
-use Rattle.replay_lines.specs.Configurations.{opened, opened_from, specs_of}
+use Rattle.replay_lines.specs.Configurations.{opened, specs_of}
 use Rattle.replay_lines.specs.Lines.{is_read}
 use Rattle.replay_lines.specs.Resumes.{damage_at, resumed, resumed_by, resumed_from, resumption_at, unread_from}
 use Rattle.replay_lines.specs.declared.resuming.Damage.{Damage}
@@ -34,7 +34,7 @@ use Rattle.durable_journal.specs.Marks.{SaysMarked}
 use Rattle.durable_journal.proofs.Beginnings.{view-String}
 use Rattle.durable_journal.proofs.Bytes.{after_more, sealed_more}
 use Rattle.durable_journal.proofs.Marked.{if_given, put_levels, says_opens}
-use Rattle.durable_journal.proofs.Opening.{opened_as, opened_data, shallow}
+use Rattle.durable_journal.proofs.Opening.{opened_as, opened_data, opened_parts, shallow}
 
 -- ---- the first line
 
@@ -64,10 +64,11 @@ said_same ms = rw (get_member-put_other (codes "scrape_configs") (codes "sealed"
 history_same : (ms : Members) → get (codes "history") (object (put (codes "sealed") note ms)) ≡ get (codes "history") (object ms)
 history_same ms = get_member-put_other (codes "history") (codes "sealed") note ms (λ e. omega (arith, ap length e))
 
+rounds_same : (ms : Members) → get (codes "report_rounds") (object (put (codes "sealed") note ms)) ≡ get (codes "report_rounds") (object ms)
+rounds_same ms = get_member-put_other (codes "report_rounds") (codes "sealed") note ms (λ e. omega (arith, ap length e))
+
 opened_object : (ms : Members) → opened_data (Some (object (put (codes "sealed") note ms))) ≡ opened_data (Some (object ms))
-opened_object ms =
-    ap (λ (h : Option Data). option_and_then (opened_from h) (option_map specs_of (result_ok (config_said (object (put (codes "sealed") note ms)))))) (history_same ms)
-    ∙ ap (λ r. option_and_then (opened_from (get (codes "history") (object ms))) (option_map specs_of (result_ok r))) (said_same ms)
+opened_object ms = λ i. opened_parts (history_same ms i) (rounds_same ms i) (option_map specs_of (result_ok (said_same ms i)))
 
 opened_noted : (d n : Data) → with_note d ≡ Some n → opened_data (Some n) ≡ opened_data (Some d)
 opened_noted null n e = cc

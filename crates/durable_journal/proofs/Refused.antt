@@ -1,8 +1,8 @@
 -- What is refused changes nothing.
 use Rattle.std.proofs.Common.{◌≡◌, cond, List, [], ◌∷◌, Option, Some, None, ap, sym, ◌∙◌, refl}
 use Rattle.std.specs.Prelude.{is_some}
-use Rattle.alloc_desk.specs.History.{answers_in, events_in}
-use Rattle.alloc_desk.specs.declared.entry.Entry.{Entry}
+use Rattle.journal_entries.specs.Legal.{answers_in, events_in}
+use Rattle.journal_entries.specs.declared.entry.Entry.{Entry}
 use Rattle.allocation_core.specs.State.{State}
 use Rattle.allocation_core.specs.Runs.{answers_of, state_of}
 use Rattle.allocation_core.specs.Steps.{answer_by, answer_of, changed, granted, refusal_of, state_after}

@@ -3,10 +3,11 @@ use Rattle.std.specs.Prelude.{◌≡◌, ℕ, List, Option, Some, None, option_m
 use Rattle.serde_json.specs.Data.{Data, object, put}
 use Rattle.serde_json.specs.Find.{as_object}
 use Rattle.serde_json.specs.Written.{compact_text, has_float}
+use Rattle.json_values.specs.Spelling.{number_data}
 use Rattle.allocation_core.specs.State.{State, current_pairs, restored}
 use Rattle.core_history.specs.History.{history_data, history_in, is_allocation, slots_of, slots_said}
 use Rattle.fleet.specs.declared.job.JobSpec.{JobSpec}
-use Rattle.replay_lines.specs.Configurations.{jobs_in, opened, resumed_with, same_jobs}
+use Rattle.replay_lines.specs.Configurations.{jobs_in, opened, opened_by, resumed_with, same_jobs}
 
 -- A value with whole numbers alone has its compact text as its line, and where there is none there is no line.
 abbrev pub IsLineGiven : Option Data → Option (List ℕ) → Type 0
@@ -15,17 +16,17 @@ IsLineGiven (Some d) line = has_float d ≡ false → line ≡ Some (compact_tex
 
 -- ---- with the history of a state
 
--- an object with the history as its member, in place of one that it may have
+-- an object with the history as its member, and of how many rounds reports are booked, in place of those that it may have
 abbrev pub with_history : State → Data → Option Data
-with_history m d = option_map (λ ms. object (put (codes "history") (history_data m) ms)) (as_object d)
+with_history m d = option_map (λ ms. object (put (codes "report_rounds") (number_data m.report_rounds) (put (codes "history") (history_data m) ms))) (as_object d)
 
--- the state that goes on from the history, where the jobs of the document are its own
+-- the state that goes on from the history, where the jobs of the document are its own, with reports booked of as many rounds as before
 abbrev pub goes_on : State → List ℕ → Option State
-goes_on m document = option_and_then (λ jobs. resumed_with jobs (history_in (history_data m))) (jobs_in document)
+goes_on m document = option_and_then (λ jobs. opened_by (Some m.report_rounds) (resumed_with jobs (history_in (history_data m)))) (jobs_in document)
 
 -- Where the allocation names known targets and live collectors, as that of a renewed state does, the line opens the state without
 -- its earlier allocations, takes and reports: a renewed state whole.
 abbrev pub OpensAgain : State → List ℕ → List ℕ → Type 0
 OpensAgain m document line =
     (jobs : List JobSpec) → is_allocation m.fleet (current_pairs m) ≡ true → jobs_in document ≡ Some jobs → same_jobs m.fleet.jobs jobs ≡ true
-    → opened line ≡ Some (restored m.fleet (current_pairs m) (slots_of m.fleet (slots_said m.served.slots)) m.problem m.plan m.round)
+    → opened line ≡ Some (restored m.fleet (current_pairs m) (slots_of m.fleet (slots_said m.served.slots)) m.problem m.plan m.round m.report_rounds)

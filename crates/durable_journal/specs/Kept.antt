@@ -1,7 +1,7 @@
 -- Which events have a line in the file: those that were not refused, since a refused event changes nothing.
 use Rattle.std.specs.Prelude.{◌≡◌, List, [], ◌∷◌, ◌++◌, Bool, true, false, if◌then◌else◌}
-use Rattle.alloc_desk.specs.History.{IsLegal}
-use Rattle.alloc_desk.specs.declared.entry.Entry.{Entry}
+use Rattle.journal_entries.specs.Legal.{IsLegal}
+use Rattle.journal_entries.specs.declared.entry.Entry.{Entry}
 use Rattle.allocation_core.specs.State.{State}
 use Rattle.allocation_core.specs.Runs.{state_of}
 use Rattle.fleet_events.specs.declared.answer.Answer.{Answer}

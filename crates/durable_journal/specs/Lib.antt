@@ -9,3 +9,4 @@ pub mod Beginnings
 pub mod Pieces
 pub mod ByHand
 pub mod Epochs
+pub mod Rounds

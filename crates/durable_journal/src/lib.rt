@@ -16,6 +16,7 @@ mod laws;
 mod marking;
 mod recovering;
 mod renewing;
+mod report_rounds;
 mod sealing;
 mod writing;
 
@@ -28,4 +29,5 @@ pub use device::Device;
 pub use epoch::{epoch_of, next_epoch, with_epoch};
 pub use laws::{files_survive, journals_resume, journals_survive, refused_are_left_out, settles};
 pub use recovering::{MOST_JOURNAL, Recovered, recover};
+pub use report_rounds::with_report_rounds;
 pub use writing::{Lines, journal_lines};

@@ -10,7 +10,7 @@ ghost use Rattle.durable_journal.specs.Marks.{marked as with_mark};
 use crate::beginning::{FirstLine, line_of};
 use allocation_core::Core;
 use core_history::history_value;
-use json_values::parse;
+use json_values::{Spelled, parse};
 use serde_json::{Value, put};
 use std::alloc::{AllocError, Global};
 
@@ -27,6 +27,7 @@ impl FirstLine {
         ensures begins { IfOk result (λ o. IfSome o BeginsMarked) }
         ensures given { IfOk result (λ o. option_map value_of o ≡ option_and_then with_mark (option_and_then (with_history core.now) (json_of document.now))) }
     {
+        let _count = core.report_rounds().count();
         renewed_line(alloc, document, core)
     }
 }
@@ -48,7 +49,7 @@ fn renewed_line(
     }
 }
 
-/// The object with the core's history as its member.
+/// The object with the core's history as its member, and of how many rounds the core books reports.
 fn with_history(alloc: Global, value: Value, core: &Core) -> Result<Option<Value>, AllocError>
     ensures form { IfOk result (λ o. option_map view o ≡ with_history core.now (view value)) }
     ensures reads_back { IfOk result (λ o. IfSome o (λ v. ReadsBack core.now (history_in (history_data core.now)))) }
@@ -57,6 +58,8 @@ fn with_history(alloc: Global, value: Value, core: &Core) -> Result<Option<Value
         Value::Object(mut members) => {
             let history = history_value(alloc, core)?;
             put(&mut members, alloc, "history", history)?;
+            let report_rounds = core.report_rounds().count().write(alloc)?;
+            put(&mut members, alloc, "report_rounds", report_rounds)?;
             Ok(Some(Value::Object(members)))
         }
         _ => Ok(None),

@@ -5,9 +5,9 @@ ghost use Rattle.durable_journal.specs.Events.{AreSaid, IsLineOf, event_lines};
 ghost use Rattle.durable_journal.specs.Files.{bytes_of, chain_past};
 ghost use Rattle.durable_journal.specs.Kept.{is_kept, kept_in};
 
-use alloc_desk::Entry;
 use allocation_core::Answer;
 use fleet_events::Event;
+use journal_entries::Entry;
 use lists::List;
 use sealed_lines::{Chain, seal_line};
 use std::alloc::{AllocError, Global};

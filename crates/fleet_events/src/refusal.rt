@@ -47,7 +47,7 @@ pub enum Refusal {
     NotHolder(Option<CollectorId>),
     /// Another collector's list still has the target: that of this one.
     StillServed(CollectorId),
-    /// The round is below the open one, which is this.
+    /// The round is below the first one of which a report is booked, which is this.
     RoundClosed(Round),
     /// The round is above the open one, which is this.
     RoundNotOpen(Round),

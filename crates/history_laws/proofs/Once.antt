@@ -35,8 +35,8 @@ same_place m n place other a b once same here there job text round =
     elim (cases_eq place other) [
       | inl e ↦ e
       | inr d ↦ elim (cases_lt place other) [
-        | inl less ↦ absurd (omega (arith, round, once place other a b less here at named told))
-        | inr more ↦ absurd (omega (arith, round, once other place b a (omega (arith, more, d)) at here (sym named) (sym told)))
+        | inl less ↦ absurd (once place other a b less here at named told round)
+        | inr more ↦ absurd (once other place b a (omega (arith, more, d)) at here (sym named) (sym told) (sym round))
       ]
     ]
 

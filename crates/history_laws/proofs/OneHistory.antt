@@ -107,8 +107,8 @@ stretches_from law m (file ∷ files) renewals =
     let end = renewals.1 in
     let begins = renewals.4 in
     let next = told_by file journal end renewals.2 renewals.3 in
-    let is : next.start ≡ renewed m begins.0.fleet.jobs = some_same next.start begins.0 (sym next.opens ∙ begins.1) ∙ begins.2.is in
-    let stretch : Stretch = record { jobs = begins.0.fleet.jobs; events = next.events } in
+    let is : next.start ≡ renewed m begins.0.fleet.jobs begins.0.report_rounds = some_same next.start begins.0 (sym next.opens ∙ begins.1) ∙ begins.2.is in
+    let stretch : Stretch = record { jobs = begins.0.fleet.jobs; report_rounds = begins.0.report_rounds; events = next.events } in
     let last : end.core ≡ stretch_end m stretch = next.ends ∙ ap (λ (s : State). state_of s next.events) is in
     let rest = stretches_from law (stretch_end m stretch) files (subst (λ (s : State). AreRenewalsFrom (Some s) files) last renewals.5) in
     record {

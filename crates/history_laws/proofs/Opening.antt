@@ -1,5 +1,5 @@
 -- What a first line opens starts a stretch.
-use Rattle.std.proofs.Common.{◌≡◌, ◌==◌, ◌<◌, ◌≤◌, ℕ, zero, suc, Bool, true, false, not, cond, List, [], ◌∷◌, All, AllPairs, Option, Some, None, option_and_then, Result, Ok, Err, length, refl, subst, arith}
+use Rattle.std.proofs.Common.{◌≡◌, ◌==◌, ◌<◌, ◌≤◌, ℕ, zero, suc, Bool, true, false, not, cond, List, [], ◌∷◌, All, AllPairs, Option, Some, None, option_and_then, option_map, Result, Ok, Err, length, refl, subst, arith}
 use Rattle.std.proofs.lemmas.Bool.{and_parts}
 use Rattle.std.proofs.lemmas.List.Elements.{All-cons, All-nil}
 use Rattle.serde_json.specs.Data.{Data}
@@ -15,12 +15,13 @@ use Rattle.fleet.specs.declared.job.JobSpec.{JobSpec}
 use Rattle.fleet.proofs.FaultLemmas.{is_fleet}
 use Rattle.fleet_assignment.specs.Best.{IsOnce}
 use Rattle.fleet_renewal.proofs.Gets.{none_some, some_same}
-use Rattle.allocation_core.specs.State.{State, first_state, restored}
+use Rattle.allocation_core.specs.State.{State, first_state, restored, with_rounds}
+use Rattle.allocation_core.proofs.StepLemmas.{rounds_kept}
 use Rattle.core_history.specs.History.{are_slots, by_fault, checked, checked_in, history_in, is_allocation, parts_in, slots_of, state_of}
 use Rattle.core_history.specs.declared.error.HistoryError.{HistoryError}
 use Rattle.core_history.specs.declared.error.HistoryError.TheVariants.{BadAllocation, BadRound, BadServed}
 use Rattle.core_history.proofs.Checking.{ascending, length-slots_of, slots_given}
-use Rattle.replay_lines.specs.Configurations.{history_of, jobs_in, opened, opened_from, resumed_with, same_jobs}
+use Rattle.replay_lines.specs.Configurations.{history_of, jobs_in, opened, opened_by, opened_from, opened_in, resumed_with, rounds_of, same_jobs}
 use Rattle.renewal.proofs.Apart.{once_from_apart}
 use Rattle.renewal.proofs.HistoryLemmas.{Starts, first_starts}
 
@@ -39,7 +40,7 @@ rising_once pairs rising = once_from_apart pairs (λ i j d less within same. abs
 
 restored_starts :
     (fleet : FleetState) (pairs : List (ℕ × ℕ)) (slots : List ℕ) (problem : Problem) (plan : Plan) (round : ℕ) → IsFleet fleet → are_jobs fleet.jobs ≡ true → AllPairs (λ (a b : ℕ × ℕ). a.0 < b.0) pairs → length slots ≡ length fleet.known
-    → All (λ (c : ℕ). c ≤ fleet.last_collector) slots → 1 ≤ round → Starts (restored fleet pairs slots problem plan round)
+    → All (λ (c : ℕ). c ≤ fleet.last_collector) slots → 1 ≤ round → Starts (restored fleet pairs slots problem plan round 1)
 restored_starts fleet pairs slots problem plan round kept named rising few given first =
     record {
       kept = record {
@@ -48,6 +49,8 @@ restored_starts fleet pairs slots problem plan round kept named rising few given
         few_slots = omega (arith, few);
         given_slots = given;
         opened = first;
+        from_one = first;
+        begun = omega arith;
         past_rounds = λ k d less. absurd (omega arith);
       };
       alone = only_alone pairs (rising_once pairs rising);
@@ -100,8 +103,8 @@ said_starts d m e = parts_start (parts_in d) m e
 
 -- ---- what a first line opens: the state of its history, or the first one of its jobs
 
-first_by : (named : Bool) (jobs : List JobSpec) (m : State) → are_jobs jobs ≡ named → cond named (Some (first_state jobs)) None ≡ Some m → Starts m
-first_by true jobs m named e = subst Starts (some_same (first_state jobs) m e) (first_starts jobs named)
+first_by : (named : Bool) (jobs : List JobSpec) (m : State) → are_jobs jobs ≡ named → cond named (Some (first_state jobs 1)) None ≡ Some m → Starts m
+first_by true jobs m named e = subst Starts (some_same (first_state jobs 1) m e) (first_starts jobs 1 named)
 first_by false jobs m named e = none_some m e
 
 same_by : (same : Bool) (said m : State) → cond same (Some said) None ≡ Some m → said ≡ m
@@ -116,10 +119,22 @@ from_starts : (history : Option Data) (jobs : List JobSpec) (m : State) → open
 from_starts None jobs m e = first_by (are_jobs jobs) jobs m refl e
 from_starts (Some d) jobs m e = resumed_starts jobs (history_in d) m (said_starts d) e
 
-jobs_start : (history : Option Data) (jobs : Option (List JobSpec)) (m : State) → option_and_then (opened_from history) jobs ≡ Some m → Starts m
-jobs_start history None m e = none_some m e
-jobs_start history (Some jobs) m e = from_starts history jobs m e
+-- of how many rounds reports are booked is of no matter
+counted_starts : (report_rounds : ℕ) (m : State) → Starts m → Starts (with_rounds report_rounds m)
+counted_starts report_rounds m starts = record { kept = rounds_kept m report_rounds starts.kept; alone = starts.alone; unbooked = starts.unbooked; named = starts.named }
+
+booking_starts : (report_rounds : ℕ) (opened : Option State) (m : State) → ((s : State) → opened ≡ Some s → Starts s) → option_map (with_rounds report_rounds) opened ≡ Some m → Starts m
+booking_starts report_rounds None m starts e = none_some m e
+booking_starts report_rounds (Some s) m starts e = subst Starts (some_same (with_rounds report_rounds s) m e) (counted_starts report_rounds s (starts s refl))
+
+by_starts : (rounds : Option ℕ) (opened : Option State) (m : State) → ((s : State) → opened ≡ Some s → Starts s) → opened_by rounds opened ≡ Some m → Starts m
+by_starts None opened m starts e = none_some m e
+by_starts (Some report_rounds) opened m starts e = booking_starts report_rounds opened m starts e
+
+jobs_start : (line : List ℕ) (jobs : Option (List JobSpec)) (m : State) → option_and_then (opened_in line) jobs ≡ Some m → Starts m
+jobs_start line None m e = none_some m e
+jobs_start line (Some jobs) m e = by_starts (rounds_of line) (opened_from (history_of line) jobs) m (from_starts (history_of line) jobs) e
 
 pub opened_starts : (line : List ℕ) (m : State) → opened line ≡ Some m → Starts m
 unfolding opened
-opened_starts line m e = jobs_start (history_of line) (jobs_in line) m e
+opened_starts line m e = jobs_start line (jobs_in line) m e

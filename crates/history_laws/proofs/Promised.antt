@@ -1,6 +1,6 @@
 -- What is promised holds of events from each state that starts a stretch, and so from what a first line opens.
 use Rattle.std.proofs.Common.{◌≡◌, ℕ, List, [], sym, subst, arith}
-use Rattle.scrape_books.specs.Kept.{RoundsRise}
+use Rattle.scrape_books.specs.Kept.{BookedOnce}
 use Rattle.scrape_books.specs.declared.report.Entry.{Entry}
 use Rattle.fleet_events.specs.declared.event.Event.{Event}
 use Rattle.allocation_core.specs.Best.{PublishedCoverMost}
@@ -13,8 +13,8 @@ use Rattle.history_laws.specs.Promises.{IsPromised, OpenedAreGood, lists_after, 
 use Rattle.history_laws.proofs.Lists.{disjoint, run_tells, serves_whole, told_of}
 use Rattle.history_laws.proofs.Opening.{opened_starts}
 
-nothing_rises : (booked : List (ℕ × Entry)) → booked ≡ [] → RoundsRise booked
-nothing_rises booked none = subst RoundsRise (sym none) (λ i j d less within. absurd (omega arith))
+nothing_twice : (booked : List (ℕ × Entry)) → booked ≡ [] → BookedOnce booked
+nothing_twice booked none = subst BookedOnce (sym none) (λ i j d less within. absurd (omega arith))
 
 promised : Laws → PublishedCoverMost → (start : State) (events : List Event) → Starts start → IsPromised start events
 promised laws most start events starts =
@@ -23,7 +23,7 @@ promised laws most start events starts =
     record {
       good = fine;
       most = λ place low high. most start events place _ (fine.best place low high);
-      rounds = run_once start events starts.kept (nothing_rises start.booked starts.unbooked);
+      rounds = run_once start events (nothing_twice start.booked starts.unbooked);
       disjoint = disjoint (state_of start events) (lists_after start events) tells;
       whole = serves_whole (state_of start events) (lists_after start events) tells;
     }

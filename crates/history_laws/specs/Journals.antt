@@ -31,12 +31,12 @@ abbrev pub AreToldBy : State → List Stretch → List (List ℕ) → Type 0
 AreToldBy m [] [] = Unit {0}
 AreToldBy m [] (file ∷ files) = ⊥
 AreToldBy m (stretch ∷ stretches) [] = ⊥
-AreToldBy m (stretch ∷ stretches) (file ∷ files) = IsToldBy file (renewed m stretch.jobs) stretch.events × AreToldBy (stretch_end m stretch) stretches files
+AreToldBy m (stretch ∷ stretches) (file ∷ files) = IsToldBy file (renewed m stretch.jobs stretch.report_rounds) stretch.events × AreToldBy (stretch_end m stretch) stretches files
 
 -- what is promised holds of each stretch
 abbrev pub ArePromised : State → List Stretch → Type 0
 ArePromised m [] = Unit {0}
-ArePromised m (stretch ∷ stretches) = IsPromised (renewed m stretch.jobs) stretch.events × ArePromised (stretch_end m stretch) stretches
+ArePromised m (stretch ∷ stretches) = IsPromised (renewed m stretch.jobs stretch.report_rounds) stretch.events × ArePromised (stretch_end m stretch) stretches
 
 -- the state in which each file ends, beginning with that of the first
 abbrev pub ends_of : State → List Stretch → List State

@@ -1,6 +1,6 @@
 -- What is promised of events from a state, and that it holds from whatever state a first line opens.
 use Rattle.std.specs.Prelude.{◌≡◌, ◌<◌, ◌≤◌, ◌==◌, ◌&&◌, ℕ, true, false, List, [], Some, length, slice_index_or}
-use Rattle.scrape_books.specs.Kept.{RoundsRise}
+use Rattle.scrape_books.specs.Kept.{BookedOnce}
 use Rattle.fleet.specs.Live.{chosen_below, is_in}
 use Rattle.fleet.specs.Orderly.{is_of}
 use Rattle.fleet_events.specs.declared.event.Event.{Event}
@@ -41,8 +41,8 @@ pub record IsPromised (start : State) (events : List Event) : Type 0 where
   pub good : IsGood start events
   -- each published allocation covered the most targets of its moment, and left the fewest at draining collectors
   pub most : (place : ℕ) → length start.published ≤ place → place < length (state_of start events).published → WasMost start events place (slice_index_or (state_of start events).published place [])
-  -- the rounds of a target, by its number, rise
-  pub rounds : RoundsRise (state_of start events).booked
+  -- the rounds of a target, by its number, differ
+  pub rounds : BookedOnce (state_of start events).booked
   pub disjoint : AreDisjoint (lists_after start events)
   pub whole : ServesWhole (state_of start events) (lists_after start events)
 

@@ -3,7 +3,9 @@ use crate::jobs::{jobs_of, many_jobs, number};
 use crate::outline::outline;
 use crate::readers::{READ, fault, history, some};
 use alloc_desk::reallocate;
-use allocation_core::{Answer, Core, Event, JobSpec, NotRenewed, OpenError, RenewalError};
+use allocation_core::{
+    Answer, Core, Event, JobSpec, NotRenewed, OpenError, RenewalError, ReportRounds,
+};
 use core_history::{read_history, write_history};
 use fleet_events::read_event;
 use lists::List;
@@ -28,6 +30,7 @@ pub(crate) fn stepped(
             *twin = None;
             open(alloc, slot, jobs_of(alloc, text))
         }
+        "report_rounds" => book_of(alloc, slot, number(text)),
         "renew" => renew(alloc, slot, jobs_of(alloc, text)),
         "renew_many" => renew(alloc, slot, many_jobs(alloc, number(text))),
         "read_changed" => read_changed(alloc, slot, text),
@@ -62,6 +65,20 @@ fn opened(
     }
 }
 
+/// Reports are booked of so many of the last rounds from now on.
+fn book_of(alloc: Global, slot: &mut Slot, count: u32) -> Result<String, AllocError> {
+    match (slot.take(), ReportRounds::read(count)) {
+        (Some(core), Some(report_rounds)) => {
+            *slot = Some(core.with_report_rounds(report_rounds));
+            String::from_str(alloc, "so many")
+        }
+        (core, _) => {
+            *slot = core;
+            String::from_str(alloc, "as before")
+        }
+    }
+}
+
 fn renew(
     alloc: Global,
     slot: &mut Slot,
@@ -76,7 +93,10 @@ fn renew(
 /// Why a renewal is refused. None where it is not.
 fn renew_under(slot: &mut Slot, jobs: Vec<JobSpec>) -> Option<RenewalError> {
     match slot.take() {
-        Some(core) => put(slot, core.renew(jobs)),
+        Some(core) => {
+            let report_rounds = core.report_rounds();
+            put(slot, core.renew(jobs, report_rounds))
+        }
         None => None,
     }
 }

@@ -180,7 +180,7 @@ fn begun_file(begun: Begun<Disk>) -> Written {
 }
 
 fn log_replaced<R: Clock + Eprint + Copy>(rt: &R) {
-    info!(Logfmt(*rt); "the configuration has other jobs than the journal: the allocator is renewed");
+    info!(Logfmt(*rt); "the configuration has other jobs or report_rounds than the journal: the allocator is renewed");
 }
 
 /// The file of a journal that begins with this line.

@@ -3,7 +3,7 @@ use crate::fault::Fault;
 use crate::guarding::{altered, no_journal, too_long};
 use crate::names::{NamedCollector, names_in, with_names};
 use crate::rounds::round_age;
-use allocation_core::{Core, JobSpec, NotRenewed, RenewalError};
+use allocation_core::{Core, JobSpec, NotRenewed, RenewalError, ReportRounds};
 use durable_journal::{FirstLine, Recovered, epoch_of, recover, with_epoch};
 use lists::copies;
 use replay_lines::{Damage, Resumption, are_jobs_of, resume};
@@ -111,7 +111,7 @@ fn start_of(begun: Begun, chain: Option<Chain>, whole: u64, torn: usize) -> Star
 }
 
 /// The allocator that the lines of the journal at a path lead to, under the jobs of a configuration. Where there are no lines it is that of
-/// the configuration's line; where it has other jobs it is renewed.
+/// the configuration's line; where it has other jobs, or books reports of another number of rounds, it is renewed.
 fn start_over(alloc: Global, path: &str, lines: &[u8], wanted: Wanted<'_>) -> Result<Begun, Fault> {
     if lines.is_empty() {
         return start_anew(alloc, wanted);
@@ -132,15 +132,30 @@ fn go_on(
     events: u64,
 ) -> Result<Begun, Fault> {
     match past_of(alloc, lines, &core) {
-        Ok(past) => {
-            if are_jobs_of(core.fleet().jobs(), wanted.jobs) {
-                let next = Next::GoesOn(events);
-                Ok(Begun { core, past, next })
-            } else {
-                start_renewed(alloc, path, wanted, core, past)
-            }
-        }
+        Ok(past) => start_behind(alloc, path, wanted, core, past, events),
         Err(error) => Err(error.into()),
+    }
+}
+
+/// The allocator that goes on behind so many events where it is as the configuration wants it, and else is renewed.
+fn start_behind(
+    alloc: Global,
+    path: &str,
+    wanted: Wanted<'_>,
+    core: Core,
+    past: Past,
+    events: u64,
+) -> Result<Begun, Fault> {
+    match machine_in(alloc, wanted.line) {
+        Ok((jobs, report_rounds)) => {
+            let is_same = core.report_rounds().count() == report_rounds.count();
+            if is_same && are_jobs_of(core.fleet().jobs(), wanted.jobs) {
+                let next = Next::GoesOn(events);
+                return Ok(Begun { core, past, next });
+            }
+            start_renewed(alloc, path, wanted, core, past, jobs, report_rounds)
+        }
+        Err(fault) => Err(fault),
     }
 }
 
@@ -180,27 +195,27 @@ fn begun_anew(alloc: Global, epoch: u64, first: FirstLine, core: Core) -> Begun 
     }
 }
 
-/// The allocator renewed under the jobs of a configuration's line.
+/// The allocator renewed under these jobs, with reports booked of so many rounds.
 fn start_renewed(
     alloc: Global,
     path: &str,
     wanted: Wanted<'_>,
     core: Core,
     past: Past,
+    jobs: Vec<JobSpec>,
+    report_rounds: ReportRounds,
 ) -> Result<Begun, Fault> {
-    match jobs_in(alloc, wanted.line) {
-        Ok(jobs) => match core.renew(jobs) {
-            Ok(renewed) => replaced(alloc, wanted, past, renewed),
-            Err(NotRenewed { core: _, why }) => Err(not_renewed(alloc, path, why)),
-        },
-        Err(fault) => Err(fault),
+    match core.renew(jobs, report_rounds) {
+        Ok(renewed) => replaced(alloc, wanted, past, renewed),
+        Err(NotRenewed { core: _, why }) => Err(not_renewed(alloc, path, why)),
     }
 }
 
-/// The jobs of a configuration's line, as an allocator has them.
-fn jobs_in(alloc: Global, line: &str) -> Result<Vec<JobSpec>, Fault> {
+/// What the allocator of a configuration's line has: its jobs, and of how many rounds it books reports.
+fn machine_in(alloc: Global, line: &str) -> Result<(Vec<JobSpec>, ReportRounds), Fault> {
     let core = configured(alloc, line.as_bytes())?;
-    Ok(copies(alloc, core.fleet().jobs())?)
+    let jobs = copies(alloc, core.fleet().jobs())?;
+    Ok((jobs, core.report_rounds()))
 }
 
 fn replaced(alloc: Global, wanted: Wanted<'_>, past: Past, core: Core) -> Result<Begun, Fault> {

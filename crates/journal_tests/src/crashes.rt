@@ -1,12 +1,12 @@
 //! Files as crashes leave them.
 use crate::device::Memory;
-use alloc_desk::Entry;
 use allocation_core::{Answer, Core, Refusal};
 use durable_journal::{
     Begun, FirstLine, Lines, Recovered, append, configuration_line, journal_lines, recover,
     sealed_by_hand,
 };
 use fleet_events::{Event, read_event};
+use journal_entries::Entry;
 use replay_lines::resume;
 use sealed_lines::Chain;
 use std::alloc::{AllocError, Global};

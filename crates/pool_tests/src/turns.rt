@@ -2,7 +2,7 @@
 ghost use Rattle.std.specs.Prelude.{◌≡◌};
 
 use crate::opening::{JOIN_A, config_of, core_of, reply_of, submit, submit_line};
-use alloc_desk::{Desk, DeskName, Pass};
+use alloc_desk::{Desk, DeskName, Log, Pass};
 use allocation_core::{Core, Event};
 use collector_pool::{Open, Turn, TurnEnd, collector_turn};
 use http_get::{FetchFault, Get, Scrape, Script};
@@ -25,7 +25,14 @@ fn turns_report_what_was_fetched(rt: HostRuntime) -> Result<(), Fail> {
 fn are_reported<R: Wait>(rt: &R, alloc: Global) -> bool {
     match core_of(alloc, 0) {
         Some(core) => {
-            over_one_desk::<Brand, Brand, Brand, R>(rt, alloc, core, Blank::new(1), Blank::new(1))
+            over_one_desk::<Brand, Brand, Brand, R>(
+                rt,
+                alloc,
+                core,
+                Blank::new(1),
+                Blank::new(1),
+                Log::new(),
+            )
         }
         None => false,
     }
@@ -37,12 +44,14 @@ fn over_one_desk<L: Ledger, B: Ledger, N: DeskName, R: Wait>(
     core: Core,
     calls: Blank,
     samples: Blank,
+    log: Log,
 ) -> bool
     requires core { (core ≡ N.opening) × (N.seats ≡ 1) }
     requires calls { (calls.name ≡ L.name) × (calls.parts ≡ L.parts) × (L.parts ≡ 1) }
     requires samples { (samples.name ≡ B.name) × (samples.parts ≡ B.parts) × (B.parts ≡ 1) }
+    requires log { log ≡ N.book }
 {
-    match Desk::<L, B, N>::open(alloc, core, 1, calls, samples) {
+    match Desk::<L, B, N>::open(alloc, core, 1, calls, samples, log) {
         Ok((desk, mut passes)) => by_first_pass(rt, alloc, &desk, passes.as_mut_slice()),
         Err(_) => false,
     }

@@ -40,9 +40,9 @@ only_last : (pairs : List (ℕ × ℕ)) → last_of (only pairs) ≡ pairs
 only_last [] = refl
 only_last (q ∷ pairs) = refl
 
-same_instance : (m : State) → IsKept m → are_jobs m.fleet.jobs ≡ true → IsOnce (current_pairs m) → instance_at (renewed m m.fleet.jobs) ≡ instance_at m
+same_instance : (m : State) → IsKept m → are_jobs m.fleet.jobs ≡ true → IsOnce (current_pairs m) → (report_rounds : ℕ) → instance_at (renewed m m.fleet.jobs report_rounds) ≡ instance_at m
 unfolding renewed
-same_instance m kept named once =
+same_instance m kept named once report_rounds =
     let pairs = current_pairs m in
     let slots = m.served.slots in
     ap (instance_of (renewed_fleet m.fleet pairs slots m.fleet.jobs)) (only_last (carried m.fleet pairs slots m.fleet.jobs)) ∙ instance_same m.fleet pairs slots kept.fleet named (apart_from_once pairs once)

@@ -1,12 +1,12 @@
 -- No target, by the name of its job and its text, has two reports of a round.
-use Rattle.std.proofs.Common.{◌≡◌, ℕ, ◌<◌, ◌≤◌, List, [], ◌∷◌, Bool, true, false, Option, Some, None, cond, eqb, get_or, length, refl, sym, ap, ◌∙◌, inl, inr, arith, length-append}
+use Rattle.std.proofs.Common.{◌≡◌, ◌≢◌, ℕ, ◌<◌, ◌≤◌, List, [], ◌∷◌, Bool, true, false, Option, Some, None, cond, eqb, get_or, length, refl, sym, ap, ◌∙◌, inl, inr, arith, length-append}
 use Rattle.std.specs.Prelude.{is_some, if◌then◌else◌, nat_lt, slice_get}
 use Rattle.std.specs.Option.{option_map}
 use Rattle.std.proofs.lemmas.Bool.{and_from, cases_eq, cases_lt, eq-eqb}
 use Rattle.std.proofs.lemmas.Option.{slice_get-get_or}
 use borrow.Author.Tests.{ltb-true}
 use Rattle.label_sets.specs.Target.{target_text}
-use Rattle.scrape_books.specs.Kept.{RoundsRise}
+use Rattle.scrape_books.specs.Kept.{BookedOnce}
 use Rattle.scrape_books.specs.declared.report.Entry.{Entry}
 use Rattle.fleet.specs.Fleet.{FleetState, is_joined}
 use Rattle.fleet.specs.IsFleet.{IsFleet}
@@ -132,8 +132,8 @@ told_apart fleet s t kept named low high job text =
 
 pub once_by_text :
     (start : State) (events : List Event) → IsKept (state_of start events) → are_jobs (state_of start events).fleet.jobs ≡ true → ((place : ℕ) (b : ℕ × Entry) → slice_get (state_of start events).booked place ≡ Some b → WasBooked start events place b)
-    → RoundsRise (state_of start events).booked → IsOnceByText (state_of start events)
+    → BookedOnce (state_of start events).booked → IsOnceByText (state_of start events)
 once_by_text start events kept named booked once i j a b less here there job text =
     let m = state_of start events in
     let same : a.0 ≡ b.0 = told_apart m.fleet a.0 b.0 kept.fleet named (booked_known start events i a (booked i a here)) (booked_known start events j b (booked j b there)) job text in
-    pairs_at (λ (x y : ℕ × Entry). x.0 ≡ y.0 → x.1.round < y.1.round) m.booked i j a b once less here there same
+    pairs_at (λ (x y : ℕ × Entry). x.0 ≡ y.0 → x.1.round ≢ y.1.round) m.booked i j a b once less here there same

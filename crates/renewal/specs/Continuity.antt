@@ -60,4 +60,4 @@ pub record Continues (m : State) (jobs : List JobSpec) : Type 0 where
 
 -- With the same jobs the instance is the same: its items, its bins and its pairs before.
 abbrev pub RenewalsContinue : Type 0
-RenewalsContinue = (m : State) → IsKept m → are_jobs m.fleet.jobs ≡ true → IsOnce (current_pairs m) → ((jobs : List JobSpec) → renewal_refusal m jobs ≡ None → Continues m jobs) × (instance_at (renewed m m.fleet.jobs) ≡ instance_at m)
+RenewalsContinue = (m : State) → IsKept m → are_jobs m.fleet.jobs ≡ true → IsOnce (current_pairs m) → ((jobs : List JobSpec) → renewal_refusal m jobs ≡ None → Continues m jobs) × ((report_rounds : ℕ) → instance_at (renewed m m.fleet.jobs report_rounds) ≡ instance_at m)

@@ -1,5 +1,5 @@
 -- Histories: stretches of events, the first from the first state, each further one from a renewal of the state before it.
-use Rattle.std.specs.Prelude.{◌≡◌, ◌<◌, ◌≤◌, ℕ, List, [], ◌∷◌, All, AllPairs, Some, None, true, length, slice_get, slice_index_or}
+use Rattle.std.specs.Prelude.{◌≡◌, ◌≢◌, ◌<◌, ◌≤◌, ℕ, List, [], ◌∷◌, All, AllPairs, Some, None, true, length, slice_get, slice_index_or}
 use Rattle.handover.specs.Handover.{holder_in}
 use Rattle.scrape_books.specs.declared.report.Entry.{Entry}
 use Rattle.fleet.specs.Jobs.{are_jobs}
@@ -14,27 +14,28 @@ use Rattle.allocation_core.specs.Runs.{state_of}
 use Rattle.allocation_core.specs.State.{State, current_pairs, first_state}
 use Rattle.renewal.specs.Continuity.{job_name, text_of}
 
--- a renewal under a list of jobs, and the events behind it
+-- a renewal under a list of jobs, of how many of the last rounds a report is booked from then on, and the events behind it
 pub record Stretch : Type 0 where
   pub jobs : List JobSpec
+  pub report_rounds : ℕ
   pub events : List Event
 
 -- the state at the end of a stretch that follows a state
 abbrev pub stretch_end : State → Stretch → State
-stretch_end m stretch = state_of (renewed m stretch.jobs) stretch.events
+stretch_end m stretch = state_of (renewed m stretch.jobs stretch.report_rounds) stretch.events
 
 -- no renewal is refused
 abbrev pub AreGranted : State → List Stretch → Type 0
 AreGranted m [] = Unit {0}
 AreGranted m (stretch ∷ stretches) = (renewal_refusal m stretch.jobs ≡ None) × AreGranted (stretch_end m stretch) stretches
 
--- A target's reports, by the name of its job and its text, are booked in rising rounds: no target and round is booked twice.
+-- A target's reports, by the name of its job and its text, are booked in rounds that differ: no target and round is booked twice.
 abbrev pub IsOnceByText : State → Type 0
 IsOnceByText m =
-    (i j : ℕ) (a b : ℕ × Entry) → i < j → slice_get m.booked i ≡ Some a → slice_get m.booked j ≡ Some b → job_name m.fleet a.0 ≡ job_name m.fleet b.0 → text_of m.fleet a.0 ≡ text_of m.fleet b.0 → a.1.round < b.1.round
+    (i j : ℕ) (a b : ℕ × Entry) → i < j → slice_get m.booked i ≡ Some a → slice_get m.booked j ≡ Some b → job_name m.fleet a.0 ≡ job_name m.fleet b.0 → text_of m.fleet a.0 ≡ text_of m.fleet b.0 → a.1.round ≢ b.1.round
 
 -- A stretch from a state: each allocation that it published was the best of its moment, or the best within caps that cost nothing, and
--- each report that it booked was booked as it should be, in a later round than the target's others. Allocations that were there before
+-- each report that it booked was booked as it should be, in another round than the target's others. Allocations that were there before
 -- are not of it.
 pub record IsGood (start : State) (events : List Event) : Type 0 where
   pub kept : IsKept (state_of start events)
@@ -48,7 +49,7 @@ pub record IsGood (start : State) (events : List Event) : Type 0 where
 -- each stretch is good
 abbrev pub AreGood : State → List Stretch → Type 0
 AreGood m [] = Unit {0}
-AreGood m (stretch ∷ stretches) = IsGood (renewed m stretch.jobs) stretch.events × AreGood (stretch_end m stretch) stretches
+AreGood m (stretch ∷ stretches) = IsGood (renewed m stretch.jobs stretch.report_rounds) stretch.events × AreGood (stretch_end m stretch) stretches
 
 -- what is booked at the end of each stretch, beginning with the state before the first of these
 abbrev pub books_of : State → List Stretch → List (List (ℕ × Entry))
@@ -62,5 +63,5 @@ IsBefore earlier later = (i j : ℕ) (a b : ℕ × Entry) → slice_get earlier 
 -- a history: the jobs of the first state, the events behind it, and the stretches that follow
 abbrev pub HistoriesAreGood : Type 0
 HistoriesAreGood =
-    (jobs : List JobSpec) (events : List Event) (stretches : List Stretch) → are_jobs jobs ≡ true → AreGranted (state_of (first_state jobs) events) stretches
-    → IsGood (first_state jobs) events × AreGood (state_of (first_state jobs) events) stretches × AllPairs IsBefore (books_of (state_of (first_state jobs) events) stretches)
+    (jobs : List JobSpec) (report_rounds : ℕ) (events : List Event) (stretches : List Stretch) → are_jobs jobs ≡ true → AreGranted (state_of (first_state jobs report_rounds) events) stretches
+    → IsGood (first_state jobs report_rounds) events × AreGood (state_of (first_state jobs report_rounds) events) stretches × AllPairs IsBefore (books_of (state_of (first_state jobs report_rounds) events) stretches)

@@ -17,7 +17,7 @@ pub fn renewals_continue()
 
 /// Over every history of events and renewals, each published allocation is the best of its moment, or the best within caps that cost
 /// nothing, its moves counted from the preceding allocation or from the one that was carried over; and each report is booked from the
-/// target's holder in the allocation that it names, in the round then open, at most once for each target and round.
+/// target's holder in the allocation that it names, in one of the rounds then open, at most once for each target and round.
 pub fn histories_are_good()
     ensures { HistoriesAreGood }
 {

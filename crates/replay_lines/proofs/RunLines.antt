@@ -42,15 +42,15 @@ pub is_run_of_opened : (input : List ℕ) → IsRunOfOpened input (replay_of inp
 unfolding replay_of written_by
 is_run_of_opened input first lines m split e = subst (λ (ls : List (List ℕ)). IsRunFrom m (events_of lines) (written_by ls)) (sym split) (subst (λ (w : Written). IsRunFrom m (events_of lines) w) (sym (ap (λ (o : Option State). option_map_or (λ s. written_from 2 s lines) o (unreadable_at 1)) e)) (run_from 2 m lines))
 
-opens : (lines : List (List ℕ)) (jobs : List JobSpec) (found : Option State) → found ≡ Some (first_state jobs) → option_map_or (λ m. written_from 2 m lines) found (unreadable_at 1) ≡ written_from 2 (first_state jobs) lines
-opens lines jobs found e = ap (λ (o : Option State). option_map_or (λ m. written_from 2 m lines) o (unreadable_at 1)) e
+opens : (lines : List (List ℕ)) (jobs : List JobSpec) (report_rounds : ℕ) (found : Option State) → found ≡ Some (first_state jobs report_rounds) → option_map_or (λ m. written_from 2 m lines) found (unreadable_at 1) ≡ written_from 2 (first_state jobs report_rounds) lines
+opens lines jobs report_rounds found e = ap (λ (o : Option State). option_map_or (λ m. written_from 2 m lines) o (unreadable_at 1)) e
 
 pub replays_are_runs : AlwaysBest → AlwaysBooked → ReplaysAreRuns
 unfolding written_by
-replays_are_runs best booked first lines jobs e =
-    let run = run_from 2 (first_state jobs) lines in
-    subst (λ (w : Written). IsRun jobs (events_of lines) w) (sym (opens lines jobs (opened first) e)) (record { run = run; best = best jobs (events_of lines); booked = booked jobs (events_of lines) })
+replays_are_runs best booked first lines jobs report_rounds e =
+    let run = run_from 2 (first_state jobs report_rounds) lines in
+    subst (λ (w : Written). IsRun jobs report_rounds (events_of lines) w) (sym (opens lines jobs report_rounds (opened first) e)) (record { run = run; best = best jobs report_rounds (events_of lines); booked = booked jobs report_rounds (events_of lines) })
 
 pub replay_is_run : AlwaysBest → AlwaysBooked → (input : List ℕ) → IsRunOf input (replay_of input)
 unfolding replay_of
-replay_is_run best booked input first lines jobs split e = subst (λ (ls : List (List ℕ)). IsRun jobs (events_of lines) (written_by ls)) (sym split) (replays_are_runs best booked first lines jobs e)
+replay_is_run best booked input first lines jobs report_rounds split e = subst (λ (ls : List (List ℕ)). IsRun jobs report_rounds (events_of lines) (written_by ls)) (sym split) (replays_are_runs best booked first lines jobs report_rounds e)

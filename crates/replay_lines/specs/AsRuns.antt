@@ -31,13 +31,13 @@ pub record IsRunFrom (m : State) (events : List Event) (written : Written) : Typ
   pub total : written.ended ≡ Done → last ≡ total_line (state_of m events)
 
 -- and each allocation is the best of its moment, or the best within caps that cost nothing, and each report booked as it should be
-pub record IsRun (jobs : List JobSpec) (events : List Event) (written : Written) : Type 0 where
-  pub run : IsRunFrom (first_state jobs) events written
-  pub best : AllBest (first_state jobs) events (state_of (first_state jobs) events)
-  pub booked : AllBooked (first_state jobs) events (state_of (first_state jobs) events)
+pub record IsRun (jobs : List JobSpec) (report_rounds : ℕ) (events : List Event) (written : Written) : Type 0 where
+  pub run : IsRunFrom (first_state jobs report_rounds) events written
+  pub best : AllBest (first_state jobs report_rounds) events (state_of (first_state jobs report_rounds) events)
+  pub booked : AllBooked (first_state jobs report_rounds) events (state_of (first_state jobs report_rounds) events)
 
 abbrev pub ReplaysAreRuns : Type 0
-ReplaysAreRuns = (first : List ℕ) (lines : List (List ℕ)) (jobs : List JobSpec) → opened first ≡ Some (first_state jobs) → IsRun jobs (events_of lines) (written_by (first ∷ lines))
+ReplaysAreRuns = (first : List ℕ) (lines : List (List ℕ)) (jobs : List JobSpec) (report_rounds : ℕ) → opened first ≡ Some (first_state jobs report_rounds) → IsRun jobs report_rounds (events_of lines) (written_by (first ∷ lines))
 
 -- from whatever state the first line opens
 abbrev pub IsRunOfOpened : List ℕ → Written → Type 0
@@ -45,4 +45,4 @@ IsRunOfOpened input written = (first : List ℕ) (lines : List (List ℕ)) (m : 
 
 -- what is written for this input
 abbrev pub IsRunOf : List ℕ → Written → Type 0
-IsRunOf input written = (first : List ℕ) (lines : List (List ℕ)) (jobs : List JobSpec) → lines_in input ≡ first ∷ lines → opened first ≡ Some (first_state jobs) → IsRun jobs (events_of lines) written
+IsRunOf input written = (first : List ℕ) (lines : List (List ℕ)) (jobs : List JobSpec) (report_rounds : ℕ) → lines_in input ≡ first ∷ lines → opened first ≡ Some (first_state jobs report_rounds) → IsRun jobs report_rounds (events_of lines) written

@@ -2,13 +2,15 @@
 ghost use Rattle.std.specs.Prelude.{◌≡◌, IfOk, Ok, All, codes, map, option_map};
 ghost use Rattle.serde_json.specs.Find.{get};
 ghost use Rattle.serde_json.specs.View.{view};
+ghost use Rattle.allocation_core.specs.State.{with_rounds as booking};
 ghost use Rattle.core_history.specs.History.{history_in};
+ghost use Rattle.core_history.specs.Rounds.{report_rounds_in};
 ghost use Rattle.sd_documents.specs.Config.{job_data};
 ghost use Rattle.sd_documents.specs.Limits.{IsWithinLimits};
-ghost use Rattle.replay_lines.specs.Configurations.{spec_of as spec_of_data, jobs_in as jobs_said, history_of, opened, opened_from, opened_with, resumed_with, same_job, same_jobs};
+ghost use Rattle.replay_lines.specs.Configurations.{spec_of as spec_of_data, jobs_in as jobs_said, opened, opened_by, opened_from, opened_in, opened_with, resumed_with, same_job, same_jobs};
 
-use allocation_core::Core;
-use core_history::{HistoryError, history_in};
+use allocation_core::{Core, ReportRounds};
+use core_history::{HistoryError, history_in, read_report_rounds};
 use fleet::{JobSpec, OpenError};
 use json_values::parse;
 use lists::Plain;
@@ -29,15 +31,45 @@ pub(crate) fn open_core(alloc: Global, line: &[u8]) -> Result<Option<Core>, Allo
 
 /// The allocator of a line whose jobs are these.
 fn open_line(alloc: Global, line: &[u8], jobs: Vec<JobSpec>) -> Result<Option<Core>, AllocError>
-    ensures { IfOk result (λ o. o ≡ opened_from (history_of line.now) jobs.items) }
+    ensures { IfOk result (λ o. o ≡ opened_in line.now jobs.items) }
 {
     match parse(alloc, line)? {
         Some(value) => open_value(alloc, &value, jobs),
-        None => open_with(alloc, jobs),
+        None => {
+            let opened = open_with(alloc, jobs)?;
+            Ok(with_rounds(opened, ReportRounds::least()))
+        }
     }
 }
 
+/// The allocator of a line that is JSON.
 fn open_value(alloc: Global, value: &Value, jobs: Vec<JobSpec>) -> Result<Option<Core>, AllocError>
+    ensures { IfOk result (λ o. o ≡ opened_by (report_rounds_in (view value.now)) (opened_from (get (codes "history") (view value.now)) jobs.items)) }
+{
+    match read_report_rounds(alloc, value)? {
+        Some(report_rounds) => {
+            let opened = open_history(alloc, value, jobs)?;
+            Ok(with_rounds(opened, report_rounds))
+        }
+        None => Ok(None),
+    }
+}
+
+/// The allocator, if there is one, that books reports of so many rounds.
+fn with_rounds(opened: Option<Core>, report_rounds: ReportRounds) -> Option<Core>
+    ensures { result ≡ option_map (booking report_rounds) opened }
+{
+    match opened {
+        Some(core) => Some(core.with_report_rounds(report_rounds)),
+        None => None,
+    }
+}
+
+fn open_history(
+    alloc: Global,
+    value: &Value,
+    jobs: Vec<JobSpec>,
+) -> Result<Option<Core>, AllocError>
     ensures { IfOk result (λ o. o ≡ opened_from (get (codes "history") (view value.now)) jobs.items) }
 {
     match value.get("history") {

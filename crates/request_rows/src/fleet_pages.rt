@@ -1,12 +1,12 @@
 //! The texts of pages of collectors, and of targets that were searched for.
 use crate::numbers::{first_word, large, number};
 use crate::pages::numbered;
-use alloc_desk::NumberedTarget;
 use fleet_events::{Event, read_event};
 use lists::{List, Plain, Text};
 use reach_rules::{CollectorName, OwnLimits, Reach};
 use sd_routes::{CollectorRow, FoundTarget, collector_page, collectors_page, found_page};
 use std::alloc::{AllocError, Global};
+use target_shares::NumberedTarget;
 
 /// The page of a collector, as `NUMBER STATE TAKEN TAKE JOIN`. STATE is `draining` or another word; TAKEN and TAKE are the numbers of its last
 /// take, or 0; JOIN is the line of a join, and its limits are what the collector holds too.

@@ -1,6 +1,5 @@
 //! The texts of pages.
 use crate::numbers::first_part;
-use alloc_desk::{NumberedTarget, Share};
 use fleet_events::{Event, read_event};
 use label_sets::Target;
 use lists::List;
@@ -8,6 +7,7 @@ use reach_rules::CollectorName;
 use sd_documents::read_config;
 use sd_routes::{job_page, jobs_page, targets_page};
 use std::alloc::{AllocError, Global};
+use target_shares::{NumberedTarget, Share};
 
 /// The number of the first target.
 const FIRST: u32 = 7;

@@ -1,12 +1,12 @@
 //! The booked reports of each target, and their sums.
-ghost use Rattle.std.specs.Prelude.{◌≡◌, ◌↔◌, ◌<◌, ◌≤◌, ◌++◌, ◌∷◌, [], ℕ, OnOk, OnErr, Err};
-ghost use Rattle.scrape_books.specs.Books.{last_round_of, page_of, total_of};
-ghost use Rattle.scrape_books.specs.Kept.{RoundsRise};
-ghost use Rattle.scrape_books.specs.Standings.{standing_of};
+ghost use Rattle.std.specs.Prelude.{◌≡◌, ◌<◌, ◌+◌, ◌++◌, ◌∷◌, [], None, OnOk, OnErr, IfErr};
+ghost use Rattle.scrape_books.specs.Books.{booking_refusal, is_booked, last_round_of, page_of, total_of, IsWhyNot};
+ghost use Rattle.scrape_books.specs.Kept.{BookedOnce};
+ghost use Rattle.scrape_books.specs.Standings.{IsBounded, IsStanding};
 
 use crate::error::BooksError;
 use crate::report::{Entry, Page};
-use crate::standing::{Standing, entered, make_room, standing_at};
+use crate::standing::{Standing, entered, is_marked, is_past, make_room, standing_at};
 use std::alloc::Global;
 use std::marker::Model;
 
@@ -44,17 +44,18 @@ impl Books {
         }
     }
 
-    /// Books an entry, which is of a round after the target's last one. What is refused changes nothing.
+    /// Books an entry, of a round that is not booked for the target and at most 63 rounds before its last one. What is refused changes
+    /// nothing.
     pub fn book(&mut self, target: u32, entry: Entry) -> Result<(), BooksError>
         ensures booked { OnOk result (self.new ≡ self.old ++ (target, entry) ∷ []) }
-        ensures later { OnOk result (last_round_of self.old target < entry.round) }
-        ensures already { (last : ℕ) → (result ≡ Err (BooksError.AlreadyBooked last)) ↔ ((last ≡ last_round_of self.old target) × (entry.round ≤ last)) }
+        ensures granted { OnOk result (booking_refusal self.old target entry.round ≡ None) }
+        ensures refused { IfErr result (λ why. IsWhyNot (booking_refusal self.old target entry.round) why) }
         ensures err { OnErr result (self.new ≡ self.old) }
     {
-        let standing = self.standing(target);
-        if entry.round <= standing.last {
-            return Err(BooksError::AlreadyBooked(standing.last));
+        if let Some(why) = self.booking_refusal(target, entry.round) {
+            return Err(why);
         }
+        let standing = self.standing(target);
         self.entries.reserve(1)?;
         make_room(&mut self.standings, target)?;
         self.standings[target as usize] = entered(standing, entry);
@@ -63,7 +64,29 @@ impl Books {
         Ok(())
     }
 
-    /// The round of the target's last entry, 0 where it has none. It takes no memory and looks at no entry.
+    /// The first reason against an entry. It takes no memory and looks at no entry.
+    fn booking_refusal(&self, target: u32, round: u32) -> Option<BooksError>
+        ensures { result ≡ booking_refusal self.now target round }
+    {
+        let last = self.last_round(target);
+        if is_past(last, round) {
+            return Some(BooksError::Past(last));
+        }
+        if self.is_booked(target, round) {
+            return Some(BooksError::AlreadyBooked);
+        }
+        None
+    }
+
+    /// Whether an entry of the target stands for the round, which is at most 63 rounds before the target's last one. It takes no memory
+    /// and looks at no entry.
+    pub fn is_booked(&self, target: u32, round: u32) -> bool
+        ensures { last_round_of self.now target < round + 64 → result ≡ is_booked self.now target round }
+    {
+        is_marked(self.standing(target), round)
+    }
+
+    /// The greatest round of the target's entries, 0 where it has none. It takes no memory and looks at no entry.
     pub fn last_round(&self, target: u32) -> u32
         ensures { result ≡ last_round_of self.now target }
     {
@@ -92,16 +115,16 @@ impl Books {
     }
 
     fn standing(&self, target: u32) -> Standing
-        ensures { result ≡ standing_of self.now target }
+        ensures is { IsStanding self.now target result }
+        ensures bounded { IsBounded result }
     {
         standing_at(self.standings.as_slice(), target)
     }
 }
 
-/// In all books the rounds of a target's entries strictly rise in order of booking: a target is booked at most once for a
-/// round.
-pub fn rounds_rise(books: &Books)
-    ensures { RoundsRise books.now }
+/// In all books the rounds of a target's entries differ: a target is booked at most once for a round.
+pub fn booked_once(books: &Books)
+    ensures { BookedOnce books.now }
 {
     let _entries = &books.entries;
 }

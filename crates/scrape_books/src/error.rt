@@ -5,9 +5,12 @@ use thiserror::Error;
 /// Why an entry was not booked.
 #[derive(Debug, Drop, Error)]
 pub enum BooksError {
-    /// The entry's round is not after the target's last one, which is this: 0 where the target has no entry.
-    #[error("the target is booked up to round {0}")]
-    AlreadyBooked(u32),
+    /// An entry of the target stands for the round.
+    #[error("the round is booked")]
+    AlreadyBooked,
+    /// The entry's round is 0, or 64 rounds and more before the target's last one, which is this: 0 where the target has no entry.
+    #[error("the round is too long before round {0}, the target's last one")]
+    Past(u32),
     #[error("no memory")]
     Memory,
 }

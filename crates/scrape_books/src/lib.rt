@@ -9,7 +9,7 @@ mod report;
 mod samples;
 mod standing;
 
-pub use books::{Books, rounds_rise};
+pub use books::{Books, booked_once};
 pub use error::BooksError;
 pub use report::{Entry, Outcome, Page};
 pub use samples::count_samples;

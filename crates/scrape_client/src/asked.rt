@@ -2,12 +2,9 @@
 ghost use Rattle.std.specs.Prelude.{◌≤◌, IfOk, length};
 
 use crate::ask::{Answer, Ask};
-use crate::ask_exchange::AskExchange;
 use crate::beginning::deadline_of;
-use crate::faults::io_cause;
+use crate::blocking::answer_until;
 use crate::lookups::{Found, Lookups};
-use crate::while_memory::WhileMemory;
-use futures::Future;
 use http_get::{Cause, address_of, name_of};
 use std::alloc::{AllocError, AllocGlobal};
 use std::net::{Net, SocketAddr};
@@ -15,15 +12,9 @@ use std::random::RandomSource;
 use std::sync::Wait;
 use std::thread;
 use std::time::{Clock, Duration, Instant};
-use tokio::runtime::{Handle, LocalRuntime};
-use tokio::time::Timeout;
-use tokio::time::error::Elapsed;
 
 /// How long is waited between two looks at what a look-up came to, in milliseconds.
 const LOOK_MILLIS: u64 = 5;
-
-/// An exchange that is given up at its deadline, and where memory ends.
-type Timed = WhileMemory<Timeout<AskExchange>>;
 
 /// Asks over a new connection. A name is looked up first, on the threads of the look-ups, which nobody else is to ask meanwhile. No redirect is
 /// followed.
@@ -54,42 +45,7 @@ where
 {
     let deadline = deadline_of(rt, ask.limit)?;
     let address = host_of(rt, lookups, ask.address, deadline)?;
-    let mut runtime = LocalRuntime::new(rt).map_err(|e| io_cause(&e))?;
-    let timed = timed_at(rt, runtime.handle(), deadline, address, ask)?;
-    match runtime.block_on(rt, timed) {
-        Ok(ended) => came_to(ended),
-        Err(e) => Err(io_cause(&e)),
-    }
-}
-
-/// An exchange with the host at an address, which is given up at a deadline.
-fn timed_at<R>(
-    rt: &R,
-    handle: &Handle,
-    deadline: Instant,
-    address: SocketAddr,
-    ask: &Ask<'_>,
-) -> Result<Timed, Cause>
-where
-    R: Clock + Net + RandomSource + AllocGlobal,
-    ensures { IfOk result ⟦<WhileMemory<Timeout<AskExchange>> as Future>⟧.can_poll }
-{
-    let exchange = AskExchange::begin(rt, handle.reactor(), address, ask)?;
-    match handle.time().timeout_at(deadline, exchange) {
-        Ok(timed) => Ok(WhileMemory::new(rt.alloc(), timed)),
-        Err(_) => Err(Cause::Memory),
-    }
-}
-
-/// What an exchange came to that may have been given up.
-fn came_to(
-    ended: Result<Result<Result<Answer, Cause>, Elapsed>, AllocError>,
-) -> Result<Answer, Cause> {
-    match ended {
-        Ok(Ok(result)) => result,
-        Ok(Err(_elapsed)) => Err(Cause::TimedOut),
-        Err(AllocError) => Err(Cause::Memory),
-    }
+    answer_until(rt, deadline, address, ask)
 }
 
 /// The address of a host.

@@ -1,29 +1,22 @@
-//! How an exchange begins.
+//! How an exchange begins, and what it came to.
 ghost use Rattle.std.specs.Prelude.{IfOk};
 
+use crate::ask::{Answer, Ask};
 use crate::exchange::Exchange;
 use crate::faults::io_cause;
-use crate::marked::Timed;
 use crate::while_memory::WhileMemory;
 use futures::Future;
-use http_get::{Cause, Get, address_of};
-use std::alloc::AllocGlobal;
+use http_get::Cause;
+use std::alloc::{AllocError, AllocGlobal};
 use std::net::{Net, SocketAddr};
 use std::random::RandomSource;
 use std::time::{Clock, Duration, Instant};
 use tokio::runtime::Handle;
 use tokio::time::Timeout;
+use tokio::time::error::Elapsed;
 
-/// An exchange with an address that begins now.
-pub(crate) fn timed<R>(rt: &R, handle: &Handle, limit: Duration, get: &Get) -> Result<Timed, Cause>
-where
-    R: Clock + Net + RandomSource + AllocGlobal,
-    ensures { IfOk result ⟦<WhileMemory<Timeout<Exchange>> as Future>⟧.can_poll }
-{
-    let address = address_in(get)?;
-    let deadline = deadline_of(rt, limit)?;
-    timed_at(rt, handle, deadline, address, get)
-}
+/// An exchange that is given up at its deadline, and where memory ends.
+pub(crate) type Timed = WhileMemory<Timeout<Exchange>>;
 
 /// An exchange with the host at an address, which is given up at a deadline.
 pub(crate) fn timed_at<R>(
@@ -31,24 +24,27 @@ pub(crate) fn timed_at<R>(
     handle: &Handle,
     deadline: Instant,
     address: SocketAddr,
-    get: &Get,
+    ask: &Ask<'_>,
 ) -> Result<Timed, Cause>
 where
     R: Clock + Net + RandomSource + AllocGlobal,
     ensures { IfOk result ⟦<WhileMemory<Timeout<Exchange>> as Future>⟧.can_poll }
 {
-    let exchange = Exchange::begin(rt, handle.reactor(), address, get)?;
+    let exchange = Exchange::begin(rt, handle.reactor(), address, ask)?;
     match handle.time().timeout_at(deadline, exchange) {
         Ok(timed) => Ok(WhileMemory::new(rt.alloc(), timed)),
         Err(_) => Err(Cause::Memory),
     }
 }
 
-/// The address that is asked.
-fn address_in(get: &Get) -> Result<SocketAddr, Cause> {
-    match address_of(get.address.as_str()) {
-        Some(address) => Ok(SocketAddr::V4(address)),
-        None => Err(Cause::NoAddress),
+/// What an exchange came to that may have been given up.
+pub(crate) fn came_to(
+    ended: Result<Result<Result<Answer, Cause>, Elapsed>, AllocError>,
+) -> Result<Answer, Cause> {
+    match ended {
+        Ok(Ok(result)) => result,
+        Ok(Err(_elapsed)) => Err(Cause::TimedOut),
+        Err(AllocError) => Err(Cause::Memory),
     }
 }
 

@@ -1,16 +1,17 @@
 //! A fetch that is waited for.
 ghost use Rattle.std.specs.Prelude.{◌≤◌, IfOk, length};
-ghost use Rattle.scrape_client.specs.declared.exchange.TheConstants.{LONGEST_BODY};
+ghost use Rattle.scrape_client.specs.declared.fetching.TheConstants.{LONGEST_BODY};
 
-use crate::beginning::timed;
+use crate::ask::{Answer, Ask};
+use crate::beginning::{came_to, deadline_of, timed_at};
 use crate::faults::io_cause;
-use crate::marked::came_to;
-use http_get::{Cause, Get, Reply};
+use crate::fetching::{ask_of, fetched};
+use http_get::{Cause, Get, Reply, address_of};
 use std::alloc::AllocGlobal;
-use std::net::Net;
+use std::net::{Net, SocketAddr};
 use std::random::RandomSource;
 use std::sync::Wait;
-use std::time::{Clock, Duration};
+use std::time::{Clock, Duration, Instant};
 use tokio::runtime::LocalRuntime;
 
 /// One request over a new connection, with so much time.
@@ -19,8 +20,33 @@ where
     R: Wait + Clock + Net + RandomSource + AllocGlobal,
     ensures { IfOk result (λ reply. length reply.body ≤ LONGEST_BODY) }
 {
+    let came = match address_of(get.address.as_str()) {
+        Some(address) => answer_by(rt, SocketAddr::V4(address), &ask_of(get, limit)),
+        None => Err(Cause::NoAddress),
+    };
+    fetched(rt.alloc(), came)
+}
+
+fn answer_by<R>(rt: &R, address: SocketAddr, ask: &Ask<'_>) -> Result<Answer, Cause>
+where
+    R: Wait + Clock + Net + RandomSource + AllocGlobal,
+{
+    let deadline = deadline_of(rt, ask.limit)?;
+    answer_until(rt, deadline, address, ask)
+}
+
+/// The answer of the host at an address, which is waited for until a deadline.
+pub(crate) fn answer_until<R>(
+    rt: &R,
+    deadline: Instant,
+    address: SocketAddr,
+    ask: &Ask<'_>,
+) -> Result<Answer, Cause>
+where
+    R: Wait + Clock + Net + RandomSource + AllocGlobal,
+{
     let mut runtime = LocalRuntime::new(rt).map_err(|e| io_cause(&e))?;
-    let timed = timed(rt, runtime.handle(), limit, get)?;
+    let timed = timed_at(rt, runtime.handle(), deadline, address, ask)?;
     match runtime.block_on(rt, timed) {
         Ok(ended) => came_to(ended),
         Err(e) => Err(io_cause(&e)),

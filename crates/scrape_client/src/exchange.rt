@@ -1,22 +1,23 @@
-//! One request over a connection of its own, as a future.
-ghost use Rattle.std.specs.Prelude.{◌≤◌, IfErr, IfOk, IfSome, OnErr, length};
+//! A request over a connection of its own, as a future.
+ghost use Rattle.std.specs.Prelude.{IfErr, IfOk, IfSome, OnErr};
 ghost use Rattle.futures.specs.Task.{IsArmed, Keeps};
-ghost use Rattle.futures.specs.Poll.{IfReady, OnPending};
-ghost use Rattle.scrape_client.specs.declared.exchange.TheConstants.{LONGEST_BODY};
+ghost use Rattle.futures.specs.Poll.{OnPending};
 
+use crate::ask::{Answer, Ask, Method};
 use crate::faults::{http_cause, hyper_cause, io_cause};
 use bytes::Bytes;
 use futures::Future;
 use futures::task::{Context, Poll};
 use http::Response;
+use http::request::Builder;
 use http::response::Parts;
 use http_body_util::combinators::Collect;
-use http_body_util::{BodyExt, Collected, Empty, Limited, LimitedError};
-use http_get::{Cause, Get, Reply};
+use http_body_util::{BodyExt, Collected, Full, Limited, LimitedError};
+use http_get::Cause;
 use hyper::body::Incoming;
 use hyper::client::conn::http1::{Connection, ResponseFuture, handshake};
 use hyper::{Request, header};
-use lists::{List, Text};
+use lists::List;
 use std::alloc::{AllocError, AllocGlobal, Global};
 use std::hash::RandomState;
 use std::net::{Net, SocketAddr};
@@ -24,13 +25,10 @@ use std::random::RandomSource;
 use tokio::net::{ConnectFuture, TcpStream};
 use tokio::reactor::Handle;
 
-/// The most bytes of a body.
-pub const LONGEST_BODY: usize = 4_194_304;
-
 /// How far an exchange is.
 #[derive(Drop)]
 enum Stage {
-    Connecting(ConnectFuture, RandomState, Request<Empty<Bytes>>),
+    Connecting(ConnectFuture, RandomState, Request<Full<Bytes>>),
     Asking(ResponseFuture<TcpStream>),
     /// The body is read of an answer with this head.
     Reading(Parts),
@@ -43,8 +41,10 @@ pub(crate) struct Exchange {
     alloc: Global,
     stage: Stage,
     /// The connection, which is driven beside what is asked over it, until it ends.
-    line: Option<Connection<TcpStream, Empty<Bytes>>>,
+    line: Option<Connection<TcpStream, Full<Bytes>>>,
     body: Option<Collect<Limited<Incoming<TcpStream>>>>,
+    /// The most bytes of the body.
+    longest: usize,
 }
 
 impl Exchange {
@@ -53,12 +53,12 @@ impl Exchange {
         rt: &R,
         reactor: &Handle,
         address: SocketAddr,
-        get: &Get,
+        ask: &Ask<'_>,
     ) -> Result<Exchange, Cause>
         ensures { IfOk result ⟦<Exchange as Future>⟧.can_poll }
     {
         let alloc = rt.alloc();
-        let request = request_for(alloc, get)?;
+        let request = request_for(alloc, ask)?;
         let Ok(keys) = RandomState::new(rt) else {
             return Err(Cause::Broken);
         };
@@ -68,6 +68,7 @@ impl Exchange {
             stage: Stage::Connecting(connect, keys, request),
             line: None,
             body: None,
+            longest: ask.longest,
         })
     }
 
@@ -75,11 +76,10 @@ impl Exchange {
         &mut self,
         connect: ConnectFuture,
         keys: RandomState,
-        request: Request<Empty<Bytes>>,
+        request: Request<Full<Bytes>>,
         cx: &mut Context<'_>,
-    ) -> Poll<Result<Reply, Cause>>
+    ) -> Poll<Result<Answer, Cause>>
         requires { ⟦<Exchange as Future>⟧.can_poll self.old }
-        ensures value { IfReady result (λ r. IfOk r (λ reply. length reply.body ≤ LONGEST_BODY)) }
         ensures again { OnPending result (⟦<Exchange as Future>⟧.can_poll self.new) }
         ensures armed { OnPending result (IsArmed cx.new) }
         ensures kept { Keeps cx.old cx.new }
@@ -100,11 +100,10 @@ impl Exchange {
         &mut self,
         socket: TcpStream,
         keys: RandomState,
-        request: Request<Empty<Bytes>>,
+        request: Request<Full<Bytes>>,
         cx: &mut Context<'_>,
-    ) -> Poll<Result<Reply, Cause>>
+    ) -> Poll<Result<Answer, Cause>>
         requires { ⟦<Exchange as Future>⟧.can_poll self.old }
-        ensures value { IfReady result (λ r. IfOk r (λ reply. length reply.body ≤ LONGEST_BODY)) }
         ensures again { OnPending result (⟦<Exchange as Future>⟧.can_poll self.new) }
         ensures armed { OnPending result (IsArmed cx.new) }
         ensures kept { Keeps cx.old cx.new }
@@ -123,9 +122,8 @@ impl Exchange {
         &mut self,
         asked: ResponseFuture<TcpStream>,
         cx: &mut Context<'_>,
-    ) -> Poll<Result<Reply, Cause>>
+    ) -> Poll<Result<Answer, Cause>>
         requires { ⟦<Exchange as Future>⟧.can_poll self.old }
-        ensures value { IfReady result (λ r. IfOk r (λ reply. length reply.body ≤ LONGEST_BODY)) }
         ensures again { OnPending result (⟦<Exchange as Future>⟧.can_poll self.new) }
         ensures armed { OnPending result (IsArmed cx.new) }
         ensures kept { Keeps cx.old cx.new }
@@ -151,12 +149,11 @@ impl Exchange {
     {
         let (head, body) = response.into_parts();
         self.stage = Stage::Reading(head);
-        self.body = Some(Limited::new(body, LONGEST_BODY).collect(self.alloc));
+        self.body = Some(Limited::new(body, self.longest).collect(self.alloc));
     }
 
-    fn poll_reading(&mut self, head: Parts, cx: &mut Context<'_>) -> Poll<Result<Reply, Cause>>
+    fn poll_reading(&mut self, head: Parts, cx: &mut Context<'_>) -> Poll<Result<Answer, Cause>>
         requires { ⟦<Exchange as Future>⟧.can_poll self.old }
-        ensures value { IfReady result (λ r. IfOk r (λ reply. length reply.body ≤ LONGEST_BODY)) }
         ensures again { OnPending result (⟦<Exchange as Future>⟧.can_poll self.new) }
         ensures armed { OnPending result (IsArmed cx.new) }
         ensures kept { Keeps cx.old cx.new }
@@ -165,7 +162,7 @@ impl Exchange {
             return Poll::Ready(Err(Cause::Broken));
         };
         match polled(body, cx) {
-            Ok(Ok(all)) => Poll::Ready(reply_of(self.alloc, &head, all)),
+            Ok(Ok(all)) => Poll::Ready(answer_of(self.alloc, head, all)),
             Ok(Err(LimitedError::LengthLimit)) => Poll::Ready(Err(Cause::TooLong)),
             Ok(Err(LimitedError::Body(e))) => Poll::Ready(Err(hyper_cause(&e))),
             Err(body) => {
@@ -192,16 +189,13 @@ impl Exchange {
 }
 
 impl Future for Exchange {
-    ghost use Rattle.std.specs.Prelude.{◌≤◌, IfOk, IfSome, IsSome, length};
-    ghost use Rattle.scrape_client.specs.declared.exchange.TheConstants.{LONGEST_BODY};
+    ghost use Rattle.std.specs.Prelude.{IfSome, IsSome};
 
-    type Output = Result<Reply, Cause>;
+    type Output = Result<Answer, Cause>;
 
-    ghost can_poll = { λ e. IfSome e.line ⟦<Connection<TcpStream, Empty<Bytes>> as Future>⟧.can_poll × IfSome e.body (λ c. IsSome c.collected) };
+    ghost can_poll = { λ e. IfSome e.line ⟦<Connection<TcpStream, Full<Bytes>> as Future>⟧.can_poll × IfSome e.body (λ c. IsSome c.collected) };
 
-    ghost gives = { λ _ result. IfOk result (λ reply. length reply.body ≤ LONGEST_BODY) };
-
-    fn poll(&mut self, cx: &mut Context<'_>) -> Poll<Result<Reply, Cause>> {
+    fn poll(&mut self, cx: &mut Context<'_>) -> Poll<Result<Answer, Cause>> {
         self.drive(cx);
         match std::mem::replace(&mut self.stage, Stage::Over) {
             Stage::Connecting(connect, keys, request) => {
@@ -228,49 +222,58 @@ fn polled<F: Future>(future: F, cx: &mut Context<'_>) -> Result<F::Output, F>
     }
 }
 
-fn request_for(alloc: Global, get: &Get) -> Result<Request<Empty<Bytes>>, Cause> {
-    Request::get(alloc, get.path.as_str())
-        .header(header::HOST, get.address.as_str())
-        .body(Empty::<Bytes>::new())
+fn request_for(alloc: Global, ask: &Ask<'_>) -> Result<Request<Full<Bytes>>, Cause> {
+    let body = match Bytes::copy_from_slice(alloc, ask.body) {
+        Ok(body) => body,
+        Err(AllocError) => return Err(Cause::Memory),
+    };
+    head_for(alloc, ask)
+        .body(Full::new(body))
         .map_err(|e| http_cause(&e))
 }
 
+fn head_for(alloc: Global, ask: &Ask<'_>) -> Builder {
+    let builder = match ask.method {
+        Method::Get => Request::get(alloc, ask.path),
+        Method::Post => Request::post(alloc, ask.path),
+    };
+    let mut builder = builder.header(header::HOST, ask.address);
+    for (name, value) in ask.headers {
+        builder = builder.header(*name, *value);
+    }
+    builder
+}
+
 /// The answer, where its body is not encoded.
-fn reply_of(alloc: Global, head: &Parts, all: Collected) -> Result<Reply, Cause>
-    ensures { IfOk result (λ reply. length reply.body ≤ LONGEST_BODY) }
-{
-    if let Some(coding) = head.headers.get(header::CONTENT_ENCODING)
-        && !coding.as_bytes().eq_ignore_ascii_case(b"identity")
-    {
+fn answer_of(alloc: Global, head: Parts, all: Collected) -> Result<Answer, Cause> {
+    if is_encoded(&head) {
         return Err(Cause::Encoded);
     }
-    let media = match head.headers.get(header::CONTENT_TYPE) {
-        Some(media) => media.to_str().unwrap_or(""),
-        None => "",
-    };
-    match copied(alloc, head.status.as_u16(), media, all) {
-        Ok(reply) => reply,
-        Err(_) => Err(Cause::Memory),
+    match copied(alloc, all) {
+        Ok(body) => {
+            let Parts {
+                status,
+                headers,
+                ..
+            } = head;
+            Ok(Answer {
+                status: status.as_u16(),
+                headers,
+                body,
+            })
+        }
+        Err(AllocError) => Err(Cause::Memory),
     }
 }
 
-fn copied(
-    alloc: Global,
-    status: u16,
-    media: &str,
-    all: Collected,
-) -> Result<Result<Reply, Cause>, AllocError>
-    ensures { IfOk result (λ r. IfOk r (λ reply. length reply.body ≤ LONGEST_BODY)) }
-{
-    let bytes = all.to_bytes()?;
-    if bytes.len() > LONGEST_BODY {
-        return Ok(Err(Cause::TooLong));
+fn is_encoded(head: &Parts) -> bool {
+    match head.headers.get(header::CONTENT_ENCODING) {
+        Some(coding) => !coding.as_bytes().eq_ignore_ascii_case(b"identity"),
+        None => false,
     }
-    let media = Text::from_str(alloc, media)?;
-    let body = List::from_vec(bytes.as_slice().to_vec(alloc)?);
-    Ok(Ok(Reply {
-        status,
-        media,
-        body,
-    }))
+}
+
+fn copied(alloc: Global, all: Collected) -> Result<List<u8>, AllocError> {
+    let bytes = all.to_bytes()?;
+    Ok(List::from_vec(bytes.as_slice().to_vec(alloc)?))
 }

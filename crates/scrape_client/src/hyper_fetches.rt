@@ -5,6 +5,7 @@ ghost use Rattle.futures.specs.Task.{IsArmed, Keeps};
 ghost use Rattle.futures.specs.Poll.{OnPending};
 
 use crate::beginning::{deadline_of, timed_at};
+use crate::fetching::ask_of;
 use crate::looking::{Looked, Looking};
 use crate::lookups::Lookups;
 use crate::marked::Marked;
@@ -119,8 +120,10 @@ where
         requires { AllPollable ⟦<Marked as Future>⟧.can_poll (set_places self.old.fetches) }
         ensures { AllPollable ⟦<Marked as Future>⟧.can_poll (set_places self.new.fetches) }
     {
-        match timed_at(self.rt, &self.handle, deadline, address, get) {
-            Ok(timed) => match self.fetches.push(Marked { mark, timed }) {
+        let alloc = self.rt.alloc();
+        let ask = ask_of(get, self.limit);
+        match timed_at(self.rt, &self.handle, deadline, address, &ask) {
+            Ok(timed) => match self.fetches.push(Marked { alloc, mark, timed }) {
                 Ok(()) => Ok(()),
                 Err(_) => Err(io::ErrorKind::OutOfMemory.into()),
             },

@@ -1,6 +1,6 @@
 //! The device over HTTP.
 ghost use Rattle.std.specs.Prelude.{◌≡◌, ◌≤◌, IfOk, length};
-ghost use Rattle.scrape_client.specs.declared.exchange.TheConstants.{LONGEST_BODY};
+ghost use Rattle.scrape_client.specs.declared.fetching.TheConstants.{LONGEST_BODY};
 
 use crate::blocking::fetch_within;
 use http_get::{FetchFault, Get, Reply, Scrape, failures_after};
@@ -35,7 +35,7 @@ impl<R> HyperScrape<R> {
 impl<R: Wait + Clock + Net + RandomSource + AllocGlobal> Scrape for HyperScrape<R> {
     ghost use Rattle.std.specs.Prelude.{◌≡◌, ◌≤◌, IfOk, length};
     ghost use Rattle.http_get.specs.Scripts.{counted};
-    ghost use Rattle.scrape_client.specs.declared.exchange.TheConstants.{LONGEST_BODY};
+    ghost use Rattle.scrape_client.specs.declared.fetching.TheConstants.{LONGEST_BODY};
 
     ghost may_fetch = { λ s _ result t. (t.failures ≡ counted result s.failures) × IfOk result (λ reply. length reply.body ≤ LONGEST_BODY) };
 

@@ -3,12 +3,12 @@
 #![tactic(auto)]
 
 mod ask;
-mod ask_exchange;
 mod asked;
 mod beginning;
 mod blocking;
 mod exchange;
 mod faults;
+mod fetching;
 mod hyper_fetches;
 mod hyper_scrape;
 mod looking;
@@ -18,7 +18,7 @@ mod while_memory;
 
 pub use ask::{Answer, Ask, Method};
 pub use asked::ask_within;
-pub use exchange::LONGEST_BODY;
+pub use fetching::LONGEST_BODY;
 pub use hyper_fetches::HyperFetches;
 pub use hyper_scrape::HyperScrape;
 pub use lookups::{LOOKERS, Lookups, start_lookups};

@@ -2,7 +2,7 @@
 use Rattle.std.proofs.Common.{◌≡◌, ℕ, List, [], ◌∷◌, refl, ap, ◌∙◌}
 use Rattle.serde_json.specs.Written.{compact_text}
 use Rattle.json_values.specs.Spelling.{list_data}
-use Rattle.alloc_desk.specs.declared.view.NumberedTarget.{NumberedTarget}
+use Rattle.target_shares.specs.declared.numbered_target.NumberedTarget.{NumberedTarget}
 use Rattle.sd_routes.specs.Acknowledging.{acknowledged_data, own_group, with_first}
 use Rattle.sd_routes.specs.Pages.{group_data}
 use Rattle.sd_routes.specs.declared.list_head.ListHead.{ListHead}

@@ -16,8 +16,8 @@ use Rattle.sd_routes.specs.Responses.{misshapen_data}
 use Rattle.sd_routes.specs.declared.list_head.ListHead.{ListHead}
 use Rattle.sd_routes.specs.Pages.{job_data, with_jobs, jobs_data, with_labels, labels_data, group_data, share_data, with_shares, shares_data, uncovered_data}
 use Rattle.sd_routes.specs.Acknowledging.{own_group}
-use Rattle.alloc_desk.specs.declared.view.NumberedTarget.{NumberedTarget}
-use Rattle.alloc_desk.specs.declared.view.Share.{Share}
+use Rattle.target_shares.specs.declared.numbered_target.NumberedTarget.{NumberedTarget}
+use Rattle.target_shares.specs.declared.share.Share.{Share}
 
 or_parts : (a b : Bool) → (a || b) ≡ false → (a ≡ false) × (b ≡ false)
 or_parts true b h = cc

@@ -3,7 +3,7 @@ use Rattle.std.specs.Prelude.{ℕ, ◌==◌, List, [], ◌∷◌, ◌++◌, drop
 use Rattle.std.specs.Fmt.{decimal}
 use Rattle.serde_json.specs.Data.{Data, string, array, object, no_items, item, no_members, member}
 use Rattle.json_values.specs.Spelling.{items_data}
-use Rattle.alloc_desk.specs.declared.view.NumberedTarget.{NumberedTarget}
+use Rattle.target_shares.specs.declared.numbered_target.NumberedTarget.{NumberedTarget}
 use Rattle.sd_routes.specs.Pages.{group_data}
 use Rattle.sd_routes.specs.declared.list_head.ListHead.{ListHead}
 

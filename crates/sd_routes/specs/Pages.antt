@@ -6,8 +6,8 @@ use Rattle.json_values.specs.Spelling.{list_data}
 use Rattle.label_sets.specs.Labels.{LabelList}
 use Rattle.sd_documents.specs.declared.config.Job.{Job}
 use Rattle.sd_routes.specs.Links.{job_link, collector_link}
-use Rattle.alloc_desk.specs.declared.view.NumberedTarget.{NumberedTarget}
-use Rattle.alloc_desk.specs.declared.view.Share.{Share}
+use Rattle.target_shares.specs.declared.numbered_target.NumberedTarget.{NumberedTarget}
+use Rattle.target_shares.specs.declared.share.Share.{Share}
 
 -- ---- jobs
 

@@ -5,7 +5,7 @@ ghost use Rattle.serde_json.specs.Data.{string};
 ghost use Rattle.serde_json.specs.View.{view};
 ghost use Rattle.serde_json.specs.Written.{compact_text};
 ghost use Rattle.json_values.specs.Spelling.{list_data};
-ghost use Rattle.alloc_desk.specs.declared.view.NumberedTarget.{NumberedTarget};
+ghost use Rattle.target_shares.specs.declared.numbered_target.NumberedTarget.{NumberedTarget};
 ghost use Rattle.sd_routes.specs.Acknowledging.{acknowledged_data, is_end as is_end_text, own_group, own_labels, with_first};
 ghost use Rattle.sd_routes.specs.Pages.{group_data};
 

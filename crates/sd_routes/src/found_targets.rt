@@ -7,13 +7,13 @@ ghost use Rattle.sd_routes.specs.FoundPages.{found_data, holder_data, target_dat
 
 use crate::collector_row::small_or_null;
 use crate::pages::labels_value;
-use alloc_desk::NumberedTarget;
 use fleet_events::{AllocationNumber, Round};
 use json_values::text_of;
 use lists::Text;
 use reach_rules::CollectorName;
 use serde_json::{Value, json};
 use std::alloc::{AllocError, Global};
+use target_shares::NumberedTarget;
 
 /// A live target that was searched for.
 #[derive(Debug, Drop)]

@@ -6,13 +6,13 @@ ghost use Rattle.json_values.specs.Spelling.{items_data, list_data};
 ghost use Rattle.sd_routes.specs.Pages.{job_data, jobs_data, labels_data, group_data, share_data, shares_data, uncovered_data};
 
 use crate::link::{collector_link, job_link};
-use alloc_desk::{NumberedTarget, Share};
 use json_values::text_of;
 use label_sets::LabelName;
 use lists::Text;
 use sd_documents::Job;
 use serde_json::{Map, Value, json, put};
 use std::alloc::{AllocError, Global};
+use target_shares::{NumberedTarget, Share};
 
 /// The jobs: an object from each job's name to an object with its link.
 #[tactic(auto, using(crate::proofs::Floats::jobs_no_float))]

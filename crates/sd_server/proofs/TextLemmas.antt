@@ -10,7 +10,7 @@ use Rattle.allocation_core.specs.State.{State}
 use Rattle.alloc_desk.specs.Counts.{Counts}
 use Rattle.alloc_desk.specs.Reached.{Reached}
 use Rattle.alloc_desk.specs.Views.{numbered_of}
-use Rattle.alloc_desk.specs.declared.view.NumberedTarget.{NumberedTarget}
+use Rattle.target_shares.specs.declared.numbered_target.NumberedTarget.{NumberedTarget}
 use Rattle.sd_routes.specs.Acknowledging.{acknowledged_data}
 use Rattle.sd_routes.specs.Pages.{group_data}
 use Rattle.sd_routes.specs.declared.list_head.ListHead.{ListHead}

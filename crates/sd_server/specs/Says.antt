@@ -12,7 +12,7 @@ use Rattle.alloc_desk.specs.Counts.{Counts}
 use Rattle.alloc_desk.specs.History.{History}
 use Rattle.alloc_desk.specs.Reached.{Reached, IsReceipt, IsFull}
 use Rattle.alloc_desk.specs.declared.receipt.Receipt.{Receipt}
-use Rattle.alloc_desk.specs.declared.view.NumberedTarget.{NumberedTarget}
+use Rattle.target_shares.specs.declared.numbered_target.NumberedTarget.{NumberedTarget}
 use Rattle.serde_json.specs.Written.{compact_text}
 use Rattle.json_values.specs.Spelling.{list_data}
 use Rattle.sd_routes.specs.AllocationPages.{allocation_data}

@@ -16,7 +16,7 @@ use crate::entry::Entry;
 use crate::handler::Handler;
 use crate::list_text::ListText;
 use crate::look::{Look, look_at};
-use alloc_desk::{DeskName, NumberedTarget};
+use alloc_desk::DeskName;
 use allocation_core::{Answer, Event, Refusal};
 use bytes::Bytes;
 use fleet_events::{AllocationNumber, CollectorId, Round, TargetId};
@@ -27,6 +27,7 @@ use std::alloc::AllocError;
 use std::sync::ledger::Ledger;
 use std::sync::{Arc, Wait};
 use std::time::Clock;
+use target_shares::NumberedTarget;
 
 impl<R: Wait + Clock + Copy, L: Ledger, B: Ledger, N: DeskName> Handler<R, L, B, N> {
     /// What is told of a job to who asks under a name: by an event that changes something where there is one to be, or without one.

@@ -2,7 +2,6 @@
 ghost use Rattle.std.specs.Prelude.{◌+◌, ◌≤◌, length, IfOk};
 ghost use Rattle.sd_server.specs.declared.found.TheConstants.{MOST_FOUND};
 
-use alloc_desk::NumberedTarget;
 use allocation_core::Core;
 use fleet_events::{CollectorId, Round, TargetId};
 use label_sets::Target;
@@ -12,6 +11,7 @@ use reach_rules::CollectorName;
 use sd_routes::FoundTarget;
 use service_state::{HandingOver, targets_handing_over};
 use std::alloc::{AllocError, Global};
+use target_shares::NumberedTarget;
 
 /// How many targets are told at most of those that are found.
 pub(crate) const MOST_FOUND: usize = 100;

@@ -18,7 +18,7 @@ use crate::list_texts::ListTexts;
 use crate::tags::Tags;
 use crate::uncovered::{Uncovered, uncovered_of};
 use admission::Admission;
-use alloc_desk::{Desk, DeskName, EnterError, Pass, Receipt, Share};
+use alloc_desk::{Desk, DeskName, EnterError, Pass, Receipt};
 use allocation_core::{Answer, Event, Refusal};
 use event_loops::Gate;
 use fleet_events::CollectorId;
@@ -39,6 +39,7 @@ use std::net::SocketAddr;
 use std::sync::ledger::Ledger;
 use std::sync::{Arc, Mutex, Wait};
 use std::time::{Clock, Duration, Instant};
+use target_shares::Share;
 use tokio::sync::oneshot::Receiver;
 use tokio::time::{Handle, Timeout};
 
@@ -403,7 +404,7 @@ impl<R: Wait + Clock + Copy, L: Ledger, B: Ledger, N: DeskName> Handler<R, L, B,
         self.desk.read(
             &self.rt,
             &mut *pass,
-            |record| figures_of(self.alloc, record),
+            |record| figures_of(self.alloc, record.core(), record.journal().len()),
         )
     }
 

@@ -1,7 +1,8 @@
 //! The configuration file.
+use allocation_core::ReportRounds;
 use config_faults::faults_of;
 use config_secrets::without_secrets;
-use durable_journal::configuration_line;
+use durable_journal::{configuration_line, with_report_rounds};
 use file_configs::with_sources;
 use journal_files::Fault;
 use json_values::{parse, text_of};
@@ -84,17 +85,26 @@ fn service_of_shown(alloc: Global, path: &str, document: &[u8]) -> Result<Servic
     if config.jobs.is_empty() && !settings.allow_no_jobs {
         return Err(Fault::Told(format!(in alloc; "{path}: {NO_JOBS}")?));
     }
-    match line_in(alloc, path, document) {
+    match line_in(alloc, path, document, settings.report_rounds) {
         Ok(line) => service_of(alloc, path, line, config, settings),
         Err(fault) => Err(fault),
     }
 }
 
-/// A document as one line.
-fn line_in(alloc: Global, path: &str, document: &[u8]) -> Result<Text, Fault> {
+/// A document as one line, which says of how many rounds reports are booked.
+fn line_in(alloc: Global, path: &str, document: &[u8], rounds: u32) -> Result<Text, Fault> {
     match configuration_line(alloc, document)? {
-        Some(line) => Ok(line),
+        Some(line) => line_with_rounds(alloc, &line, rounds),
         None => Err(Fault::Told(format!(in alloc; "{path}: no JSON")?)),
+    }
+}
+
+fn line_with_rounds(alloc: Global, line: &Text, rounds: u32) -> Result<Text, Fault> {
+    let rounds = ReportRounds::read(rounds).unwrap_or(ReportRounds::least());
+    let line = with_report_rounds(alloc, line.as_str().as_bytes(), rounds)?;
+    match String::from_utf8(line) {
+        Ok(line) => Ok(Text::from_string(line)),
+        Err(_) => Err(Fault::Machine(io::ErrorKind::InvalidData.into())),
     }
 }
 

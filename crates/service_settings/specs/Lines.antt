@@ -4,7 +4,7 @@ use Rattle.std.specs.Fmt.{decimal}
 use Rattle.service_settings.specs.declared.error.SettingsError.{SettingsError}
 use Rattle.service_settings.specs.declared.error.SettingsError.TheVariants.{NotJson, Shape, Unknown, RepeatedCollector, Memory}
 use Rattle.service_settings.specs.declared.error.Member.{Member}
-use Rattle.service_settings.specs.declared.error.Member.TheVariants.{Document, Global, ScrapeInterval, ScrapeConfigs, ScrapeConfig, HttpSdConfigs, HttpSdConfig, RefreshInterval, JobSpread, Allocator, Listen, Lifecycle, LifecycleReload, LifecycleQuit, Journal, Keep, Settle, GiveUp, Connections, Hosts, Host, Tokens, AdminTokens, CollectorTokens, OpenToAll, AllowNoJobs, Collectors, Collector, CollectorName, CollectorReach, CollectorLimits, JoinByAsking, JoiningPattern, Pattern, PatternReach, PatternLimits, ReachChanges, Rejoin, CollectorTimeout, Handover, Acknowledge, ReleaseAfter, Spread, Slack, MostMoves, FetchTimeout}
+use Rattle.service_settings.specs.declared.error.Member.TheVariants.{Document, Global, ScrapeInterval, ScrapeConfigs, ScrapeConfig, HttpSdConfigs, HttpSdConfig, RefreshInterval, JobSpread, Allocator, Listen, Lifecycle, LifecycleReload, LifecycleQuit, Journal, Keep, Settle, GiveUp, Connections, ReportRounds, Hosts, Host, Tokens, AdminTokens, CollectorTokens, OpenToAll, AllowNoJobs, Collectors, Collector, CollectorName, CollectorReach, CollectorLimits, JoinByAsking, JoiningPattern, Pattern, PatternReach, PatternLimits, ReachChanges, Rejoin, CollectorTimeout, Handover, Acknowledge, ReleaseAfter, Spread, Slack, MostMoves, FetchTimeout}
 
 -- without indices
 abbrev pub member_path : Member → List ℕ
@@ -27,6 +27,7 @@ member_path Keep = codes "allocator.keep"
 member_path Settle = codes "allocator.settle"
 member_path GiveUp = codes "allocator.give_up"
 member_path Connections = codes "allocator.connections"
+member_path ReportRounds = codes "allocator.report_rounds"
 member_path Hosts = codes "allocator.hosts"
 member_path (Host index) = codes "allocator.hosts"
 member_path Tokens = codes "allocator.tokens"
@@ -94,6 +95,7 @@ missing Keep = codes "no whole number of 32 bits"
 missing Settle = codes "no duration"
 missing GiveUp = codes "no duration above 0"
 missing Connections = codes "no whole number from 64 to 65535"
+missing ReportRounds = codes "no whole number from 1 to 64"
 missing Hosts = codes "no list"
 missing (Host index) = codes "no name of a host in small letters, without a port"
 missing Tokens = codes "no object"

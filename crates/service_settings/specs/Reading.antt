@@ -10,7 +10,7 @@ use Rattle.service_settings.specs.declared.address.Address.{Address}
 use Rattle.service_settings.specs.declared.error.SettingsError.{SettingsError}
 use Rattle.service_settings.specs.declared.error.SettingsError.TheVariants.{NotJson, Shape, Memory}
 use Rattle.service_settings.specs.declared.error.Member.{Member}
-use Rattle.service_settings.specs.declared.reading.TheConstants.{LEAST_CONNECTIONS, MOST_CONNECTIONS}
+use Rattle.service_settings.specs.declared.reading.TheConstants.{LEAST_CONNECTIONS, MOST_CONNECTIONS, MOST_REPORT_ROUNDS}
 use Rattle.service_settings.specs.Addresses.{address_said}
 use Rattle.service_settings.specs.Durations.{duration_said}
 
@@ -54,6 +54,13 @@ enough n = if nat_le LEAST_CONNECTIONS n && nat_le n MOST_CONNECTIONS then Some 
 
 abbrev pub connections_in : Data → Option ℕ
 connections_in d = option_and_then enough (number_in d)
+
+-- of how many of the last rounds a report is booked
+abbrev pub some_rounds : ℕ → Option ℕ
+some_rounds n = if nat_le 1 n && nat_le n MOST_REPORT_ROUNDS then Some n else None
+
+abbrev pub report_rounds_in : Data → Option ℕ
+report_rounds_in d = option_and_then some_rounds (number_in d)
 
 abbrev pub address_in : Data → Option Address
 address_in d = option_and_then address_said (as_str d)

@@ -7,7 +7,7 @@ use Rattle.service_settings.specs.declared.error.SettingsError.{SettingsError}
 use Rattle.service_settings.specs.declared.error.SettingsError.TheVariants.{Shape}
 use Rattle.service_settings.specs.declared.error.Member.TheVariants as part
 use Rattle.service_settings.specs.declared.settings.Settings.{Settings}
-use Rattle.service_settings.specs.declared.settings.TheConstants.{DEFAULT_INTERVAL, DEFAULT_SETTLE, DEFAULT_KEEP, DEFAULT_GIVE_UP, DEFAULT_CONNECTIONS, DEFAULT_FETCH_TIMEOUT, DEFAULT_LISTEN}
+use Rattle.service_settings.specs.declared.settings.TheConstants.{DEFAULT_INTERVAL, DEFAULT_SETTLE, DEFAULT_KEEP, DEFAULT_GIVE_UP, DEFAULT_CONNECTIONS, DEFAULT_REPORT_ROUNDS, DEFAULT_FETCH_TIMEOUT, DEFAULT_LISTEN}
 use Rattle.service_settings.specs.declared.settings.job_spread.JobSpread.{JobSpread}
 use Rattle.service_settings.specs.declared.settings.allocator.Housekeeping.{Housekeeping}
 use Rattle.service_settings.specs.declared.settings.allocator.Collecting.{Collecting}
@@ -25,7 +25,7 @@ use Rattle.service_settings.specs.ReleaseAfter.{release_after_said}
 use Rattle.service_settings.specs.Spread.{spread_said}
 use Rattle.service_settings.specs.JobSpread.{spreads_said}
 use Rattle.service_settings.specs.Members.{known_said}
-use Rattle.service_settings.specs.Reading.{◌>>=◌, json_said, member_at, duration_in, time_in, address_in, connections_in, said_or, said_or_none, object_said, items_said, each_from}
+use Rattle.service_settings.specs.Reading.{◌>>=◌, json_said, member_at, duration_in, time_in, address_in, connections_in, report_rounds_in, said_or, said_or_none, object_said, items_said, each_from}
 
 -- ---- rounds, and the sources of the jobs
 
@@ -60,7 +60,8 @@ housekeeping_said allocator =
     said_or DEFAULT_SETTLE duration_in part.Settle (member_at (codes "settle") allocator) >>= λ settle.
     said_or DEFAULT_GIVE_UP time_in part.GiveUp (member_at (codes "give_up") allocator) >>= λ give_up.
     said_or DEFAULT_CONNECTIONS connections_in part.Connections (member_at (codes "connections") allocator) >>= λ connections.
-    Ok (record { listen = listen; lifecycle = lifecycle; journal = journal; keep = keep; settle = settle; give_up = give_up; connections = connections })
+    said_or DEFAULT_REPORT_ROUNDS report_rounds_in part.ReportRounds (member_at (codes "report_rounds") allocator) >>= λ report_rounds.
+    Ok (record { listen = listen; lifecycle = lifecycle; journal = journal; keep = keep; settle = settle; give_up = give_up; connections = connections; report_rounds = report_rounds })
 
 unfoldable pub collecting_said : Option Data → Result Collecting SettingsError
 collecting_said allocator =
@@ -91,6 +92,7 @@ settings_of scrape_interval refresh spreads house doors fleet = record {
   settle = house.settle;
   give_up = house.give_up;
   connections = house.connections;
+  report_rounds = house.report_rounds;
   doors = doors;
   allow_no_jobs = fleet.allow_no_jobs;
   collectors = fleet.collectors;

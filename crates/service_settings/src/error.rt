@@ -41,6 +41,7 @@ pub enum Member {
     Settle,
     GiveUp,
     Connections,
+    ReportRounds,
     Hosts,
     /// A name of `allocator.hosts`, by its index.
     Host(usize),
@@ -175,6 +176,7 @@ impl Member {
             Member::Settle => "allocator.settle",
             Member::GiveUp => "allocator.give_up",
             Member::Connections => "allocator.connections",
+            Member::ReportRounds => "allocator.report_rounds",
             Member::Hosts | Member::Host(_) => "allocator.hosts",
             Member::Tokens => "allocator.tokens",
             Member::AdminTokens => "allocator.tokens.admin",
@@ -248,6 +250,7 @@ impl Member {
             Member::Slack => "no whole number from 0 to 1000",
             Member::MostMoves => "no whole number of 32 bits above 0",
             Member::Connections => "no whole number from 64 to 65535",
+            Member::ReportRounds => "no whole number from 1 to 64",
             Member::CollectorName(_) => "no name of a collector",
             Member::Pattern(_) => "no pattern of collectors' names",
             Member::CollectorReach(_) | Member::PatternReach(_) => "no list of reach rules",

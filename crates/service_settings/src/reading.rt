@@ -3,7 +3,7 @@ ghost use Rattle.std.specs.Prelude.{◌≡◌, IfOk, option_map};
 ghost use Rattle.serde_json.specs.Find.{as_str, as_bool};
 ghost use Rattle.serde_json.specs.View.{view, items_view};
 ghost use Rattle.json_values.specs.Spelling.{number_in};
-ghost use Rattle.service_settings.specs.Reading.{Gives, json_said, member_at, duration_in, time_in, is_never as is_never_said, address_in, connections_in, enough as enough_connections, said_or, said_or_none, object_said, items_said};
+ghost use Rattle.service_settings.specs.Reading.{Gives, json_said, member_at, duration_in, time_in, is_never as is_never_said, address_in, connections_in, enough as enough_connections, report_rounds_in, some_rounds as some_rounds_of, said_or, said_or_none, object_said, items_said};
 
 use crate::address::{Address, address_of};
 use crate::duration::duration_of;
@@ -17,6 +17,9 @@ use std::alloc::Global;
 pub const LEAST_CONNECTIONS: u32 = 64;
 
 pub const MOST_CONNECTIONS: u32 = 65_535;
+
+/// The most rounds of which a report is booked.
+pub const MOST_REPORT_ROUNDS: u32 = 64;
 
 /// The value of a JSON text.
 pub(crate) fn json_in(alloc: Global, bytes: &[u8]) -> Result<Value, SettingsError>
@@ -162,6 +165,36 @@ fn enough(number: u32) -> Option<u32>
     ensures { result ≡ enough_connections number }
 {
     if LEAST_CONNECTIONS <= number && number <= MOST_CONNECTIONS {
+        Some(number)
+    } else {
+        None
+    }
+}
+
+/// Of how many of the last rounds a report is booked.
+pub(crate) fn report_rounds_or(
+    absent: u32,
+    member: Member,
+    found: Option<&Value>,
+) -> Result<u32, SettingsError>
+    ensures { Gives (λ n. n) result (said_or absent report_rounds_in member (option_map (λ v. view v.now) found.entry)) }
+{
+    match found {
+        Some(value) => report_rounds(value).ok_or(SettingsError::Shape(member)),
+        None => Ok(absent),
+    }
+}
+
+fn report_rounds(value: &Value) -> Option<u32>
+    ensures { result ≡ report_rounds_in (view value.now) }
+{
+    some_rounds(number(value)?)
+}
+
+fn some_rounds(number: u32) -> Option<u32>
+    ensures { result ≡ some_rounds_of number }
+{
+    if 1 <= number && number <= MOST_REPORT_ROUNDS {
         Some(number)
     } else {
         None

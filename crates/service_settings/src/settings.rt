@@ -52,6 +52,8 @@ pub const DEFAULT_KEEP: u32 = 16;
 pub const DEFAULT_GIVE_UP: u64 = 30_000;
 /// How many connections there may be at once.
 pub const DEFAULT_CONNECTIONS: u32 = 4_096;
+/// Of how many of the last rounds a report is booked.
+pub const DEFAULT_REPORT_ROUNDS: u32 = 3;
 /// By how many percent a collector may have more targets than where the loads are the most even.
 pub const DEFAULT_SLACK: u32 = 10;
 /// How long a fetch may take, in milliseconds.
@@ -85,6 +87,8 @@ pub struct Settings {
     pub give_up: u64,
     /// How many connections there may be at once. From 64 to 65,535.
     pub connections: u32,
+    /// Of how many of the last rounds a report is booked. From 1 to 64.
+    pub report_rounds: u32,
     /// Who may ask.
     pub doors: Doors,
     /// Whether a configuration without jobs is taken.
@@ -169,6 +173,7 @@ fn settings_of(
         settle: housekeeping.settle,
         give_up: housekeeping.give_up,
         connections: housekeeping.connections,
+        report_rounds: housekeeping.report_rounds,
         doors,
         allow_no_jobs: collecting.allow_no_jobs,
         collectors: collecting.collectors,

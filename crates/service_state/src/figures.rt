@@ -1,6 +1,5 @@
 //! What a desk shows of itself in numbers.
 use crate::handing_over::{HandingOver, targets_handing_over};
-use alloc_desk::Record;
 use allocation_core::Core;
 use fleet::{Collector, JobSpec};
 use fleet_events::{AllocationNumber, CollectorId, TargetId};
@@ -8,16 +7,15 @@ use lists::{Plain, Text};
 use service_pages::{CollectorFigures, Figures, JobFigures, ShareFigures};
 use std::alloc::{AllocError, Global};
 
-/// The numbers of a desk at a moment.
-pub fn figures_of(alloc: Global, record: &Record) -> Result<Figures, AllocError> {
-    let core = record.core();
+/// The numbers of a desk at a moment, whose journal has so many entries.
+pub fn figures_of(alloc: Global, core: &Core, entries: usize) -> Result<Figures, AllocError> {
     let mut figures = Figures {
         jobs: empty_jobs(alloc, core)?,
         collectors: idle_collectors(alloc, core)?,
         allocation: core.current(),
         round: core.round(),
         samples: core.total(),
-        entries: record.journal().len(),
+        entries,
         waited_for_left: 0,
     };
     let live = core.fleet().live_marks()?;

@@ -29,38 +29,60 @@ pub(crate) fn line_of_differences(
     collectors: (&[Collector], &[Collector]),
 ) -> Result<Text, AllocError> {
     let of_jobs = job_differences(alloc, jobs.0, jobs.1)?;
-    let of_collectors = collector_differences(alloc, collectors.0, collectors.1)?;
+    match collector_differences(alloc, collectors.0, collectors.1) {
+        Ok(of_collectors) => {
+            let counts = (jobs.0.len(), jobs.1.len());
+            line_of(alloc, counts, &of_jobs, &of_collectors)
+        }
+        Err(error) => Err(error),
+    }
+}
+
+/// The line of these differences, with how many jobs there were and are.
+fn line_of(
+    alloc: Global,
+    counts: (usize, usize),
+    of_jobs: &Differences,
+    of_collectors: &Differences,
+) -> Result<Text, AllocError> {
     if of_jobs.is_empty() && of_collectors.is_empty() {
         return Text::from_str(alloc, NOTHING);
     }
-    let (before, after) = (jobs.0.len(), jobs.1.len());
-    let (added, removed) = (of_collectors.added.len(), of_collectors.removed.len());
+    let (before, after) = counts;
     let mut line = format!(in alloc; "jobs {before} -> {after}")?;
-    push_names(&mut line, alloc, ", removed", of_jobs.removed.as_slice())?;
-    push_names(&mut line, alloc, ", added", of_jobs.added.as_slice())?;
-    push_names(&mut line, alloc, ", changed", of_jobs.changed.as_slice())?;
-    let collectors = format!(in alloc; "; collectors +{added} -{removed}")?;
-    line.push_str(collectors.as_str())?;
-    push_names(
-        &mut line,
-        alloc,
-        ", removed",
-        of_collectors.removed.as_slice(),
-    )?;
-    push_names(&mut line, alloc, ", added", of_collectors.added.as_slice())?;
-    push_names(
-        &mut line,
-        alloc,
-        ", limits of",
-        of_collectors.changed.as_slice(),
-    )?;
-    push_names(
-        &mut line,
-        alloc,
-        ", reach of",
-        of_collectors.moved.as_slice(),
-    )?;
+    push_jobs(&mut line, alloc, of_jobs)?;
+    push_collectors(&mut line, alloc, of_collectors)?;
     Ok(Text::from_string(line))
+}
+
+fn push_jobs(line: &mut String, alloc: Global, found: &Differences) -> Result<(), AllocError> {
+    push_names(line, alloc, ", removed", found.removed.as_slice())?;
+    push_names(line, alloc, ", added", found.added.as_slice())?;
+    push_names(line, alloc, ", changed", found.changed.as_slice())
+}
+
+fn push_collectors(
+    line: &mut String,
+    alloc: Global,
+    found: &Differences,
+) -> Result<(), AllocError> {
+    push_counts(line, alloc, found.added.len(), found.removed.len())?;
+    push_names(line, alloc, ", removed", found.removed.as_slice())?;
+    push_names(line, alloc, ", added", found.added.as_slice())?;
+    push_names(line, alloc, ", limits of", found.changed.as_slice())?;
+    push_names(line, alloc, ", reach of", found.moved.as_slice())
+}
+
+/// Writes how many collectors are more and how many fewer.
+fn push_counts(
+    line: &mut String,
+    alloc: Global,
+    added: usize,
+    removed: usize,
+) -> Result<(), AllocError> {
+    let counts = format!(in alloc; "; collectors +{added} -{removed}")?;
+    line.push_str(counts.as_str())?;
+    Ok(())
 }
 
 impl Differences {

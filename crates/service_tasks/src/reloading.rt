@@ -49,10 +49,23 @@ impl<R: Wait + Clock + Eprint + Copy, L: Ledger, B: Ledger, N: DeskName> Shared<
 
     /// Has the desk closed for the configuration that was read, and tells what that changes.
     fn follow_next<C: Configuration>(&self, pass: &mut Pass<L, B, N>, schedule: &mut Schedule<C>) {
-        let Some(next) = schedule.configuration.service() else {
-            return self.refuse_reload(line_of(self.alloc, NO_MEMORY));
-        };
-        let Ok((told, line)) = self.differences_of(schedule, &next) else {
+        match schedule.configuration.service() {
+            Some(next) => {
+                self.follow_service(pass, schedule, &next);
+                drop(next);
+            }
+            None => self.refuse_reload(line_of(self.alloc, NO_MEMORY)),
+        }
+    }
+
+    /// The same for a service that is told.
+    fn follow_service<C: Configuration>(
+        &self,
+        pass: &mut Pass<L, B, N>,
+        schedule: &mut Schedule<C>,
+        next: &Service,
+    ) {
+        let Ok((told, line)) = self.differences_of(schedule, next) else {
             return self.refuse_reload(line_of(self.alloc, NO_MEMORY));
         };
         self.log_read(line.as_str());

@@ -9,7 +9,7 @@ use crate::logging::{log_error_of, log_info, log_warning, log_warning_of};
 use crate::office::{Office, sources_of};
 use crate::service::Service;
 use crate::source::Source;
-use allocation_core::{Core, JobSpec, NotRenewed};
+use allocation_core::{Core, JobSpec, NotRenewed, ReportRounds};
 use durable_journal::{Archive, FirstLine, with_epoch};
 use http_get::FetchSeveral;
 use journal_files::with_names;
@@ -75,40 +75,99 @@ where
     C: Configuration + Drop,
     ensures { IfOk result (IsLater core) }
 {
-    let Ok((jobs, sources)) = parts_of(alloc, &next) else {
+    let Ok((jobs, report_rounds, sources)) = parts_of(alloc, &next) else {
+        drop(next);
         office.refuse(rt);
         return Ok(core);
     };
     let journal = &mut office.journal;
-    let (core, is_under) = under(rt, alloc, &next, archive, journal, jobs, epoch, core)?;
-    if is_under {
-        office.follow(&next, sources)?;
-        *service = next;
-    } else {
-        office.state.set_not_reloaded();
+    match under(
+        rt,
+        alloc,
+        &next,
+        archive,
+        journal,
+        jobs,
+        report_rounds,
+        epoch,
+        core,
+    ) {
+        Ok((core, true)) => match followed(service, office, next, sources) {
+            Ok(()) => Ok(core),
+            Err(error) => {
+                drop(core);
+                Err(error)
+            }
+        },
+        Ok((core, false)) => {
+            drop((next, sources));
+            office.state.set_not_reloaded();
+            Ok(core)
+        }
+        Err(error) => {
+            drop((next, sources));
+            Err(error)
+        }
     }
-    Ok(core)
 }
 
-/// The jobs of a service as an allocator has them, and its sources.
-fn parts_of(alloc: Global, service: &Service) -> io::Result<(Vec<JobSpec>, Vec<Source>)> {
+/// Another service is followed from now on, with these sources.
+fn followed<S, F, C>(
+    service: &mut Service,
+    office: &mut Office<S, F, C>,
+    next: Service,
+    sources: Vec<Source>,
+) -> io::Result<()>
+where
+    S: FetchSeveral + Drop,
+    F: Drop,
+    C: Configuration + Drop,
+{
+    match office.follow(&next, sources) {
+        Ok(()) => {
+            drop(std::mem::replace(service, next));
+            Ok(())
+        }
+        Err(error) => {
+            drop(next);
+            Err(error.into())
+        }
+    }
+}
+
+/// The jobs of a service as an allocator has them, of how many rounds it books reports, and its sources.
+fn parts_of(
+    alloc: Global,
+    service: &Service,
+) -> io::Result<(Vec<JobSpec>, ReportRounds, Vec<Source>)> {
     let sources = sources_of(alloc, service)?;
-    let jobs = jobs_of(alloc, service)?;
-    Ok((jobs, sources))
+    let (jobs, report_rounds) = machine_of(alloc, service)?;
+    Ok((jobs, report_rounds, sources))
 }
 
-fn jobs_of(alloc: Global, service: &Service) -> io::Result<Vec<JobSpec>> {
+/// What the allocator of a service has: its jobs, and of how many rounds it books reports.
+fn machine_of(alloc: Global, service: &Service) -> io::Result<(Vec<JobSpec>, ReportRounds)> {
     match resume(alloc, service.line().as_bytes())? {
-        Ok(resumption) => Ok(copied_jobs(alloc, &resumption.core)?),
+        Ok(resumption) => {
+            let machine = machine_in(alloc, &resumption.core);
+            drop(resumption);
+            machine
+        }
         Err(_) => Err(io::ErrorKind::InvalidData.into()),
     }
+}
+
+fn machine_in(alloc: Global, core: &Core) -> io::Result<(Vec<JobSpec>, ReportRounds)> {
+    let jobs = copied_jobs(alloc, core)?;
+    Ok((jobs, core.report_rounds()))
 }
 
 fn copied_jobs(alloc: Global, core: &Core) -> Result<Vec<JobSpec>, AllocError> {
     copies(alloc, core.fleet().jobs())
 }
 
-/// The allocator under the jobs of a service, and whether it is: it is as it was where they are its own, and else renewed.
+/// The allocator under the jobs of a service, with reports booked of so many rounds, and whether it is: it is as it was where both are
+/// its own, and else renewed.
 #[tactic(auto, using(crate::proofs::Laters::later_refl))]
 fn under<R: Clock + Eprint + Copy, F: Drop, A: Archive<F>>(
     rt: &R,
@@ -117,18 +176,31 @@ fn under<R: Clock + Eprint + Copy, F: Drop, A: Archive<F>>(
     archive: &mut A,
     journal: &mut Journal<F>,
     jobs: Vec<JobSpec>,
+    report_rounds: ReportRounds,
     epoch: u64,
     core: Core,
 ) -> io::Result<(Core, bool)>
     ensures { IfOk result (λ r. IsLater core r.0) }
 {
-    if are_jobs_of(core.fleet().jobs(), service.jobs()) {
+    let is_same = core.report_rounds().count() == report_rounds.count();
+    if is_same && are_jobs_of(core.fleet().jobs(), service.jobs()) {
+        drop(jobs);
         return Ok((core, true));
     }
-    renewed_under(rt, alloc, service, archive, journal, jobs, epoch, core)
+    renewed_under(
+        rt,
+        alloc,
+        service,
+        archive,
+        journal,
+        jobs,
+        report_rounds,
+        epoch,
+        core,
+    )
 }
 
-/// The allocator renewed under its own jobs.
+/// The allocator renewed under its own jobs, with reports booked of as many rounds as before.
 #[tactic(auto, using(crate::proofs::Laters::later_refl))]
 fn renewed<R: Clock + Eprint + Copy, F: Drop, A: Archive<F>>(
     rt: &R,
@@ -145,7 +217,18 @@ fn renewed<R: Clock + Eprint + Copy, F: Drop, A: Archive<F>>(
         log_warning(rt, "no memory to renew the allocator");
         return Ok(core);
     };
-    let (core, _) = renewed_under(rt, alloc, service, archive, journal, jobs, epoch, core)?;
+    let report_rounds = core.report_rounds();
+    let (core, _) = renewed_under(
+        rt,
+        alloc,
+        service,
+        archive,
+        journal,
+        jobs,
+        report_rounds,
+        epoch,
+        core,
+    )?;
     Ok(core)
 }
 
@@ -159,15 +242,19 @@ fn renewed_under<R: Clock + Eprint + Copy, F: Drop, A: Archive<F>>(
     archive: &mut A,
     journal: &mut Journal<F>,
     jobs: Vec<JobSpec>,
+    report_rounds: ReportRounds,
     epoch: u64,
     core: Core,
 ) -> io::Result<(Core, bool)>
     ensures { IfOk result (λ r. IsLater core r.0) }
 {
-    match core.renew(jobs) {
+    match core.renew(jobs, report_rounds) {
         Ok(renewed) => {
             journal.epoch = epoch;
-            begin_journal(rt, alloc, service, archive, journal, &renewed)?;
+            if let Err(error) = begin_journal(rt, alloc, service, archive, journal, &renewed) {
+                drop(renewed);
+                return Err(error);
+            }
             log_info(rt, "the allocator is renewed");
             Ok((renewed, true))
         }

@@ -7,7 +7,7 @@ use crate::asking::ask_all;
 use crate::ended::Halt;
 use crate::staff::{Staff, device};
 use admission::Admission;
-use alloc_desk::{Desk, DeskName, Pass};
+use alloc_desk::{Desk, DeskName, Log, Pass};
 use allocation_core::Core;
 use collector_pool::Open;
 use lists::Text;
@@ -39,6 +39,7 @@ pub(crate) fn run_over_desk<R, L, B, N>(
     seats: u32,
     calls: Blank,
     samples: Blank,
+    log: Log,
     text: &mut Vec<u8>,
 ) -> Result<(), Halt>
 where
@@ -59,8 +60,9 @@ where
     requires seats { (0 < seats) × (seats ≤ MOST_PASSES) }
     requires calls { (calls.name ≡ L.name) × (calls.parts ≡ L.parts) × (L.parts ≡ seats) }
     requires samples { (samples.name ≡ B.name) × (samples.parts ≡ B.parts) × (B.parts ≡ seats) }
+    requires log { log ≡ N.book }
 {
-    match Desk::<L, B, N>::open(alloc, core, seats, calls, samples) {
+    match Desk::<L, B, N>::open(alloc, core, seats, calls, samples, log) {
         Ok((desk, passes)) => run_open(rt, alloc, session, desk, passes, text),
         Err(_) => Err(AllocError.into()),
     }

@@ -8,6 +8,7 @@ use crate::lines::stop_line;
 use crate::one_desk::{OTHER_SEATS, run_over_desk};
 use crate::opening::core_of;
 use crate::page_server::serve_pages;
+use alloc_desk::Log;
 use allocation_core::Core;
 use fleet::MOST_COLLECTORS;
 use lists::List;
@@ -181,6 +182,7 @@ where
         seats,
         Blank::new(parts),
         Blank::new(parts),
+        Log::new(),
         text,
     )
 }

@@ -1,7 +1,7 @@
 //! Entries are booked, refused and summed.
 use crate::instances::is_copied;
 use lists::Plain;
-use scrape_books::{Books, BooksError, Entry, Outcome, Page, rounds_rise};
+use scrape_books::{Books, BooksError, Entry, Outcome, Page, booked_once};
 use std::alloc::{AllocError, Global};
 use std::test::Fail;
 
@@ -21,6 +21,7 @@ enum Tried {
     TwoTargets,
     NoOther,
     Refusals,
+    EarlierRounds,
 }
 
 /// Whether books of these entries do what they are tried for.
@@ -37,6 +38,7 @@ fn does(books: &mut Books, entries: &[(u32, Entry)], tried: Tried) -> bool {
         Tried::TwoTargets => are_two_targets(books, entries),
         Tried::NoOther => knows_no_other(books),
         Tried::Refusals => refuses_rounds(books),
+        Tried::EarlierRounds => has_earlier_rounds(books),
     }
 }
 
@@ -65,7 +67,7 @@ fn books_two_targets(rt: HostRuntime) -> Result<(), Fail> {
 }
 
 fn are_two_targets(books: &Books, entries: &[(u32, Entry)]) -> bool {
-    rounds_rise(books);
+    booked_once(books);
     has_page(books, 0, 4, page(2, 2, 4_294_967_302))
         && has_page(books, 3, 1, page(1, 0, 0))
         && books.total() == 4_294_967_302
@@ -88,11 +90,14 @@ fn knows_no_other(books: &Books) -> bool {
 }
 
 #[test]
-fn refuses_a_round_that_is_not_later(rt: HostRuntime) -> Result<(), Fail> {
+fn refuses_a_round_twice(rt: HostRuntime) -> Result<(), Fail> {
     assert!(rt;
         pass(
             rt.alloc(),
-            &[(2, entry(3, Outcome::Up(1)))],
+            &[
+                (2, entry(3, Outcome::Up(1))),
+                (2, entry(70, Outcome::Up(1)))
+            ],
             Tried::Refusals
         )?
     );
@@ -100,30 +105,64 @@ fn refuses_a_round_that_is_not_later(rt: HostRuntime) -> Result<(), Fail> {
 }
 
 fn refuses_rounds(books: &mut Books) -> bool {
-    refuses(books, 2, entry(3, Outcome::Up(9)), 3)
-        && refuses(books, 2, entry(2, Outcome::Down), 3)
-        && refuses(books, 5, entry(0, Outcome::Up(9)), 0)
-        && books.entries().len() == 1
-        && books.total() == 1
+    is_twice(books, 2, entry(70, Outcome::Up(9)))
+        && is_past(books, 2, entry(6, Outcome::Down), 70)
+        && is_past(books, 2, entry(3, Outcome::Down), 70)
+        && is_past(books, 5, entry(0, Outcome::Up(9)), 0)
+        && books.entries().len() == 2
+        && books.total() == 2
 }
 
-/// Whether the entry is refused, since the target is booked up to this round.
-fn refuses(books: &mut Books, target: u32, entry: Entry, last_round: u32) -> bool {
+/// Whether the entry is refused, since its round is booked.
+fn is_twice(books: &mut Books, target: u32, entry: Entry) -> bool {
     match books.book(target, entry) {
-        Err(BooksError::AlreadyBooked(round)) => round == last_round,
+        Err(BooksError::AlreadyBooked) => true,
+        _ => false,
+    }
+}
+
+/// Whether the entry is refused, since its round is too long before this one, the target's last.
+fn is_past(books: &mut Books, target: u32, entry: Entry, last: u32) -> bool {
+    match books.book(target, entry) {
+        Err(BooksError::Past(round)) => round == last,
         _ => false,
     }
 }
 
 #[test]
-fn says_up_to_which_round(rt: HostRuntime) -> Result<(), Fail> {
+fn books_earlier_rounds(rt: HostRuntime) -> Result<(), Fail> {
+    let entries = [
+        (1, entry(9, Outcome::Up(1))),
+        (1, entry(7, Outcome::Up(2))),
+        (1, entry(8, Outcome::Down)),
+        (1, entry(71, Outcome::Up(4))),
+        (1, entry(64, Outcome::Up(8))),
+    ];
+    assert!(rt; pass(rt.alloc(), entries.as_slice(), Tried::EarlierRounds)?);
+    Ok(())
+}
+
+fn has_earlier_rounds(books: &mut Books) -> bool {
+    has_page(books, 1, 71, page(5, 4, 15))
+        && books.is_booked(1, 8)
+        && books.is_booked(1, 64)
+        && !books.is_booked(1, 63)
+        && !books.is_booked(1, 72)
+        && is_twice(books, 1, entry(9, Outcome::Down))
+        && is_past(books, 1, entry(7, Outcome::Down), 71)
+}
+
+#[test]
+fn says_why_it_is_refused(rt: HostRuntime) -> Result<(), Fail> {
     assert!(rt; is_said(rt.alloc())?);
     Ok(())
 }
 
 fn is_said(alloc: Global) -> Result<bool, AllocError> {
-    match format!(in alloc; "{}", BooksError::AlreadyBooked(3)) {
-        Ok(refusal) => Ok(refusal.as_str() == "the target is booked up to round 3"),
+    match format!(in alloc; "{}", BooksError::Past(3)) {
+        Ok(refusal) => {
+            Ok(refusal.as_str() == "the round is too long before round 3, the target's last one")
+        }
         Err(error) => Err(error),
     }
 }

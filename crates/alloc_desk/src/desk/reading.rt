@@ -9,19 +9,21 @@ ghost use Rattle.alloc_desk.specs.Reached.{Reached};
 ghost use Rattle.alloc_desk.specs.Views.{numbered_of, shares_of, target_of, view_of};
 
 use crate::desk::Desk;
-use crate::entry::{Entry, entries};
+use crate::entries::entries;
 use crate::idle::idle;
 use crate::name::DeskName;
 use crate::pass::Pass;
 use crate::record::Record;
-use crate::view::{NumberedTarget, Share, View, numbered, shares, shown, target};
+use crate::view::{View, numbered, shares, shown, target};
 use allocation_core::{Answer, CollectorId, Event, TargetId};
+use journal_entries::Entry;
 use label_sets::Target;
 use lists::List;
 use price_certificate::{Instance, Plan};
 use std::alloc::{AllocError, Global};
 use std::sync::Wait;
 use std::sync::ledger::Ledger;
+use target_shares::{NumberedTarget, Share};
 
 impl<L: Ledger, B: Ledger, N: DeskName> Desk<L, B, N> {
     /// Reads one state and its journal, while nobody else submits.

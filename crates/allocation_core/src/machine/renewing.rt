@@ -9,6 +9,7 @@ ghost use Rattle.allocation_core.specs.Renewed.{IsWhyNot, renewal_refusal, renew
 use super::Core;
 use crate::limits::LAST_ROUND;
 use crate::renewal::{NotRenewed, RenewalError};
+use crate::report_rounds::ReportRounds;
 use fleet::{Fleet, JobSpec};
 use fleet_renewal::{RenewError, fleet_refusal, renew_fleet};
 use handover::Holders;
@@ -19,10 +20,10 @@ use std::alloc::AllocError;
 impl Core {
     /// The allocator under a new list of jobs. What nobody needs is forgotten: targets of jobs that went, targets that are
     /// neither live nor held nor in a list that was served last, older allocations, who took which, and booked reports. The rest goes on, the targets numbered anew
-    /// from 0 in their old order. Where it is refused the core comes back as it was.
+    /// from 0 in their old order. Rounds before the next one are closed. Where it is refused the core comes back as it was.
     #[tactic(auto, unfolding(crate::specs::Renewed::renewed))]
-    pub fn renew(self, jobs: Vec<JobSpec>) -> Result<Core, NotRenewed>
-        ensures renewed { IfOk result (λ c. c ≡ renewed self jobs.items) }
+    pub fn renew(self, jobs: Vec<JobSpec>, report_rounds: ReportRounds) -> Result<Core, NotRenewed>
+        ensures renewed { IfOk result (λ c. c ≡ renewed self jobs.items report_rounds) }
         ensures granted { OnOk result (renewal_refusal self jobs.items ≡ None) }
         ensures back { IfErr result (λ n. n.core ≡ self) }
         ensures refused { IfErr result (λ n. IsWhyNot (renewal_refusal self jobs.items) n.why) }
@@ -31,7 +32,12 @@ impl Core {
             return Err(NotRenewed { core: self, why });
         }
         match self.carried(jobs) {
-            Ok((fleet, holders, served)) => Ok(self.with_fleet(fleet, holders, served)),
+            Ok((fleet, holders, served)) => Ok(self.with_fleet(
+                fleet,
+                holders,
+                served,
+                report_rounds,
+            )),
             Err(_) => Err(NotRenewed {
                 core: self,
                 why: RenewalError::Memory,
@@ -82,13 +88,19 @@ impl Core {
     }
 
     /// The core with these in place of its own, in the next round, with nothing booked.
-    fn with_fleet(self, fleet: Fleet, holders: Holders, served: ServedLists) -> Core
+    fn with_fleet(
+        self,
+        fleet: Fleet,
+        holders: Holders,
+        served: ServedLists,
+        report_rounds: ReportRounds,
+    ) -> Core
         requires kept { IsFleet fleet }
         requires few_slots { length served.slots ≤ length fleet.known }
         requires given_slots { All (λ (collector : ℕ). collector ≤ fleet.last_collector) served.slots }
         requires few { length holders.published ≤ 1 }
         requires left { self.round < LAST_ROUND }
-        ensures { result ≡ record self { fleet = fleet; published = holders.published; taken = holders.taken; served = served; round = self.round + 1; booked = [] } }
+        ensures { result ≡ record self { fleet = fleet; published = holders.published; taken = holders.taken; served = served; round = self.round + 1; booked = []; begun = self.round + 1; report_rounds = report_rounds } }
     {
         Core {
             alloc: self.alloc,
@@ -99,6 +111,8 @@ impl Core {
             served,
             round: self.round + 1,
             books: Books::open(self.alloc),
+            begun: self.round + 1,
+            report_rounds,
         }
     }
 }

@@ -81,17 +81,18 @@ impl Core {
         self.round_refusal(target, round)
     }
 
-    /// The round is not the open one, or the target's report of it is booked.
+    /// The round is before the first one of which a report is booked, or behind the open one, or the target's report of it is booked.
     fn round_refusal(&self, target: TargetId, round: Round) -> Option<Refusal>
         ensures { result ≡ round_refusal self.now target round }
     {
-        if round < self.round {
-            return Some(Refusal::RoundClosed(self.round));
+        let first = self.first_round();
+        if round < first {
+            return Some(Refusal::RoundClosed(first));
         }
         if round > self.round {
             return Some(Refusal::RoundNotOpen(self.round));
         }
-        if self.books.last_round(target) >= round {
+        if self.books.is_booked(target, round) {
             return Some(Refusal::AlreadyBooked);
         }
         None

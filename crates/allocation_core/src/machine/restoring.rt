@@ -3,6 +3,7 @@ ghost use Rattle.std.specs.Prelude.{◌≡◌, ◌<◌, ◌≤◌, ℕ, All, All
 ghost use Rattle.allocation_core.specs.State.{current_pairs, restored};
 
 use super::Core;
+use crate::report_rounds::ReportRounds;
 use fleet::Fleet;
 use fleet_events::{CollectorId, TargetId};
 use handover::Holders;
@@ -14,7 +15,8 @@ use std::alloc::{AllocError, Global};
 
 impl Core {
     /// The allocator as a renewal leaves it: these pairs are its only allocation, in order of target, and the slots say whose list has
-    /// which known target, 0 where none has it. Nobody has taken anything, and nothing is booked.
+    /// which known target, 0 where none has it. Nobody has taken anything, nothing is booked, and
+    /// earlier rounds are closed.
     pub fn restored(
         alloc: Global,
         fleet: Fleet,
@@ -23,12 +25,13 @@ impl Core {
         round: u32,
         instance: Instance,
         plan: Plan,
+        report_rounds: ReportRounds,
     ) -> Result<Core, AllocError>
         requires ascending { AllPairs (λ (a b : ℕ × ℕ). a.0 < b.0) pairs }
         requires opened { 1 ≤ round }
         requires few { length slots.items ≤ length fleet.known }
         requires given { All (λ (collector : ℕ). collector ≤ fleet.last_collector) slots.items }
-        ensures { IfOk result (λ c. c ≡ restored fleet pairs slots.items instance plan round) }
+        ensures { IfOk result (λ c. c ≡ restored fleet pairs slots.items instance plan round report_rounds) }
     {
         let _jobs = fleet.jobs();
         let holders = Holders::carried_over(alloc, pairs)?;
@@ -41,6 +44,8 @@ impl Core {
             served: ServedLists::carried_over(alloc, slots),
             round,
             books: Books::open(alloc),
+            begun: round,
+            report_rounds,
         })
     }
 

@@ -7,7 +7,8 @@ ghost use Rattle.service_settings.specs.Settings.{housekeeping_said, collecting_
 use crate::address::Address;
 use crate::error::{Member, SettingsError};
 use crate::reading::{
-    address_or, connections_or, duration_or, flag_or, member_of, number_or, text_or_none, time_or,
+    address_or, connections_or, duration_or, flag_or, member_of, number_or, report_rounds_or,
+    text_or_none, time_or,
 };
 use crate::settings::acknowledge::acknowledge_in;
 use crate::settings::collector_timeout::{CollectorTimeout, collector_timeout_in};
@@ -20,7 +21,7 @@ use crate::settings::release_after::{ReleaseAfter, release_after_in};
 use crate::settings::spread::{Spread, spread_in};
 use crate::settings::{
     DEFAULT_CONNECTIONS, DEFAULT_FETCH_TIMEOUT, DEFAULT_GIVE_UP, DEFAULT_KEEP, DEFAULT_LISTEN,
-    DEFAULT_SETTLE,
+    DEFAULT_REPORT_ROUNDS, DEFAULT_SETTLE,
 };
 use lists::{List, Text};
 use serde_json::Value;
@@ -36,6 +37,7 @@ pub(crate) struct Housekeeping {
     pub(crate) settle: u64,
     pub(crate) give_up: u64,
     pub(crate) connections: u32,
+    pub(crate) report_rounds: u32,
 }
 
 /// What is collected, who collects, and how long it may take.
@@ -72,6 +74,8 @@ pub(crate) fn housekeeping_in(
     let give_up = time_or(DEFAULT_GIVE_UP, Member::GiveUp, give_up)?;
     let connections = member_of(allocator, "connections");
     let connections = connections_or(DEFAULT_CONNECTIONS, Member::Connections, connections)?;
+    let rounds = member_of(allocator, "report_rounds");
+    let report_rounds = report_rounds_or(DEFAULT_REPORT_ROUNDS, Member::ReportRounds, rounds)?;
     Ok(Housekeeping {
         listen,
         lifecycle,
@@ -80,6 +84,7 @@ pub(crate) fn housekeeping_in(
         settle,
         give_up,
         connections,
+        report_rounds,
     })
 }
 

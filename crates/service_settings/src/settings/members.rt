@@ -76,6 +76,7 @@ fn has_member(kind: Kind, name: &str) -> bool
             | "settle"
             | "give_up"
             | "connections"
+            | "report_rounds"
             | "hosts"
             | "tokens"
             | "open_to_all"

@@ -20,7 +20,7 @@ loop-listed-preserved c =
     let next_told = after_next c.args.memory.now head said targets i listed o told c.loop-listed-test.true c.listed-item.is c.loop-listed.invariant.so_far one in
     record {
       told =
-          ap (λ (t : Told). c.add.new.reports.items ++ chosen t head said (drop (i + 1) targets)) memory
+          ap (λ (t : Told). c.add.new.items.items ++ chosen t head said (drop (i + 1) targets)) memory
           ∙ ap (λ (rs : List Report). rs ++ chosen (with_chosen told o) head said (drop (i + 1) targets)) c.in_ok-add.ensures
           ∙ chosen_more told head said targets i listed o c.loop-listed.reports.items c.loop-listed-test.true c.listed-item.is one
           ∙ c.loop-listed.invariant.told;

@@ -9,21 +9,27 @@ use Rattle.agent_turns.proofs.reporting.report_all.Goals as goal
 pub returns-in_err-reports : goal.returns-in_err-reports
 returns-in_err-reports g c =
     let count = c.in_err-reports.ensures.err.0 in
-    record { input = Cut c.args.now c.args.said.now.entries count; is = inr (count, refl); acts = quiet g.O.Outside.may_act c.args.outside.now _ _; state = inl c.in_err-reports.ensures.err.1 }
+    let more = c.in_err-reports.ensures.err.1.0 in
+    record {
+      input = Cut c.args.now c.args.said.now.entries c.args.lasts.now.entries count more;
+      is = inr (count, (more, refl));
+      acts = quiet g.O.Outside.may_act c.args.outside.now _ _;
+      state = inl c.in_err-reports.ensures.err.1.1;
+    }
 
 pub returns-then-is_empty : goal.returns-then-is_empty
 returns-then-is_empty g c =
-    record { input = Asked c.args.now c.args.said.now.entries; is = inl refl; acts = quiet g.O.Outside.may_act c.args.outside.now _ _; state = inl c.in_ok-reports.ensures.state }
+    record { input = Asked c.args.now c.args.said.now.entries c.args.lasts.now.entries; is = inl refl; acts = quiet g.O.Outside.may_act c.args.outside.now _ _; state = inl c.in_ok-reports.ensures.state }
 
 pub returns-in_err-text : goal.returns-in_err-text
 returns-in_err-text g c =
-    record { input = Asked c.args.now c.args.said.now.entries; is = inl refl; acts = quiet g.O.Outside.may_act c.args.outside.now _ _; state = inl c.in_ok-reports.ensures.state }
+    record { input = Asked c.args.now c.args.said.now.entries c.args.lasts.now.entries; is = inl refl; acts = quiet g.O.Outside.may_act c.args.outside.now _ _; state = inl c.in_ok-reports.ensures.state }
 
 pub returns-then-not-write : goal.returns-then-not-write
 returns-then-not-write g c =
     let told = c.choose.new.self.told in
     let text : c.as_str.result.now ≡ compact_text (state_data told) = c.as_str.ensures ∙ c.in_ok-text.ensures ∙ ap (λ (t : Told). compact_text (state_data t)) c.memory.ensures in
-    let asked = Asked c.args.now c.args.said.now.entries in
+    let asked = Asked c.args.now c.args.said.now.entries c.args.lasts.now.entries in
     record {
       input = asked;
       is = inl refl;
@@ -35,7 +41,7 @@ pub returns : goal.returns
 returns g c =
     let told = c.choose.new.self.told in
     let text : c.as_str.result.now ≡ compact_text (state_data told) = c.as_str.ensures ∙ c.in_ok-text.ensures ∙ ap (λ (t : Told). compact_text (state_data t)) c.memory.ensures in
-    let asked = Asked c.args.now c.args.said.now.entries in
+    let asked = Asked c.args.now c.args.said.now.entries c.args.lasts.now.entries in
     record {
       input = asked;
       is = inl refl;

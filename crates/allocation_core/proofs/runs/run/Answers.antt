@@ -27,28 +27,28 @@ loop-event-preserved c =
 pub returns-in-Err-clause-best : goal.returns-in-Err-clause-best
 returns-in-Err-clause-best c =
     let inv = c.loop-event.invariant in
-    λ jobs earlier opened. best_after_earlier c.published_are_best.ensures jobs earlier c.args.events.items c.loop-event.yielded c.loop-event.event-iterator.rest.items c.args.core.now c.apply.new.self opened (sym inv.rest) (c.in-Err.ensures.err ∙ inv.state)
+    λ jobs report_rounds earlier opened. best_after_earlier c.published_are_best.ensures jobs report_rounds earlier c.args.events.items c.loop-event.yielded c.loop-event.event-iterator.rest.items c.args.core.now c.apply.new.self opened (sym inv.rest) (c.in-Err.ensures.err ∙ inv.state)
 
 pub returns-clause-best : goal.returns-clause-best
 returns-clause-best c =
     let inv = c.loop-event.invariant in
-    λ jobs earlier opened. best_after_earlier c.published_are_best.ensures jobs earlier c.args.events.items c.loop-event.yielded c.loop-event.event-iterator.rest.items c.args.core.now c.loop-event.core opened (sym inv.rest) inv.state
+    λ jobs report_rounds earlier opened. best_after_earlier c.published_are_best.ensures jobs report_rounds earlier c.args.events.items c.loop-event.yielded c.loop-event.event-iterator.rest.items c.args.core.now c.loop-event.core opened (sym inv.rest) inv.state
 
 pub returns-in-Err-clause-booked : goal.returns-in-Err-clause-booked
 returns-in-Err-clause-booked c =
     let inv = c.loop-event.invariant in
-    λ jobs earlier opened. booked_after_earlier c.booked_by_holders.ensures jobs earlier c.args.events.items c.loop-event.yielded c.loop-event.event-iterator.rest.items c.args.core.now c.apply.new.self opened (sym inv.rest) (c.in-Err.ensures.err ∙ inv.state)
+    λ jobs report_rounds earlier opened. booked_after_earlier c.booked_by_holders.ensures jobs report_rounds earlier c.args.events.items c.loop-event.yielded c.loop-event.event-iterator.rest.items c.args.core.now c.apply.new.self opened (sym inv.rest) (c.in-Err.ensures.err ∙ inv.state)
 
 pub returns-clause-booked : goal.returns-clause-booked
 returns-clause-booked c =
     let inv = c.loop-event.invariant in
-    λ jobs earlier opened. booked_after_earlier c.booked_by_holders.ensures jobs earlier c.args.events.items c.loop-event.yielded c.loop-event.event-iterator.rest.items c.args.core.now c.loop-event.core opened (sym inv.rest) inv.state
+    λ jobs report_rounds earlier opened. booked_after_earlier c.booked_by_holders.ensures jobs report_rounds earlier c.args.events.items c.loop-event.yielded c.loop-event.event-iterator.rest.items c.args.core.now c.loop-event.core opened (sym inv.rest) inv.state
 
 pub returns-then-is_err-clause-best : goal.returns-then-is_err-clause-best
-returns-then-is_err-clause-best c = λ jobs earlier reached. best_after_earlier c.published_are_best.ensures jobs earlier c.args.events.items [] c.args.events.items c.args.core.now c.args.core.now reached refl refl
+returns-then-is_err-clause-best c = λ jobs report_rounds earlier reached. best_after_earlier c.published_are_best.ensures jobs report_rounds earlier c.args.events.items [] c.args.events.items c.args.core.now c.args.core.now reached refl refl
 
 pub returns-then-is_err-clause-booked : goal.returns-then-is_err-clause-booked
-returns-then-is_err-clause-booked c = λ jobs earlier reached. booked_after_earlier c.booked_by_holders.ensures jobs earlier c.args.events.items [] c.args.events.items c.args.core.now c.args.core.now reached refl refl
+returns-then-is_err-clause-booked c = λ jobs report_rounds earlier reached. booked_after_earlier c.booked_by_holders.ensures jobs report_rounds earlier c.args.events.items [] c.args.events.items c.args.core.now c.args.core.now reached refl refl
 
 pub returns-then-is_err-clause-stopped : goal.returns-then-is_err-clause-stopped
 returns-then-is_err-clause-stopped c = stops_first c.args.core.now c.args.events.items c.reserve.new.self.items (grind (arith, common_steps)) (c.reserve.ensures.items ∙ c.new-answers.ensures.items)

@@ -27,7 +27,7 @@ returns-in-Ok-clause-fault c =
     let m = c.args.core in
     let n = c.args.next.now in
     let same : c.in_ok-jobs.jobs.items ≡ n.fleet.jobs = c.in_ok-jobs.ensures ∙ c.jobs.ensures.jobs ∙ ap (λ (f : FleetState). f.jobs) c.fleet.ensures in
-    fault_granted c.other_state.result (renewal_refusal m n.fleet.jobs) m n c.in-Ok.renewed (subst (λ jobs. renewal_refusal m jobs ≡ None) same c.in-Ok.ensures.granted) (c.in-Ok.ensures.renewed ∙ ap (renewed m) same) c.other_state.ensures.fault
+    fault_granted c.other_state.result (renewal_refusal m n.fleet.jobs) m n c.in-Ok.renewed (subst (λ jobs. renewal_refusal m jobs ≡ None) same c.in-Ok.ensures.granted) (c.in-Ok.ensures.renewed ∙ (λ i. renewed m (same i) (c.report_rounds.ensures i))) c.other_state.ensures.fault
 
 pub returns-in-Ok-clause-renewal : goal.returns-in-Ok-clause-renewal
 returns-in-Ok-clause-renewal c =
@@ -35,4 +35,4 @@ returns-in-Ok-clause-renewal c =
     let n = c.args.next.now in
     let same : c.in_ok-jobs.jobs.items ≡ n.fleet.jobs = c.in_ok-jobs.ensures ∙ c.jobs.ensures.jobs ∙ ap (λ (f : FleetState). f.jobs) c.fleet.ensures in
     renewal_told c.other_state.result m n c.in_ok-jobs.jobs.items same c.in-Ok.ensures.granted c.in-Ok.ensures.ascending c.histories_tell.ensures
-    (subst (λ (s : State). IfOk c.other_state.result (λ o. IfNone o (ReadAlike s n))) c.in-Ok.ensures.renewed c.other_state.ensures.alike)
+    (subst (λ (s : State). IfOk c.other_state.result (λ o. IfNone o (ReadAlike s n))) (c.in-Ok.ensures.renewed ∙ ap (renewed m c.in_ok-jobs.jobs.items) c.report_rounds.ensures) c.other_state.ensures.alike)

@@ -23,5 +23,5 @@ returns-clause-state c =
     let pairs : is_allocation (fleet_of h.fleet) h.allocation ≡ true = sym (c.if-not-is_allocation.ensures.is ∙ (λ i. is_allocation (same i) (c.as_slice.ensures i))) in
     let fits : are_slots (fleet_of h.fleet) h.served ≡ true = sym (c.if-not-are_slots.ensures ∙ (λ i. are_slots (same i) h.served)) in
     let slots : c.in_ok-slots.slots.items ≡ slots_of (fleet_of h.fleet) h.served = c.in_ok-slots.ensures ∙ (λ i. slots_of (same i) h.served) in
-    let core : c.in_ok-core.core ≡ state_of h = c.in_ok-core.ensures ∙ (λ i. restored (same i) h.allocation (slots i) h.certificate.instance h.certificate.plan h.round) in
+    let core : c.in_ok-core.core ≡ state_of h = c.in_ok-core.ensures ∙ (λ i. restored (same i) h.allocation (slots i) h.certificate.instance h.certificate.plan h.round (c.least.ensures i)) in
     good_history h c.in_ok-fleet.ensures.fleet.1 pairs (omega (arith, c.if-round-eq0.false)) fits ∙ ap (λ (m : State). (let r : Result State HistoryError = Ok m in r)) (sym core)

@@ -1,6 +1,6 @@
 use Rattle.daemon.proofs.serving.serve_once.Given as goal
 
--- the ledgers of the blanks, and a desk with a pass for each seat over this allocator
+-- the ledgers of the blanks, and a desk with a pass for each seat over this allocator, with this log
 abbrev pub ghosts-serve_desk-L-Ledger : goal.ghosts-serve_desk-L-Ledger
 ghosts-serve_desk-L-Ledger g a = record { name = a.calls.name; parts = a.calls.parts }
 
@@ -8,4 +8,4 @@ abbrev pub ghosts-serve_desk-B-Ledger : goal.ghosts-serve_desk-B-Ledger
 ghosts-serve_desk-B-Ledger g a = record { name = a.samples.name; parts = a.samples.parts }
 
 abbrev pub ghosts-serve_desk-N-DeskName : goal.ghosts-serve_desk-N-DeskName
-ghosts-serve_desk-N-DeskName g a = record { «opening» = a.core; seats = 4 }
+ghosts-serve_desk-N-DeskName g a = record { «opening» = a.core; seats = 4; book = a.log }

@@ -1,5 +1,5 @@
 use Rattle.std.proofs.Common.{◌∙◌}
-use Rattle.alloc_desk.specs.History.{events_in}
+use Rattle.journal_entries.specs.Legal.{events_in}
 use Rattle.session_command.proofs.one_desk.closed.Goals as goal
 
 pub returns-in-Ok : goal.returns-in-Ok

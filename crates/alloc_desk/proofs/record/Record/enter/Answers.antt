@@ -1,7 +1,7 @@
 use Rattle.std.proofs.Common.{◌≡◌, ◌≤◌, [], ◌∷◌, ◌++◌, length, ap, sym, ◌∙◌, rules}
 use Rattle.std.specs.Prelude.{Bool, true}
 use Rattle.allocation_core.specs.Steps.{answer_of, state_after}
-use Rattle.alloc_desk.specs.declared.entry.Entry.{Entry}
+use Rattle.journal_entries.specs.declared.entry.Entry.{Entry}
 use Rattle.alloc_desk.specs.declared.limits.TheConstants.{MOST_ENTRIES}
 use Rattle.alloc_desk.specs.Changed.{changed_by, changed_in}
 use Rattle.alloc_desk.specs.History.{History}

@@ -18,6 +18,8 @@ returns-in_ok-holders-in-Ok-clause-given c =
       served = c.self.inside.served;
       round = c.self.inside.round;
       booked = c.self.inside.books;
+      begun = c.self.inside.begun;
+      report_rounds = c.self.inside.report_rounds;
     } in
     let jobs = c.args.jobs.items in
     let fleet : c.in-Ok.renewed.fleet ≡ renewed_fleet s.fleet (current_pairs s) s.served.slots jobs =

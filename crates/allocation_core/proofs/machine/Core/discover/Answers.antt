@@ -18,6 +18,8 @@ invariant_of-self-2 c =
       served = c.self.inside.served;
       round = c.self.inside.round;
       booked = c.self.inside.books;
+      begun = c.self.inside.begun;
+      report_rounds = c.self.inside.report_rounds;
     } in
     subst IsKept (sym (list_state s s c.list.new.self c.as_str.result.now c.args.name c.args.source c.args.targets refl c.as_str.ensures c.in_ok-listing.ensures.state)) (step_kept s (Discover c.args.name c.args.source c.args.targets) c.self.invariant)
 
@@ -33,6 +35,8 @@ returns-clause-answer c =
       served = c.self.inside.served;
       round = c.self.inside.round;
       booked = c.self.inside.books;
+      begun = c.self.inside.begun;
+      report_rounds = c.self.inside.report_rounds;
     } in
     list_answer s c.args.self.now c.answer_to_listing.result c.in_ok-listing.listing c.as_str.result.now c.args.name c.args.source c.args.targets c.self.view_is c.as_str.ensures c.in_ok-listing.ensures.listing c.answer_to_listing.ensures
 
@@ -48,5 +52,7 @@ returns-clause-state c =
       served = c.self.inside.served;
       round = c.self.inside.round;
       booked = c.self.inside.books;
+      begun = c.self.inside.begun;
+      report_rounds = c.self.inside.report_rounds;
     } in
     list_state s c.args.self.now c.list.new.self c.as_str.result.now c.args.name c.args.source c.args.targets c.self.view_is c.as_str.ensures c.in_ok-listing.ensures.state

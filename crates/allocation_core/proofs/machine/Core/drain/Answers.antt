@@ -18,6 +18,8 @@ invariant_of-self c =
       served = c.self.inside.served;
       round = c.self.inside.round;
       booked = c.self.inside.books;
+      begun = c.self.inside.begun;
+      report_rounds = c.self.inside.report_rounds;
     } in
     subst IsKept (sym (drain_state s s c.drain-draining.new.self c.args.id refl c.drain-draining.ensures.state)) (step_kept s (Drain c.args.id) c.self.invariant)
 
@@ -33,6 +35,8 @@ returns-clause-answer c =
       served = c.self.inside.served;
       round = c.self.inside.round;
       booked = c.self.inside.books;
+      begun = c.self.inside.begun;
+      report_rounds = c.self.inside.report_rounds;
     } in
     drain_answer s c.args.self.now c.answer_to_draining.result c.drain-draining.result c.args.id c.self.view_is c.drain-draining.ensures.draining c.answer_to_draining.ensures
 
@@ -48,5 +52,7 @@ returns-clause-state c =
       served = c.self.inside.served;
       round = c.self.inside.round;
       booked = c.self.inside.books;
+      begun = c.self.inside.begun;
+      report_rounds = c.self.inside.report_rounds;
     } in
     drain_state s c.args.self.now c.drain-draining.new.self c.args.id c.self.view_is c.drain-draining.ensures.state

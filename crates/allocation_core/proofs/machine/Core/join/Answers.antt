@@ -18,6 +18,8 @@ invariant_of-self-2 c =
       served = c.self.inside.served;
       round = c.self.inside.round;
       booked = c.self.inside.books;
+      begun = c.self.inside.begun;
+      report_rounds = c.self.inside.report_rounds;
     } in
     subst IsKept (sym (join_state s s c.join.new.self c.args.name c.args.reach c.args.limits refl c.in_ok-joining.ensures.state)) (step_kept s (Join c.args.name c.args.reach c.args.limits) c.self.invariant)
 
@@ -33,6 +35,8 @@ returns-clause-answer c =
       served = c.self.inside.served;
       round = c.self.inside.round;
       booked = c.self.inside.books;
+      begun = c.self.inside.begun;
+      report_rounds = c.self.inside.report_rounds;
     } in
     join_answer s c.args.self.now c.answer_to_joining.result c.in_ok-joining.joining c.args.name c.args.reach c.args.limits c.self.view_is c.in_ok-joining.ensures.joining c.answer_to_joining.ensures
 
@@ -48,5 +52,7 @@ returns-clause-state c =
       served = c.self.inside.served;
       round = c.self.inside.round;
       booked = c.self.inside.books;
+      begun = c.self.inside.begun;
+      report_rounds = c.self.inside.report_rounds;
     } in
     join_state s c.args.self.now c.join.new.self c.args.name c.args.reach c.args.limits c.self.view_is c.in_ok-joining.ensures.state

@@ -18,6 +18,8 @@ invariant_of-self c =
       served = c.self.inside.served;
       round = c.self.inside.round;
       booked = c.self.inside.books;
+      begun = c.self.inside.begun;
+      report_rounds = c.self.inside.report_rounds;
     } in
     subst IsKept (sym (leave_state s s c.leave.new.self c.args.id refl c.leave.ensures.state)) (step_kept s (Leave c.args.id) c.self.invariant)
 
@@ -33,6 +35,8 @@ returns-then-not-leave-clause-answer c =
       served = c.self.inside.served;
       round = c.self.inside.round;
       booked = c.self.inside.books;
+      begun = c.self.inside.begun;
+      report_rounds = c.self.inside.report_rounds;
     } in
     leave_answer s c.args.self.now c.args.id false c.self.view_is c.if-not-leave.ensures.was
 
@@ -48,6 +52,8 @@ returns-then-not-leave-clause-state c =
       served = c.self.inside.served;
       round = c.self.inside.round;
       booked = c.self.inside.books;
+      begun = c.self.inside.begun;
+      report_rounds = c.self.inside.report_rounds;
     } in
     leave_state s c.args.self.now c.leave.new.self c.args.id c.self.view_is c.leave.ensures.state
 
@@ -63,6 +69,8 @@ invariant_of-self-2 c =
       served = c.self.inside.served;
       round = c.self.inside.round;
       booked = c.self.inside.books;
+      begun = c.self.inside.begun;
+      report_rounds = c.self.inside.report_rounds;
     } in
     subst IsKept (sym (leave_state s s c.leave.new.self c.args.id refl c.leave.ensures.state)) (step_kept s (Leave c.args.id) c.self.invariant)
 
@@ -78,6 +86,8 @@ returns-clause-answer c =
       served = c.self.inside.served;
       round = c.self.inside.round;
       booked = c.self.inside.books;
+      begun = c.self.inside.begun;
+      report_rounds = c.self.inside.report_rounds;
     } in
     leave_answer s c.args.self.now c.args.id true c.self.view_is c.if-not-leave.ensures.was
 
@@ -93,5 +103,7 @@ returns-clause-state c =
       served = c.self.inside.served;
       round = c.self.inside.round;
       booked = c.self.inside.books;
+      begun = c.self.inside.begun;
+      report_rounds = c.self.inside.report_rounds;
     } in
     leave_state s c.args.self.now c.leave.new.self c.args.id c.self.view_is c.leave.ensures.state

@@ -23,6 +23,8 @@ invariant_of-self c =
       served = c.self.inside.served;
       round = c.self.inside.round;
       booked = c.self.inside.books;
+      begun = c.self.inside.begun;
+      report_rounds = c.self.inside.report_rounds;
     } in
     let given = ap (λ (m : State). was_given m c.args.id) c.self.view_is ∙ c.requires in
     let next : Served = with_list s.fleet.known s.served c.args.id c.args.job c.current-number.result c.as_slice.result.now in

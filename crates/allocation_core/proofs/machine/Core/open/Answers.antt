@@ -10,4 +10,4 @@ use Rattle.allocation_core.proofs.machine.Core.open.Goals as goal
 
 pub invariant_of-result : goal.invariant_of-result
 invariant_of-result c =
-    first_kept _ (subst IsFleet (sym c.in_ok-fleet.ensures.first) (fleet_first_kept (first_fleet c.args.jobs.items) refl refl refl refl)) (ap (λ (h : Handover). h.published) c.open-2.ensures) (ap (λ (s : Lists). s.slots) c.open-3.ensures) refl c.open-4.ensures
+    first_kept _ (subst IsFleet (sym c.in_ok-fleet.ensures.first) (fleet_first_kept (first_fleet c.args.jobs.items) refl refl refl refl)) (ap (λ (h : Handover). h.published) c.open-2.ensures) (ap (λ (s : Lists). s.slots) c.open-3.ensures) refl c.open-4.ensures refl

@@ -18,6 +18,8 @@ invariant_of-self c =
       served = c.self.inside.served;
       round = c.self.inside.round;
       booked = c.self.inside.books;
+      begun = c.self.inside.begun;
+      report_rounds = c.self.inside.report_rounds;
     } in
     let is : c.release.new.self ≡ without_list s.fleet.known s.served c.args.id c.in-Ok.job =
     c.release.ensures.state ∙ ap (λ (known : List KnownTarget). without_list known s.served c.args.id c.in-Ok.job) c.known.ensures in

@@ -18,6 +18,8 @@ invariant_of-self c =
       served = c.self.inside.served;
       round = c.self.inside.round;
       booked = c.self.inside.books;
+      begun = c.self.inside.begun;
+      report_rounds = c.self.inside.report_rounds;
     } in
     subst IsKept (sym (limits_state s s c.set_limits-limiting.new.self c.args.id c.args.limits refl c.set_limits-limiting.ensures.state)) (step_kept s (SetLimits c.args.id c.args.limits) c.self.invariant)
 
@@ -33,6 +35,8 @@ returns-clause-answer c =
       served = c.self.inside.served;
       round = c.self.inside.round;
       booked = c.self.inside.books;
+      begun = c.self.inside.begun;
+      report_rounds = c.self.inside.report_rounds;
     } in
     limits_answer s c.args.self.now c.answer_to_limiting.result c.set_limits-limiting.result c.args.id c.args.limits c.self.view_is c.set_limits-limiting.ensures.limiting c.answer_to_limiting.ensures
 
@@ -48,5 +52,7 @@ returns-clause-state c =
       served = c.self.inside.served;
       round = c.self.inside.round;
       booked = c.self.inside.books;
+      begun = c.self.inside.begun;
+      report_rounds = c.self.inside.report_rounds;
     } in
     limits_state s c.args.self.now c.set_limits-limiting.new.self c.args.id c.args.limits c.self.view_is c.set_limits-limiting.ensures.state

@@ -1,9 +1,7 @@
 //! An entry of a journal.
-ghost use Rattle.std.specs.Prelude.{◌≡◌, IfOk, drop, take};
-
 use allocation_core::{Answer, Event};
-use lists::{List, Plain, copies};
-use std::alloc::{AllocError, Global};
+use lists::Plain;
+use std::alloc::AllocError;
 
 /// One event, and how it was answered.
 #[derive(Debug, Drop)]
@@ -28,18 +26,4 @@ impl Plain for Entry {
     fn same(&self, other: &Entry) -> bool {
         self.event.same(&other.event) && self.seat == other.seat && self.answer.same(&other.answer)
     }
-}
-
-/// Copies of the entries from a position on, at most so many.
-pub(crate) fn entries(
-    alloc: Global,
-    journal: &[Entry],
-    from: usize,
-    most: usize,
-) -> Result<List<Entry>, AllocError>
-    ensures { IfOk result (λ l. l ≡ take most (drop from journal.now)) }
-{
-    let rest = journal.get(from..).unwrap_or(&[]);
-    let entries = copies(alloc, rest.get(..most).unwrap_or(rest))?;
-    Ok(List::from_vec(entries))
 }
