@@ -33,20 +33,31 @@ impl Came {
         match self {
             Came::Reply(reply) => list_in_reply(alloc, job, number, reply),
             Came::Nothing(cause) => Err(Failure::Nothing(cause)),
-            Came::Files(files) => list_in_files(alloc, job, number, files.as_slice()),
+            Came::Files(files) => {
+                let list = list_in_files(alloc, job, number, files.as_slice());
+                drop(files);
+                list
+            }
             Came::NoFiles(fault) => Err(Failure::Files(fault)),
         }
     }
 }
 
 fn list_in_reply(alloc: Global, job: &Job, number: u32, reply: Reply) -> Result<Listing, Failure> {
-    let fetched: Result<Reply, FetchFault> = Ok(reply);
     match Rules::read(alloc, job.rules.as_slice()) {
-        Ok(rules) => match heard(alloc, job, &rules, number, &fetched) {
-            Ok(listing) => Ok(listing),
-            Err(error) => Err(Failure::Refused(error)),
-        },
-        Err(_) => Err(Failure::Nothing(Cause::Memory)),
+        Ok(rules) => {
+            let fetched: Result<Reply, FetchFault> = Ok(reply);
+            let listing = heard(alloc, job, &rules, number, &fetched);
+            drop((rules, fetched));
+            match listing {
+                Ok(listing) => Ok(listing),
+                Err(error) => Err(Failure::Refused(error)),
+            }
+        }
+        Err(_) => {
+            drop(reply);
+            Err(Failure::Nothing(Cause::Memory))
+        }
     }
 }
 
@@ -56,22 +67,33 @@ fn list_in_files(
     number: u32,
     files: &[FileText],
 ) -> Result<Listing, Failure> {
-    match (
-        Rules::read(alloc, job.rules.as_slice()),
-        groups_of_files(alloc, files),
-    ) {
-        (Ok(rules), Ok(groups)) => match listed_in_files(
-            alloc,
-            job,
-            &rules,
-            number,
-            groups.as_slice(),
-        ) {
-            Ok(listing) => Ok(listing),
-            Err(AllocError) => Err(Failure::Nothing(Cause::Memory)),
-        },
-        (Ok(_), Err(fault)) => Err(Failure::Files(fault)),
-        (Err(_), _) => Err(Failure::Nothing(Cause::Memory)),
+    match Rules::read(alloc, job.rules.as_slice()) {
+        Ok(rules) => {
+            let list = list_by_rules(alloc, job, &rules, number, files);
+            drop(rules);
+            list
+        }
+        Err(_) => Err(Failure::Nothing(Cause::Memory)),
+    }
+}
+
+fn list_by_rules(
+    alloc: Global,
+    job: &Job,
+    rules: &Rules,
+    number: u32,
+    files: &[FileText],
+) -> Result<Listing, Failure> {
+    match groups_of_files(alloc, files) {
+        Ok(groups) => {
+            let listing = listed_in_files(alloc, job, rules, number, groups.as_slice());
+            drop(groups);
+            match listing {
+                Ok(listing) => Ok(listing),
+                Err(AllocError) => Err(Failure::Nothing(Cause::Memory)),
+            }
+        }
+        Err(fault) => Err(Failure::Files(fault)),
     }
 }
 

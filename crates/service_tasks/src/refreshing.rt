@@ -93,6 +93,7 @@ where
             Some(Wanted::Get(get)) => Next::Ask { mark: place, get },
             Some(Wanted::Files(patterns)) => {
                 self.read(place, patterns.as_slice());
+                drop(patterns);
                 Next::Wait(Duration::ZERO)
             }
             None => {
@@ -124,10 +125,12 @@ where
     /// The refresh of the source at a place came to this.
     fn end(&mut self, place: usize, came: Came) {
         let Some(source) = self.sources.ended(place) else {
+            drop(came);
             return;
         };
-        if let Some(job) = self.jobs.as_slice().get(source.settings.job) {
-            self.shared.refresh(self.pass, job, source, came);
+        match self.jobs.as_slice().get(source.settings.job) {
+            Some(job) => self.shared.refresh(self.pass, job, source, came),
+            None => drop(came),
         }
         if source.end() {
             self.shared.state.count_tried();
@@ -178,7 +181,7 @@ impl<R: Wait + Clock + Eprint + Copy, L: Ledger, B: Ledger, N: DeskName> Shared<
         let sources = std::mem::replace(&mut watch.sources, none);
         let (mut sources, asked) = self.asked_by(&watch.device, pass, &watch.jobs, sources);
         sources.give_up();
-        watch.sources = sources;
+        drop(std::mem::replace(&mut watch.sources, sources));
         asked
     }
 
@@ -211,7 +214,7 @@ impl<R: Wait + Clock + Eprint + Copy, L: Ledger, B: Ledger, N: DeskName> Shared<
                 let listed = &mut source.listed;
                 self.submit_news(pass, told_source(job, number), listed, listing.event);
             }
-            Err(_told) => {}
+            Err(told) => drop(told),
         }
     }
 
@@ -287,10 +290,12 @@ impl<R: Wait + Clock + Eprint + Copy, L: Ledger, B: Ledger, N: DeskName> Shared<
         event: Event,
     ) {
         let Ok(text) = event.to_json(self.alloc) else {
+            drop(event);
             log_warning(&self.rt, "no memory for a list of targets");
             return;
         };
         if !listed.is_news(text.as_str()) {
+            drop((text, event));
             return;
         }
         self.listed.fetch_add(targets_in(&event), Ordering::SeqCst);
