@@ -33,10 +33,14 @@ pub(crate) fn list_in_reply(
     fetched: &Result<Reply, FetchFault>,
 ) -> Result<Listing, Failure> {
     match Rules::read(alloc, job.rules.as_slice()) {
-        Ok(rules) => match heard(alloc, job, &rules, number, fetched) {
-            Ok(listing) => Ok(listing),
-            Err(error) => Err(Failure::Refused(error)),
-        },
+        Ok(rules) => {
+            let listing = heard(alloc, job, &rules, number, fetched);
+            drop(rules);
+            match listing {
+                Ok(listing) => Ok(listing),
+                Err(error) => Err(Failure::Refused(error)),
+            }
+        }
         Err(_) => Err(Failure::Nothing(Cause::Memory)),
     }
 }
@@ -49,7 +53,11 @@ pub(crate) fn list_in_files(
     files: Result<List<FileText>, FilesFault>,
 ) -> Result<Listing, Failure> {
     match files {
-        Ok(files) => list_in(alloc, job, number, files.as_slice()),
+        Ok(files) => {
+            let list = list_in(alloc, job, number, files.as_slice());
+            drop(files);
+            list
+        }
         Err(fault) => Err(Failure::Files(fault)),
     }
 }
@@ -60,22 +68,33 @@ fn list_in(
     number: u32,
     files: &[FileText],
 ) -> Result<Listing, Failure> {
-    match (
-        Rules::read(alloc, job.rules.as_slice()),
-        groups_of_files(alloc, files),
-    ) {
-        (Ok(rules), Ok(groups)) => match listed_in_files(
-            alloc,
-            job,
-            &rules,
-            number,
-            groups.as_slice(),
-        ) {
-            Ok(listing) => Ok(listing),
-            Err(AllocError) => Err(Failure::Nothing(Cause::Memory)),
-        },
-        (Ok(_), Err(fault)) => Err(Failure::Files(fault)),
-        (Err(_), _) => Err(Failure::Nothing(Cause::Memory)),
+    match Rules::read(alloc, job.rules.as_slice()) {
+        Ok(rules) => {
+            let list = list_by_rules(alloc, job, &rules, number, files);
+            drop(rules);
+            list
+        }
+        Err(_) => Err(Failure::Nothing(Cause::Memory)),
+    }
+}
+
+fn list_by_rules(
+    alloc: Global,
+    job: &Job,
+    rules: &Rules,
+    number: u32,
+    files: &[FileText],
+) -> Result<Listing, Failure> {
+    match groups_of_files(alloc, files) {
+        Ok(groups) => {
+            let listing = listed_in_files(alloc, job, rules, number, groups.as_slice());
+            drop(groups);
+            match listing {
+                Ok(listing) => Ok(listing),
+                Err(AllocError) => Err(Failure::Nothing(Cause::Memory)),
+            }
+        }
+        Err(fault) => Err(Failure::Files(fault)),
     }
 }
 

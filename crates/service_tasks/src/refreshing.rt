@@ -95,6 +95,7 @@ where
             Some(Wanted::Get(get)) => Next::Ask { mark: place, get },
             Some(Wanted::Files(patterns)) => {
                 self.read(place, patterns.as_slice());
+                drop(patterns);
                 Next::Wait(Duration::ZERO)
             }
             None => {
@@ -124,10 +125,12 @@ where
     /// The refresh of the source at a place came to this.
     fn end(&mut self, place: usize, came: Came) {
         let Some(source) = self.sources.ended(place) else {
+            drop(came);
             return;
         };
-        if let Some(job) = self.jobs.as_slice().get(source.settings.job) {
-            self.shared.refresh(self.pass, job, source, came);
+        match self.jobs.as_slice().get(source.settings.job) {
+            Some(job) => self.shared.refresh(self.pass, job, source, came),
+            None => drop(came),
         }
         if source.end() {
             self.shared.state.count_tried();
@@ -178,7 +181,7 @@ impl<R: Wait + Clock + Eprint + Copy, L: Ledger, B: Ledger, N: DeskName> Shared<
         let sources = std::mem::replace(&mut watch.sources, none);
         let (mut sources, asked) = self.asked_by(&watch.device, pass, &watch.jobs, sources);
         sources.give_up();
-        watch.sources = sources;
+        drop(std::mem::replace(&mut watch.sources, sources));
         asked
     }
 
@@ -226,14 +229,16 @@ impl<R: Wait + Clock + Eprint + Copy, L: Ledger, B: Ledger, N: DeskName> Shared<
         let number = source.settings.number;
         if let Some(counts) = source.listed.counts_again(&reply) {
             self.tell_again(job, number, counts);
+            drop(reply);
             return;
         }
         let fetched: Result<Reply, FetchFault> = Ok(reply);
         let list = list_in_reply(self.alloc, job, number, &fetched);
         let counts = counts_in(&list);
         let stands = self.follow_list(pass, job, source, list);
-        if let (true, Some(counts), Ok(reply)) = (stands, counts, fetched) {
-            source.listed.answered(reply, counts);
+        match (fetched, counts) {
+            (Ok(reply), Some(counts)) if stands => source.listed.answered(reply, counts),
+            (unread, _) => drop(unread),
         }
     }
 
@@ -252,7 +257,10 @@ impl<R: Wait + Clock + Eprint + Copy, L: Ledger, B: Ledger, N: DeskName> Shared<
                 let listed = &mut source.listed;
                 self.submit_news(pass, told_source(job, number), listed, listing.event)
             }
-            Err(_told) => false,
+            Err(told) => {
+                drop(told);
+                false
+            }
         }
     }
 
@@ -336,10 +344,12 @@ impl<R: Wait + Clock + Eprint + Copy, L: Ledger, B: Ledger, N: DeskName> Shared<
         event: Event,
     ) -> bool {
         let Ok(text) = event.to_json(self.alloc) else {
+            drop(event);
             log_warning(&self.rt, "no memory for a list of targets");
             return false;
         };
         if !listed.is_news(text.as_str()) {
+            drop((text, event));
             return true;
         }
         self.listed.fetch_add(targets_in(&event), Ordering::SeqCst);
@@ -348,7 +358,10 @@ impl<R: Wait + Clock + Eprint + Copy, L: Ledger, B: Ledger, N: DeskName> Shared<
                 listed.submitted(text, is_refused);
                 true
             }
-            None => false,
+            None => {
+                drop(text);
+                false
+            }
         }
     }
 }
