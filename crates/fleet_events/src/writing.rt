@@ -115,7 +115,6 @@ fn join_value(
     limited_join_value(alloc, name, reach, limits)
 }
 
-#[tactic(auto, unfolding(crate::specs::Reading::event_in, crate::specs::Reading::join_in))]
 fn unlimited_join_value(
     alloc: Global,
     name: &CollectorName,
@@ -124,12 +123,32 @@ fn unlimited_join_value(
     ensures form { IfOk result (λ v. view v ≡ unlimited_join_data name.now reach.now) }
     ensures reads_back { IfOk result (λ v. event_in (view v) ≡ Some (Event.Join name.now reach.now [])) }
 {
-    let name = name.write(alloc)?;
-    let reach = reach.write(alloc)?;
-    json!(in alloc; {"event": "join", "name": name, "reach": reach})
+    let mut members = Map::new(alloc);
+    match put_unlimited_join(&mut members, alloc, name, reach) {
+        Ok(()) => Ok(Value::Object(members)),
+        Err(refused) => {
+            drop(members);
+            Err(refused)
+        }
+    }
 }
 
 #[tactic(auto, unfolding(crate::specs::Reading::event_in, crate::specs::Reading::join_in))]
+fn put_unlimited_join(
+    members: &mut Map<String, Value>,
+    alloc: Global,
+    name: &CollectorName,
+    reach: &Reach,
+) -> Result<(), AllocError>
+    requires { members_view members.old.entries ≡ no_members }
+    ensures form { OnOk result (object (members_view members.new.entries) ≡ unlimited_join_data name.now reach.now) }
+    ensures reads_back { OnOk result (event_in (object (members_view members.new.entries)) ≡ Some (Event.Join name.now reach.now [])) }
+{
+    put_event(members, alloc, "join")?;
+    put_written(members, alloc, "name", name)?;
+    put_written(members, alloc, "reach", reach)
+}
+
 fn limited_join_value(
     alloc: Global,
     name: &CollectorName,
@@ -139,10 +158,32 @@ fn limited_join_value(
     ensures form { IfOk result (λ v. view v ≡ limited_join_data name.now reach.now limits.now) }
     ensures reads_back { IfOk result (λ v. event_in (view v) ≡ Some (Event.Join name.now reach.now limits.now)) }
 {
-    let limits = limits.write(alloc)?;
-    let name = name.write(alloc)?;
-    let reach = reach.write(alloc)?;
-    json!(in alloc; {"event": "join", "limits": limits, "name": name, "reach": reach})
+    let mut members = Map::new(alloc);
+    match put_limited_join(&mut members, alloc, name, reach, limits) {
+        Ok(()) => Ok(Value::Object(members)),
+        Err(refused) => {
+            drop(members);
+            Err(refused)
+        }
+    }
+}
+
+#[tactic(auto, unfolding(crate::specs::Reading::event_in, crate::specs::Reading::join_in))]
+fn put_limited_join(
+    members: &mut Map<String, Value>,
+    alloc: Global,
+    name: &CollectorName,
+    reach: &Reach,
+    limits: &OwnLimits,
+) -> Result<(), AllocError>
+    requires { members_view members.old.entries ≡ no_members }
+    ensures form { OnOk result (object (members_view members.new.entries) ≡ limited_join_data name.now reach.now limits.now) }
+    ensures reads_back { OnOk result (event_in (object (members_view members.new.entries)) ≡ Some (Event.Join name.now reach.now limits.now)) }
+{
+    put_event(members, alloc, "join")?;
+    put_written(members, alloc, "limits", limits)?;
+    put_written(members, alloc, "name", name)?;
+    put_written(members, alloc, "reach", reach)
 }
 
 #[tactic(auto, unfolding(crate::specs::Reading::event_in))]
