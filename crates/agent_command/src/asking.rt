@@ -56,7 +56,8 @@ where
                 tell_prometheus_heard(&self.rt, &self.is_prometheus_away);
                 Some(answer)
             }
-            Ok(_) => {
+            Ok(answer) => {
+                drop(answer);
                 self.miss_prometheus(Cause::Broken);
                 None
             }

@@ -106,10 +106,15 @@ where
         + Drop,
 {
     let places = places_at(rt, config)?;
-    match begun(rt, &places) {
-        Ok((listener, memory)) => Ok(run(rt, lookups, &listener, &places, memory)?),
+    let ended = match begun(rt, &places) {
+        Ok((listener, memory)) => match run(rt, lookups, &listener, &places, memory) {
+            Ok(()) => Ok(()),
+            Err(error) => Err(Fault::Machine(error)),
+        },
         Err(fault) => Err(fault),
-    }
+    };
+    drop(places);
+    ended
 }
 
 /// The listener, and what the state file says.

@@ -7,6 +7,7 @@ use agent_core::{Agent, Lasts, Report, Said, Serving};
 use agent_documents::list_of;
 use agent_lists::{JobList, Shelf};
 use agent_turns::{Heard, Outside, Posted};
+use lists::Text;
 use log::error;
 use logfmt::{Logfmt, Quoted};
 use scrape_client::Lookups;
@@ -65,13 +66,28 @@ impl<R: Wait> Edge<'_, R> {
     fn lists_of(&self, agent: &Agent) -> Result<Vec<JobList>, AllocError> {
         let names = self.jobs.names(&self.rt)?;
         let mut lists = Vec::new(self.alloc);
+        match self.add_lists(&mut lists, agent, names) {
+            Ok(()) => Ok(lists),
+            Err(error) => {
+                drop(lists);
+                Err(error)
+            }
+        }
+    }
+
+    fn add_lists(
+        &self,
+        lists: &mut Vec<JobList>,
+        agent: &Agent,
+        names: Vec<Text>,
+    ) -> Result<(), AllocError> {
         let mut index: u32 = 0;
         for job in names {
             let list = list_of(self.alloc, agent.targets(), agent.served(), index)?;
             lists.push(JobList { job, list })?;
             index = index.saturating_add(1);
         }
-        Ok(lists)
+        Ok(())
     }
 
     /// Puts the lists on the shelf, up to the end of the lease that begins at a time.

@@ -41,7 +41,11 @@ where
     /// What the allocator says of the lists of all jobs, which are asked for at a time.
     pub(crate) fn hear(&self, at: u64, takes: bool) -> Heard {
         match self.links() {
-            Some(links) => self.hear_of(at, takes, links.as_slice()),
+            Some(links) => {
+                let heard = self.hear_of(at, takes, links.as_slice());
+                drop(links);
+                heard
+            }
             None => Heard::Nothing,
         }
     }
@@ -61,10 +65,10 @@ where
         let mut gathering = Gathering::new(self.alloc);
         match self.gather(&mut gathering, at, takes, links) {
             Came::Added => Some(lists_of(gathering)),
-            Came::Other => None,
-            Came::Gone => Some(Heard::Gone),
-            Came::Unknown => Some(Heard::Unknown),
-            Came::Nothing => Some(Heard::Nothing),
+            other => {
+                drop(gathering);
+                without_lists(other)
+            }
         }
     }
 
@@ -77,7 +81,9 @@ where
         }
         match self.hear(at, false) {
             Heard::Lists(lists) => {
-                lists.head.epoch == head.epoch && lists.head.number == head.number
+                let is_same = lists.head.epoch == head.epoch && lists.head.number == head.number;
+                drop(lists);
+                is_same
             }
             Heard::Gone | Heard::Unknown | Heard::Nothing => false,
         }
@@ -94,9 +100,12 @@ where
         )?;
         if answer.status != 200 {
             tell_refused(&self.rt, answer.status);
+            drop(answer);
             return None;
         }
-        self.links_in(answer.body.as_slice())
+        let links = self.links_in(answer.body.as_slice());
+        drop(answer);
+        links
     }
 
     /// Reads which jobs there are, and notes their names: where the collector holds nothing, that is told of each of them.
@@ -104,7 +113,10 @@ where
         let links = read_jobs(self.alloc, body).ok()?;
         match self.note_jobs(links.as_slice()) {
             Ok(()) => Some(links),
-            Err(AllocError) => None,
+            Err(AllocError) => {
+                drop(links);
+                None
+            }
         }
     }
 
@@ -131,10 +143,22 @@ where
         let Some(answer) = self.list_answer(takes, link) else {
             return Came::Nothing;
         };
+        let came = self.add_answer(gathering, at, link, &answer);
+        drop(answer);
+        came
+    }
+
+    fn add_answer(
+        &self,
+        gathering: &mut Gathering,
+        at: u64,
+        link: &JobLink,
+        answer: &Answer,
+    ) -> Came {
         let body = answer.body.as_slice();
-        match saying_of(at, answer.status, heads_of(&answer), body) {
+        match saying_of(at, answer.status, heads_of(answer), body) {
             Saying::List(head, until) => {
-                self.note_round(&answer);
+                self.note_round(answer);
                 self.add_list(gathering, link, head, until, body)
             }
             Saying::Gone => Came::Gone,
@@ -202,6 +226,7 @@ where
         if answer.status != 200 {
             tell_refused(&self.rt, answer.status);
         }
+        drop(answer);
         Some(())
     }
 
@@ -215,6 +240,16 @@ where
             Heard::Gone | Heard::Unknown => self.join(),
             Heard::Nothing => {}
         }
+    }
+}
+
+/// What it comes to where there are no lists of one head. None where they may be asked for again.
+fn without_lists(came: Came) -> Option<Heard> {
+    match came {
+        Came::Added | Came::Other => None,
+        Came::Gone => Some(Heard::Gone),
+        Came::Unknown => Some(Heard::Unknown),
+        Came::Nothing => Some(Heard::Nothing),
     }
 }
 

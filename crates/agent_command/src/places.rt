@@ -44,16 +44,25 @@ pub(crate) fn places_at<R: Files<File = File> + AllocGlobal>(
 ) -> Result<Places, Fault> {
     let document = read_document(rt, path)?;
     let settings = settings_in(rt.alloc(), path, document.as_slice())?;
-    let join = join_in(
-        rt.alloc(),
-        path,
-        settings.name.as_str(),
-        document.as_slice(),
-    )?;
-    match keys_at(rt, path, &settings.tokens) {
-        Ok(keys) => places_of(rt.alloc(), path, settings, keys, join),
-        Err(fault) => Err(fault),
+    match join_and_keys(rt, path, document.as_slice(), &settings) {
+        Ok((join, keys)) => places_of(rt.alloc(), path, settings, keys, join),
+        Err(fault) => {
+            drop(settings);
+            Err(fault)
+        }
     }
+}
+
+/// With which body the collector of a document joins, if by itself, and which tokens are shown.
+fn join_and_keys<R: Files<File = File> + AllocGlobal>(
+    rt: &R,
+    path: &str,
+    document: &[u8],
+    settings: &Settings,
+) -> Result<(Option<Text>, Keys), Fault> {
+    let join = join_in(rt.alloc(), path, settings.name.as_str(), document)?;
+    let keys = keys_at(rt, path, &settings.tokens)?;
+    Ok((join, keys))
 }
 
 fn read_document<R: Files<File = File> + AllocGlobal>(
@@ -128,7 +137,10 @@ fn places_of(
                 join,
             })
         }
-        Err(fault) => Err(fault),
+        Err(fault) => {
+            drop((settings, keys, join));
+            Err(fault)
+        }
     }
 }
 

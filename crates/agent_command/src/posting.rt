@@ -58,11 +58,11 @@ where
     fn post_text(&self, path: &str, body: &str) -> Posted {
         let key = &self.places.keys.allocator;
         match self.ask_allocator(key, Method::Post, path, body.as_bytes()) {
-            Some(answer) => read_posted(
-                self.alloc,
-                answer.status,
-                answer.body.as_slice(),
-            ).unwrap_or(Posted::Unknown),
+            Some(answer) => {
+                let posted = read_posted(self.alloc, answer.status, answer.body.as_slice());
+                drop(answer);
+                posted.unwrap_or(Posted::Unknown)
+            }
             None => Posted::Unknown,
         }
     }

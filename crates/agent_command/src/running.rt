@@ -52,8 +52,13 @@ where
         + Copy
         + Drop,
 {
-    let gate = Gate::new(rt.alloc(), CONNECTIONS, Times::DEFAULT)?;
-    let shelf = shelf_of(rt)?;
+    let (gate, shelf) = match shared_of(rt) {
+        Ok(found) => found,
+        Err(error) => {
+            drop(memory);
+            return Err(error.into());
+        }
+    };
     let is_over = AtomicBool::new(false);
     let mut agent = Agent::new(rt.alloc(), memory, places.lease);
     log_address(rt, listener);
@@ -62,6 +67,7 @@ where
         || serve_then_stop(rt, &gate, listener, &shelf, &is_over),
         || make_turns(rt, lookups, &shelf, places, &mut agent, &is_over),
     );
+    drop((agent, shelf, gate));
     served
 }
 
@@ -85,6 +91,13 @@ where
     let served = serve_lists(rt, gate, listener, shelf);
     is_over.store(true, Ordering::SeqCst);
     served
+}
+
+/// What the two threads share.
+fn shared_of<R: AllocGlobal>(rt: &R) -> Result<(Gate, Arc<Shelf>), AllocError> {
+    let shelf = shelf_of(rt)?;
+    let gate = Gate::new(rt.alloc(), CONNECTIONS, Times::DEFAULT)?;
+    Ok((gate, shelf))
 }
 
 fn shelf_of<R: AllocGlobal>(rt: &R) -> Result<Arc<Shelf>, AllocError> {

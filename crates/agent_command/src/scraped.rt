@@ -28,8 +28,13 @@ where
     /// What Prometheus says of its scrapes.
     pub(crate) fn scrapes(&self) -> Option<Said> {
         let up = self.points("up")?;
-        let samples = self.points("scrape_samples_scraped")?;
-        read_said(self.alloc, up.body.as_slice(), samples.body.as_slice()).ok()
+        let Some(samples) = self.points("scrape_samples_scraped") else {
+            drop(up);
+            return None;
+        };
+        let said = read_said(self.alloc, up.body.as_slice(), samples.body.as_slice());
+        drop((up, samples));
+        said.ok()
     }
 
     /// The points of a metric.
@@ -52,13 +57,14 @@ where
     pub(crate) fn is_let_go(&self, agent: &Agent) -> bool {
         match self.scraped() {
             Some(scraped) => {
-                lets_go(
+                let lets_go = lets_go(
                     self.alloc,
                     agent.targets(),
                     agent.served(),
                     scraped.as_slice(),
-                )
-                .unwrap_or(false)
+                );
+                drop(scraped);
+                lets_go.unwrap_or(false)
             }
             None => false,
         }
@@ -67,7 +73,9 @@ where
     /// The series that Prometheus scrapes.
     fn scraped(&self) -> Option<Vec<Series>> {
         let answer = self.active()?;
-        read_active(self.alloc, answer.body.as_slice()).ok()
+        let series = read_active(self.alloc, answer.body.as_slice());
+        drop(answer);
+        series.ok()
     }
 
     /// What Prometheus says of the last scrapes of the series that an agent's targets share. Where none do it is not asked.
@@ -82,19 +90,33 @@ where
 
     fn lasts_of(&self, targets: &[Listed]) -> Option<Lasts> {
         let active = self.active()?;
+        let lasts = self.lasts_in(targets, active.body.as_slice());
+        drop(active);
+        lasts
+    }
+
+    fn lasts_in(&self, targets: &[Listed], active: &[u8]) -> Option<Lasts> {
         let durations = self.durations()?;
+        let lasts = self.lasts_by(targets, active, &durations);
+        drop(durations);
+        lasts
+    }
+
+    fn lasts_by(&self, targets: &[Listed], active: &[u8], durations: &Durations) -> Option<Lasts> {
         let jobs = self.jobs.names(&self.rt).ok()?;
         let known = Known {
             jobs: jobs.as_slice(),
-            durations: &durations,
+            durations,
         };
-        read_lasts(self.alloc, known, targets, active.body.as_slice()).ok()
+        read_lasts(self.alloc, known, targets, active).ok()
     }
 
     /// How long the scrapes lasted that Prometheus stored.
     fn durations(&self) -> Option<Durations> {
         let answer = self.points("scrape_duration_seconds")?;
-        read_durations(self.alloc, answer.body.as_slice()).ok()
+        let durations = read_durations(self.alloc, answer.body.as_slice());
+        drop(answer);
+        durations.ok()
     }
 
     /// What Prometheus says of the targets that it scrapes.

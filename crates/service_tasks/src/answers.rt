@@ -13,10 +13,8 @@ pub(crate) enum Came {
     Reply(Reply),
     /// There is no answer.
     Nothing(Cause),
-    /// These are its files.
-    Files(List<FileText>),
-    /// Its files cannot be read.
-    NoFiles(FilesFault),
+    /// These are its files, or why they cannot be read.
+    Files(Result<List<FileText>, FilesFault>),
 }
 
 /// Why a source gave no list.
@@ -27,51 +25,76 @@ pub(crate) enum Failure {
     Files(FilesFault),
 }
 
-impl Came {
-    /// What the job's source of this number lists. The job's rules are compiled for each refresh.
-    pub(crate) fn list(self, alloc: Global, job: &Job, number: u32) -> Result<Listing, Failure> {
-        match self {
-            Came::Reply(reply) => list_in_reply(alloc, job, number, reply),
-            Came::Nothing(cause) => Err(Failure::Nothing(cause)),
-            Came::Files(files) => list_in_files(alloc, job, number, files.as_slice()),
-            Came::NoFiles(fault) => Err(Failure::Files(fault)),
-        }
-    }
-}
-
-fn list_in_reply(alloc: Global, job: &Job, number: u32, reply: Reply) -> Result<Listing, Failure> {
-    let fetched: Result<Reply, FetchFault> = Ok(reply);
+/// What the job's source of this number lists by its answer. The job's rules are compiled for each.
+pub(crate) fn list_in_reply(
+    alloc: Global,
+    job: &Job,
+    number: u32,
+    fetched: &Result<Reply, FetchFault>,
+) -> Result<Listing, Failure> {
     match Rules::read(alloc, job.rules.as_slice()) {
-        Ok(rules) => match heard(alloc, job, &rules, number, &fetched) {
-            Ok(listing) => Ok(listing),
-            Err(error) => Err(Failure::Refused(error)),
-        },
+        Ok(rules) => {
+            let listing = heard(alloc, job, &rules, number, fetched);
+            drop(rules);
+            match listing {
+                Ok(listing) => Ok(listing),
+                Err(error) => Err(Failure::Refused(error)),
+            }
+        }
         Err(_) => Err(Failure::Nothing(Cause::Memory)),
     }
 }
 
-fn list_in_files(
+/// What the job's source of this number lists by its files.
+pub(crate) fn list_in_files(
+    alloc: Global,
+    job: &Job,
+    number: u32,
+    files: Result<List<FileText>, FilesFault>,
+) -> Result<Listing, Failure> {
+    match files {
+        Ok(files) => {
+            let list = list_in(alloc, job, number, files.as_slice());
+            drop(files);
+            list
+        }
+        Err(fault) => Err(Failure::Files(fault)),
+    }
+}
+
+fn list_in(
     alloc: Global,
     job: &Job,
     number: u32,
     files: &[FileText],
 ) -> Result<Listing, Failure> {
-    match (
-        Rules::read(alloc, job.rules.as_slice()),
-        groups_of_files(alloc, files),
-    ) {
-        (Ok(rules), Ok(groups)) => match listed_in_files(
-            alloc,
-            job,
-            &rules,
-            number,
-            groups.as_slice(),
-        ) {
-            Ok(listing) => Ok(listing),
-            Err(AllocError) => Err(Failure::Nothing(Cause::Memory)),
-        },
-        (Ok(_), Err(fault)) => Err(Failure::Files(fault)),
-        (Err(_), _) => Err(Failure::Nothing(Cause::Memory)),
+    match Rules::read(alloc, job.rules.as_slice()) {
+        Ok(rules) => {
+            let list = list_by_rules(alloc, job, &rules, number, files);
+            drop(rules);
+            list
+        }
+        Err(_) => Err(Failure::Nothing(Cause::Memory)),
+    }
+}
+
+fn list_by_rules(
+    alloc: Global,
+    job: &Job,
+    rules: &Rules,
+    number: u32,
+    files: &[FileText],
+) -> Result<Listing, Failure> {
+    match groups_of_files(alloc, files) {
+        Ok(groups) => {
+            let listing = listed_in_files(alloc, job, rules, number, groups.as_slice());
+            drop(groups);
+            match listing {
+                Ok(listing) => Ok(listing),
+                Err(AllocError) => Err(Failure::Nothing(Cause::Memory)),
+            }
+        }
+        Err(fault) => Err(Failure::Files(fault)),
     }
 }
 

@@ -198,6 +198,17 @@ fn is_member(members: &[Member], collector: CollectorId) -> bool {
 
 /// What a desk says of its collectors. Those that left are looked for once.
 fn roll_of(alloc: Global, core: &Core, attendance: &Attendance) -> Result<Roll, AllocError> {
+    let live = live_of(alloc, core)?;
+    let left = left_of(alloc, core, attendance)?;
+    let newcomers = newcomers_of(alloc, core, attendance)?;
+    Ok(Roll {
+        live,
+        left,
+        newcomers,
+    })
+}
+
+fn live_of(alloc: Global, core: &Core) -> Result<Vec<Member>, AllocError> {
     let collectors = core.fleet().collectors();
     let mut live = Vec::with_capacity(alloc, collectors.len())?;
     for collector in collectors {
@@ -206,16 +217,20 @@ fn roll_of(alloc: Global, core: &Core, attendance: &Attendance) -> Result<Roll, 
             draining: collector.draining,
         })?;
     }
+    Ok(live)
+}
+
+/// Those that left, where nobody looked for them yet.
+fn left_of(
+    alloc: Global,
+    core: &Core,
+    attendance: &Attendance,
+) -> Result<Vec<CollectorId>, AllocError> {
     let mut left = Vec::new(alloc);
     if !attendance.is_begun {
         add_left(&mut left, core)?;
     }
-    let newcomers = newcomers_of(alloc, core, attendance)?;
-    Ok(Roll {
-        live,
-        left,
-        newcomers,
-    })
+    Ok(left)
 }
 
 /// The live collectors that were not seen yet, with their names.
@@ -287,15 +302,27 @@ impl<R: Wait + Clock + Eprint + Copy, L: Ledger, B: Ledger, N: DeskName> Shared<
         let alloc = self.alloc;
         let seen = &*attendance;
         let roll = self.desk.read(&self.rt, pass, |record| roll_of(alloc, record.core(), seen))?;
+        let noted = self.note_roll(attendance, &roll, now);
+        if noted.is_ok() {
+            self.let_go_of_absent(pass, attendance, now);
+            self.tell_short_timeouts(attendance);
+            for member in roll.live.iter() {
+                self.follow_member(pass, attendance, *member, now);
+            }
+        }
+        drop(roll);
+        noted
+    }
+
+    fn note_roll(
+        &self,
+        attendance: &mut Attendance,
+        roll: &Roll,
+        now: Instant,
+    ) -> Result<(), AllocError> {
         let heirs = self.heirs_of(roll.newcomers.as_slice())?;
         let takers = self.state.take_takers(&self.rt);
-        attendance.note(alloc, &roll, heirs.as_slice(), takers.as_slice(), now)?;
-        self.let_go_of_absent(pass, attendance, now);
-        self.tell_short_timeouts(attendance);
-        for member in roll.live.iter() {
-            self.follow_member(pass, attendance, *member, now);
-        }
-        Ok(())
+        attendance.note(self.alloc, roll, heirs.as_slice(), takers.as_slice(), now)
     }
 
     fn let_go_of_absent(
@@ -350,6 +377,7 @@ impl<R: Wait + Clock + Eprint + Copy, L: Ledger, B: Ledger, N: DeskName> Shared<
         if let Some(answer) = self.enter(pass, Event::Release { collector, job }) {
             warn!(Logfmt(self.rt); collector; "a collector asked for nothing for long: its lists count as let go");
             self.log_of_number(collector, &answer);
+            drop(answer);
         }
     }
 
@@ -395,13 +423,13 @@ impl<R: Wait + Clock + Eprint + Copy, L: Ledger, B: Ledger, N: DeskName> Shared<
         collector: CollectorId,
         event: Event,
     ) {
-        match self.enter(pass, event) {
-            Some(Answer::Not(_)) | None => {}
-            Some(answer) => {
+        if let Some(answer) = self.enter(pass, event) {
+            if !matches!(&answer, Answer::Not(_)) {
                 self.note_dismissal(attendance, collector, &answer);
                 self.log_absence(collector);
                 self.log_of_number(collector, &answer);
             }
+            drop(answer);
         }
     }
 

@@ -69,7 +69,9 @@ impl<R: Wait + Clock + Eprint + Copy, L: Ledger, B: Ledger, N: DeskName> Shared<
     ) -> Result<(), AllocError> {
         for (place, job) in jobs.iter().enumerate() {
             let targets = static_targets(self.alloc, job)?;
-            if !self.has_static_targets(pass, place, targets.as_slice()) {
+            if self.has_static_targets(pass, place, targets.as_slice()) {
+                drop(targets);
+            } else {
                 self.enter_static_targets(pass, job, targets)?;
             }
         }
@@ -82,8 +84,15 @@ impl<R: Wait + Clock + Eprint + Copy, L: Ledger, B: Ledger, N: DeskName> Shared<
         job: &Job,
         targets: List<Target>,
     ) -> Result<(), AllocError> {
+        let name = match job.name.copy() {
+            Ok(name) => name,
+            Err(error) => {
+                drop(targets);
+                return Err(error);
+            }
+        };
         let event = Event::Discover {
-            job: job.name.copy()?,
+            job: name,
             source: 0,
             targets,
         };
@@ -147,7 +156,11 @@ fn static_targets(alloc: Global, job: &Job) -> Result<List<Target>, AllocError> 
 /// What is found in the static groups of a job whose rules can be read.
 pub fn found_in_static_groups(alloc: Global, job: &Job) -> Result<Found, AllocError> {
     match Rules::read(alloc, job.rules.as_slice()) {
-        Ok(rules) => rules.discover(alloc, job, 0, job.static_groups.as_slice()),
+        Ok(rules) => {
+            let found = rules.discover(alloc, job, 0, job.static_groups.as_slice());
+            drop(rules);
+            found
+        }
         Err(_) => Err(AllocError),
     }
 }

@@ -20,22 +20,34 @@ impl<R: Wait + Clock + Eprint + Copy, L: Ledger, B: Ledger, N: DeskName> Shared<
         if changes.dropped > 0 {
             self.log_dropped(changes.dropped);
         }
+        drop(changes);
     }
 
     /// Logs a change with who asked for it: one that was refused as a warning.
     fn log_change(&self, note: &ChangeNote) {
-        let Ok(peer) = peer_of(self.alloc, note) else {
-            return;
-        };
-        let peer = Quoted(peer.as_str());
+        if let Ok(peer) = peer_of(self.alloc, note) {
+            if note.is_refused() {
+                self.log_refused_change(note, peer.as_str());
+            } else {
+                self.log_made_change(note, peer.as_str());
+            }
+        }
+    }
+
+    fn log_refused_change(&self, note: &ChangeNote, peer: &str) {
+        let peer = Quoted(peer);
         let collector = Quoted(note.collector.as_str());
         let answer = Quoted(note.answer.as_str());
         let what = note.what.name();
-        if note.is_refused() {
-            warn!(Logfmt(self.rt); collector:% = collector, answer:% = answer, peer:% = peer; "{what} over HTTP");
-        } else {
-            info!(Logfmt(self.rt); collector:% = collector, answer:% = answer, peer:% = peer; "{what} over HTTP");
-        }
+        warn!(Logfmt(self.rt); collector:% = collector, answer:% = answer, peer:% = peer; "{what} over HTTP");
+    }
+
+    fn log_made_change(&self, note: &ChangeNote, peer: &str) {
+        let peer = Quoted(peer);
+        let collector = Quoted(note.collector.as_str());
+        let answer = Quoted(note.answer.as_str());
+        let what = note.what.name();
+        info!(Logfmt(self.rt); collector:% = collector, answer:% = answer, peer:% = peer; "{what} over HTTP");
     }
 
     fn log_dropped(&self, changes: u64) {

@@ -3,9 +3,6 @@ use alloc_desk::{DeskName, Pass};
 use std::alloc::{AllocError, Global};
 use std::sync::ledger::Ledger;
 
-/// How many passes a crew has.
-const SEATS: usize = 3;
-
 /// The passes of a desk's threads beside its server: of the schedule, of the journal's keeper, and of the refresher.
 #[derive(Drop)]
 pub struct Crew<L: Ledger, B: Ledger, N: DeskName> {
@@ -17,6 +14,12 @@ pub struct Crew<L: Ledger, B: Ledger, N: DeskName> {
 impl<L: Ledger, B: Ledger, N: DeskName> Crew<L, B, N> {
     /// A crew with these passes, where there is one for each.
     pub fn muster(mut passes: Vec<Pass<L, B, N>>) -> Option<Crew<L, B, N>> {
+        let crew = Crew::of(&mut passes);
+        drop(passes);
+        crew
+    }
+
+    fn of(passes: &mut Vec<Pass<L, B, N>>) -> Option<Crew<L, B, N>> {
         let scheduler = passes.pop()?;
         let keeper = passes.pop()?;
         let refresher = passes.pop()?;
@@ -29,10 +32,6 @@ impl<L: Ledger, B: Ledger, N: DeskName> Crew<L, B, N> {
 
     /// Gives the passes back.
     pub fn dismiss(self, alloc: Global) -> Result<Vec<Pass<L, B, N>>, AllocError> {
-        let mut passes = Vec::with_capacity(alloc, SEATS)?;
-        passes.push(self.refresher)?;
-        passes.push(self.keeper)?;
-        passes.push(self.scheduler)?;
-        Ok(passes)
+        Ok(vec![in alloc; self.refresher, self.keeper, self.scheduler]?)
     }
 }

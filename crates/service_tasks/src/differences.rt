@@ -32,9 +32,14 @@ pub(crate) fn line_of_differences(
     match collector_differences(alloc, collectors.0, collectors.1) {
         Ok(of_collectors) => {
             let counts = (jobs.0.len(), jobs.1.len());
-            line_of(alloc, counts, &of_jobs, &of_collectors)
+            let line = line_of(alloc, counts, &of_jobs, &of_collectors);
+            drop((of_jobs, of_collectors));
+            line
         }
-        Err(error) => Err(error),
+        Err(error) => {
+            drop(of_jobs);
+            Err(error)
+        }
     }
 }
 
@@ -109,6 +114,20 @@ fn job_differences(
     after: &[JobText],
 ) -> Result<Differences, AllocError> {
     let mut found = Differences::none(alloc);
+    match add_jobs(&mut found, before, after) {
+        Ok(()) => Ok(found),
+        Err(error) => {
+            drop(found);
+            Err(error)
+        }
+    }
+}
+
+fn add_jobs(
+    found: &mut Differences,
+    before: &[JobText],
+    after: &[JobText],
+) -> Result<(), AllocError> {
     for job in before {
         if job_named(after, job.name.as_str()).is_none() {
             found.removed.push(job.name.copy()?)?;
@@ -121,7 +140,7 @@ fn job_differences(
             None => found.added.push(job.name.copy()?)?,
         }
     }
-    Ok(found)
+    Ok(())
 }
 
 fn job_named<'a>(jobs: &'a [JobText], name: &str) -> Option<&'a JobText> {
@@ -139,6 +158,21 @@ fn collector_differences(
     after: &[Collector],
 ) -> Result<Differences, AllocError> {
     let mut found = Differences::none(alloc);
+    match add_collectors(alloc, &mut found, before, after) {
+        Ok(()) => Ok(found),
+        Err(error) => {
+            drop(found);
+            Err(error)
+        }
+    }
+}
+
+fn add_collectors(
+    alloc: Global,
+    found: &mut Differences,
+    before: &[Collector],
+    after: &[Collector],
+) -> Result<(), AllocError> {
     for collector in before {
         if collector_named(after, collector.name.as_str()).is_none() {
             let name = Text::from_str(alloc, collector.name.as_str())?;
@@ -147,9 +181,9 @@ fn collector_differences(
     }
     for collector in after {
         let former = collector_named(before, collector.name.as_str());
-        add_collector(alloc, &mut found, former, collector)?;
+        add_collector(alloc, found, former, collector)?;
     }
-    Ok(found)
+    Ok(())
 }
 
 fn add_collector(

@@ -18,6 +18,7 @@ impl<R: Wait + Clock + Eprint + Copy, L: Ledger, B: Ledger, N: DeskName> Shared<
     /// nothing is entered any more, or it is logged.
     pub(crate) fn enter(&self, pass: &mut Pass<L, B, N>, event: Event) -> Option<Answer> {
         if self.is_broken() {
+            drop(event);
             return None;
         }
         let kind = EventKind::of(&event);
@@ -47,6 +48,7 @@ impl<R: Wait + Clock + Eprint + Copy, L: Ledger, B: Ledger, N: DeskName> Shared<
         match self.enter(pass, event) {
             Some(answer) => {
                 self.log_of_name(collector, &answer);
+                drop(answer);
                 true
             }
             None => false,
@@ -63,6 +65,7 @@ impl<R: Wait + Clock + Eprint + Copy, L: Ledger, B: Ledger, N: DeskName> Shared<
         match self.enter(pass, event) {
             Some(answer) => {
                 self.log_of_number(collector, &answer);
+                drop(answer);
                 true
             }
             None => false,
@@ -93,7 +96,9 @@ impl<R: Wait + Clock + Eprint + Copy, L: Ledger, B: Ledger, N: DeskName> Shared<
         match self.enter(pass, event) {
             Some(answer) => {
                 self.log_of_source(source, &answer);
-                Some(is_refused(&answer))
+                let refused = is_refused(&answer);
+                drop(answer);
+                Some(refused)
             }
             None => None,
         }

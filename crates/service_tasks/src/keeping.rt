@@ -63,7 +63,11 @@ impl<R: Wait + Clock + Eprint + Copy, L: Ledger, B: Ledger, N: DeskName> Shared<
         for _ in self.rt.forever() {
             let is_last = keeper.is_last.load(Ordering::SeqCst);
             let step = match self.news(keeper, written) {
-                Ok(news) => self.keep_news(keeper, written, &news),
+                Ok(news) => {
+                    let kept = self.keep_news(keeper, written, &news);
+                    drop(news);
+                    kept
+                }
                 Err(AllocError) => self.wait_for_memory(is_last),
             };
             match step {
@@ -88,9 +92,12 @@ impl<R: Wait + Clock + Eprint + Copy, L: Ledger, B: Ledger, N: DeskName> Shared<
         let entries = self
             .desk
             .entries(&self.rt, self.alloc, keeper.pass, from, MOST_AT_ONCE)?;
+        let lines = journal_lines(self.alloc, keeper.file.chain, entries.as_slice());
+        let count = entries.len();
+        drop(entries);
         Ok(News {
-            entries: entries.len(),
-            lines: journal_lines(self.alloc, keeper.file.chain, entries.as_slice())?,
+            entries: count,
+            lines: lines?,
         })
     }
 

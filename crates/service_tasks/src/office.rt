@@ -50,19 +50,22 @@ impl<S: FetchSeveral + Drop, F: Drop, C: Configuration + Drop> Office<S, F, C> {
             Ok(parts) => Ok(Office {
                 listener,
                 connections: service.connections,
-                pages: parts.pages,
-                doors: parts.doors,
+                pages: parts.shares.pages,
+                doors: parts.shares.doors,
                 state: parts.state,
-                schedule: Schedule::new(alloc, parts.start, parts.job_texts, configuration),
+                schedule: Schedule::new(alloc, parts.start, parts.shares.job_texts, configuration),
                 watch: Watch {
                     device,
-                    jobs: parts.jobs,
+                    jobs: parts.shares.jobs,
                     sources: parts.sources,
                 },
                 journal,
                 is_new: true,
             }),
-            Err(error) => Err(error),
+            Err(error) => {
+                drop((listener, journal, device, configuration));
+                Err(error)
+            }
         }
     }
 
@@ -75,7 +78,7 @@ impl<S: FetchSeveral + Drop, F: Drop, C: Configuration + Drop> Office<S, F, C> {
     /// Remembers for the next journal the names that collectors have or had. Where there is no memory for them those from before stay.
     pub fn remember_names(&mut self, rt: &impl Wait, alloc: Global) {
         if let Ok(names) = self.state.names(rt, alloc) {
-            self.journal.names = names;
+            drop(std::mem::replace(&mut self.journal.names, names));
         }
     }
 
@@ -105,13 +108,27 @@ impl<S: FetchSeveral + Drop, F: Drop, C: Configuration + Drop> Office<S, F, C> {
         service: &Service,
         sources: Vec<Source>,
     ) -> Result<(), AllocError> {
+        match self.share(service, sources.len() as u64) {
+            Ok(()) => {
+                let sources = Sources::new(sources);
+                drop(std::mem::replace(&mut self.watch.sources, sources));
+                self.is_new = true;
+                Ok(())
+            }
+            Err(error) => {
+                drop(sources);
+                Err(error)
+            }
+        }
+    }
+
+    /// Shares what another configuration has, with so many sources.
+    fn share(&mut self, service: &Service, sources: u64) -> Result<(), AllocError> {
         self.pages = Arc::try_clone(&service.pages)?;
         self.doors = Arc::try_clone(&service.doors)?;
         self.connections = service.connections;
-        self.state.await_sources(sources.len() as u64);
+        self.state.await_sources(sources);
         self.watch.jobs = Arc::try_clone(&service.jobs)?;
-        self.watch.sources = Sources::new(sources);
-        self.is_new = true;
         Ok(())
     }
 }
@@ -119,13 +136,34 @@ impl<S: FetchSeveral + Drop, F: Drop, C: Configuration + Drop> Office<S, F, C> {
 /// What an office has of its service when it begins.
 #[derive(Drop)]
 struct Parts {
-    pages: Arc<ConfigPages>,
-    doors: Arc<Admission>,
     state: Arc<ServiceState>,
     start: RoundStart,
+    shares: Shares,
+    sources: Sources,
+}
+
+/// What an office shares with its service.
+#[derive(Drop)]
+struct Shares {
+    pages: Arc<ConfigPages>,
+    doors: Arc<Admission>,
     job_texts: Arc<List<JobText>>,
     jobs: Arc<List<Job>>,
-    sources: Sources,
+}
+
+impl Shares {
+    fn of(service: &Service) -> Result<Shares, AllocError> {
+        let pages = Arc::try_clone(&service.pages)?;
+        let doors = Arc::try_clone(&service.doors)?;
+        let job_texts = Arc::try_clone(&service.job_texts)?;
+        let jobs = Arc::try_clone(&service.jobs)?;
+        Ok(Shares {
+            pages,
+            doors,
+            job_texts,
+            jobs,
+        })
+    }
 }
 
 impl Parts {
@@ -135,26 +173,26 @@ impl Parts {
         service: &Service,
         journal: &Journal<F>,
     ) -> io::Result<Parts> {
-        let pages = Arc::try_clone(&service.pages)?;
-        let doors = Arc::try_clone(&service.doors)?;
-        let state = state_of(rt, alloc, service)?;
-        for (name, id) in journal.names.iter() {
-            state.note_live(rt, name.as_str(), *id);
-        }
-        let state = Arc::new(alloc, state)?;
         let start = round_start(rt, service, journal.epoch)?;
-        let job_texts = Arc::try_clone(&service.job_texts)?;
-        let jobs = Arc::try_clone(&service.jobs)?;
-        let sources = Sources::new(sources_of(alloc, service)?);
-        Ok(Parts {
-            pages,
-            doors,
-            state,
-            start,
-            job_texts,
-            jobs,
-            sources,
-        })
+        let state = state_in(rt, alloc, service, journal)?;
+        match Shares::of(service) {
+            Ok(shares) => match sources_of(alloc, service) {
+                Ok(sources) => Ok(Parts {
+                    state,
+                    start,
+                    shares,
+                    sources: Sources::new(sources),
+                }),
+                Err(error) => {
+                    drop((state, shares));
+                    Err(error.into())
+                }
+            },
+            Err(error) => {
+                drop(state);
+                Err(error.into())
+            }
+        }
     }
 }
 
@@ -176,6 +214,20 @@ fn milliseconds_now<R: Clock>(rt: &R) -> Option<u64> {
     }
 }
 
+/// The state of a service that begins, with the names that its journal has.
+fn state_in<R: Clock + Wait, F>(
+    rt: &R,
+    alloc: Global,
+    service: &Service,
+    journal: &Journal<F>,
+) -> Result<Arc<ServiceState>, AllocError> {
+    let state = state_of(rt, alloc, service)?;
+    for (name, id) in journal.names.iter() {
+        state.note_live(rt, name.as_str(), *id);
+    }
+    Ok(Arc::new(alloc, state)?)
+}
+
 /// The state of a service that has tried none of its sources.
 fn state_of<R: Clock>(
     rt: &R,
@@ -192,7 +244,13 @@ fn state_of<R: Clock>(
     }
     state.set_version(service.version);
     if let Some(lost_lines) = &service.lost_lines {
-        state.set_log(Arc::try_clone(lost_lines)?);
+        match Arc::try_clone(lost_lines) {
+            Ok(lost_lines) => state.set_log(lost_lines),
+            Err(error) => {
+                drop(state);
+                return Err(error);
+            }
+        }
     }
     Ok(state)
 }

@@ -83,7 +83,9 @@ impl<R: Wait + Clock + Eprint + Copy, L: Ledger, B: Ledger, N: DeskName> Shared<
         ensures { IfOk result (λ changes. Reached N.opening pass.old (λ h. changes ≡ changes_at h.state)) }
     {
         let (instance, plan) = self.desk.certificate(&self.rt, pass)?;
-        changes_of(self.alloc, &instance, &plan)
+        let changes = changes_of(self.alloc, &instance, &plan);
+        drop((instance, plan));
+        changes
     }
 
     fn note_or_warn(
@@ -121,7 +123,10 @@ impl<R: Wait + Clock + Eprint + Copy, L: Ledger, B: Ledger, N: DeskName> Shared<
         moves: List<MoveNote>,
         milliseconds: u64,
     ) -> Result<(), AllocError> {
-        let at = timestamp(&self.rt, self.alloc).ok_or(AllocError)?;
+        let Some(at) = timestamp(&self.rt, self.alloc) else {
+            drop(moves);
+            return Err(AllocError);
+        };
         let more_moves = untold_moves(changes.moved, moves.as_slice());
         let note = AllocationNote {
             number,

@@ -1,7 +1,7 @@
 //! Collectors that ask for their list and are not live, or are drained since they were absent: they join anew.
 use crate::differences::collector_named;
 use crate::logging::log_warning;
-use crate::roster::{Roster, joining};
+use crate::roster::{Roster, join_of, joining};
 use crate::shared::Shared;
 use alloc_desk::{DeskName, Pass};
 use allocation_core::Core;
@@ -34,6 +34,7 @@ impl<R: Wait + Clock + Eprint + Copy, L: Ledger, B: Ledger, N: DeskName> Shared<
         for name in names.iter() {
             self.let_join(pass, roster, name.as_str());
         }
+        drop(names);
     }
 
     fn let_join(&self, pass: &mut Pass<L, B, N>, roster: &Roster, name: &str) {
@@ -84,6 +85,8 @@ impl<R: Wait + Clock + Eprint + Copy, L: Ledger, B: Ledger, N: DeskName> Shared<
         info!(Logfmt(self.rt); collector; "a collector that was absent asks again: it joins anew");
         if self.enter_numbered(pass, collector, Event::Leave(collector)) {
             self.enter_numbered(pass, collector, joins);
+        } else {
+            drop(joins);
         }
     }
 
@@ -112,13 +115,7 @@ fn joining_by(
     let Ok(name) = CollectorName::read(alloc, name) else {
         return Ok(None);
     };
-    let reach = pattern.reach.copy()?;
-    let limits = pattern.limits.copy()?;
-    Ok(Some(Event::Join {
-        name,
-        reach,
-        limits,
-    }))
+    Ok(Some(join_of(name, &pattern.reach, &pattern.limits)?))
 }
 
 /// The join of a live collector, once it has left.
@@ -126,13 +123,7 @@ fn joining_again(core: &Core, id: CollectorId) -> Result<Option<Event>, AllocErr
     for collector in core.fleet().collectors() {
         if collector.id == id {
             let name = collector.name.copy()?;
-            let reach = collector.reach.copy()?;
-            let limits = collector.limits.copy()?;
-            return Ok(Some(Event::Join {
-                name,
-                reach,
-                limits,
-            }));
+            return Ok(Some(join_of(name, &collector.reach, &collector.limits)?));
         }
     }
     Ok(None)

@@ -12,7 +12,7 @@ use crate::source::Source;
 use allocation_core::{Core, JobSpec, NotRenewed, ReportRounds};
 use durable_journal::{Archive, FirstLine, with_epoch};
 use http_get::FetchSeveral;
-use journal_files::with_names;
+use journal_files::{NamedCollector, with_names};
 use lists::copies;
 use replay_lines::{are_jobs_of, resume};
 use std::alloc::{AllocError, Global};
@@ -141,8 +141,13 @@ fn parts_of(
     service: &Service,
 ) -> io::Result<(Vec<JobSpec>, ReportRounds, Vec<Source>)> {
     let sources = sources_of(alloc, service)?;
-    let (jobs, report_rounds) = machine_of(alloc, service)?;
-    Ok((jobs, report_rounds, sources))
+    match machine_of(alloc, service) {
+        Ok((jobs, report_rounds)) => Ok((jobs, report_rounds, sources)),
+        Err(error) => {
+            drop(sources);
+            Err(error)
+        }
+    }
 }
 
 /// What the allocator of a service has: its jobs, and of how many rounds it books reports.
@@ -277,17 +282,39 @@ fn begin_journal<R: Clock + Eprint + Copy, F: Drop, A: Archive<F>>(
     let Some(file) = &mut journal.file else {
         return Ok(());
     };
-    let line = with_epoch(alloc, service.line().as_bytes(), journal.epoch)?;
-    let line = with_names(alloc, line.as_slice(), journal.names.as_slice())?;
-    let Some(first) = FirstLine::renewed(alloc, line.as_slice(), core)? else {
-        return Err(io::ErrorKind::InvalidData.into());
-    };
-    match archive.begin(&first) {
+    let first = first_line(
+        alloc,
+        service.line(),
+        journal.epoch,
+        journal.names.as_slice(),
+        core,
+    )?;
+    let begun = archive.begin(&first);
+    drop(first);
+    match begun {
         Ok(begun) => {
-            *file = JournalFile::begun(begun);
+            drop(std::mem::replace(file, JournalFile::begun(begun)));
             Ok(())
         }
         Err(error) => break_down(rt, file, error),
+    }
+}
+
+/// The first line of the journal of a renewed allocator.
+fn first_line(
+    alloc: Global,
+    line: &str,
+    epoch: u64,
+    names: &[NamedCollector],
+    core: &Core,
+) -> io::Result<FirstLine> {
+    let line = with_epoch(alloc, line.as_bytes(), epoch)?;
+    let named = with_names(alloc, line.as_slice(), names);
+    drop(line);
+    let named = named?;
+    match FirstLine::renewed(alloc, named.as_slice(), core)? {
+        Some(first) => Ok(first),
+        None => Err(io::ErrorKind::InvalidData.into()),
     }
 }
 

@@ -8,6 +8,7 @@ use fleet_events::{AllocationNumber, CollectorId, Event};
 use lists::{List, Plain};
 use log::info;
 use logfmt::{Logfmt, Quoted};
+use reach_rules::{CollectorName, OwnLimits, Reach};
 use service_settings::{Collector, JoiningPattern, ReachChanges, Settings};
 use std::alloc::{AllocError, Global};
 use std::sync::Wait;
@@ -88,6 +89,20 @@ impl Roster {
         self.patterns.as_slice()
     }
 
+    /// Has the configuration that is followed name these.
+    fn list(
+        &mut self,
+        alloc: Global,
+        collectors: &[Collector],
+        patterns: &[JoiningPattern],
+    ) -> Result<(), AllocError> {
+        let patterns = patterns_copied(alloc, patterns)?;
+        drop(std::mem::replace(&mut self.patterns, patterns));
+        let listed = all_copied(alloc, collectors)?;
+        drop(std::mem::replace(&mut self.listed, listed));
+        Ok(())
+    }
+
     fn is_departing(&self, name: &str) -> bool {
         self.departures
             .iter()
@@ -116,7 +131,8 @@ impl Roster {
         for departure in &mut self.departures {
             match collector_named(collectors, departure.collector.name.as_str()) {
                 Some(collector) => {
-                    departure.collector = copied(collector)?;
+                    let next = copied(collector)?;
+                    drop(std::mem::replace(&mut departure.collector, next));
                     departure.returns = true;
                 }
                 None => departure.returns = false,
@@ -154,9 +170,7 @@ impl<R: Wait + Clock + Eprint + Copy, L: Ledger, B: Ledger, N: DeskName> Shared<
         for collector in next {
             self.follow_collector(pass, settings.reach_changes, roster, collector)?;
         }
-        roster.patterns = patterns_copied(self.alloc, settings.join_by_asking.as_slice())?;
-        roster.listed = all_copied(self.alloc, next)?;
-        Ok(())
+        roster.list(self.alloc, next, settings.join_by_asking.as_slice())
     }
 
     /// Drains those that the configuration named before and names no longer.
@@ -167,15 +181,28 @@ impl<R: Wait + Clock + Eprint + Copy, L: Ledger, B: Ledger, N: DeskName> Shared<
         next: &[Collector],
     ) -> Result<(), AllocError> {
         let before = all_copied(self.alloc, roster.listed())?;
-        for collector in before.into_vec() {
+        let drained = self.drain_unlisted(pass, roster, before.as_slice(), next);
+        drop(before);
+        drained
+    }
+
+    /// Drains those of these collectors that the configuration does not name and that are not drained yet.
+    fn drain_unlisted(
+        &self,
+        pass: &mut Pass<L, B, N>,
+        roster: &mut Roster,
+        before: &[Collector],
+        next: &[Collector],
+    ) -> Result<(), AllocError> {
+        for collector in before {
             let name = collector.name.as_str();
             if collector_named(next, name).is_some() || roster.is_departing(name) {
                 continue;
             }
-            if let Some(standing) = self.standing(pass, &collector) {
+            if let Some(standing) = self.standing(pass, collector) {
                 self.log_unlisted(name);
                 self.drain(pass, name, standing)?;
-                roster.begin_departure(collector, false)?;
+                roster.begin_departure(copied(collector)?, false)?;
             }
         }
         Ok(())
@@ -395,24 +422,52 @@ fn holding_of(core: &Core, name: &str) -> Option<Holding> {
 /// The join of a collector.
 pub(crate) fn joining(collector: &Collector) -> Result<Event, AllocError> {
     let name = collector.name.copy()?;
-    let reach = collector.reach.copy()?;
-    let limits = collector.limits.copy()?;
-    Ok(Event::Join {
-        name,
-        reach,
-        limits,
-    })
+    join_of(name, &collector.reach, &collector.limits)
+}
+
+/// The join of a collector of this name with copies of a reach and of limits.
+pub(crate) fn join_of(
+    name: CollectorName,
+    reach: &Reach,
+    limits: &OwnLimits,
+) -> Result<Event, AllocError> {
+    match both_copied(reach, limits) {
+        Ok((reach, limits)) => Ok(Event::Join {
+            name,
+            reach,
+            limits,
+        }),
+        Err(error) => {
+            drop(name);
+            Err(error)
+        }
+    }
 }
 
 fn copied(collector: &Collector) -> Result<Collector, AllocError> {
     let name = collector.name.copy()?;
-    let reach = collector.reach.copy()?;
-    let limits = collector.limits.copy()?;
-    Ok(Collector {
-        name,
-        reach,
-        limits,
-    })
+    match both_copied(&collector.reach, &collector.limits) {
+        Ok((reach, limits)) => Ok(Collector {
+            name,
+            reach,
+            limits,
+        }),
+        Err(error) => {
+            drop(name);
+            Err(error)
+        }
+    }
+}
+
+fn both_copied(reach: &Reach, limits: &OwnLimits) -> Result<(Reach, OwnLimits), AllocError> {
+    let reach = reach.copy()?;
+    match limits.copy() {
+        Ok(limits) => Ok((reach, limits)),
+        Err(error) => {
+            drop(reach);
+            Err(error)
+        }
+    }
 }
 
 fn patterns_copied(

@@ -164,6 +164,7 @@ impl<R: Wait + Clock + Eprint + Copy, L: Ledger, B: Ledger, N: DeskName> Shared<
         if matches!(answer, Answer::Not(_)) {
             self.log_refused_round(&answer);
         }
+        drop(answer);
     }
 
     /// For how long the round is open that follows one which is open for so long. Where rounds were missed it begins now.

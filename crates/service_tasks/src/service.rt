@@ -75,26 +75,44 @@ impl Service {
         config: Config,
         settings: Settings,
     ) -> Result<Service, ServiceError> {
-        match parts_of(alloc, line.as_str(), &config, &settings) {
-            Ok((pages, sources)) => {
-                let job_texts = shared(alloc, job_texts_of(alloc, &config)?)?;
-                let jobs = shared(alloc, config.jobs)?;
-                let doors = shared(alloc, Admission::open())?;
+        match Parts::of(alloc, line.as_str(), &config, &settings) {
+            Ok(parts) => Service::with(alloc, line, config, settings, parts),
+            Err(error) => {
+                drop((line, config, settings));
+                Err(error)
+            }
+        }
+    }
+
+    /// A service of a configuration with these parts of it.
+    fn with(
+        alloc: Global,
+        line: Text,
+        config: Config,
+        settings: Settings,
+        parts: Parts,
+    ) -> Result<Service, ServiceError> {
+        drop(config.as_read);
+        match shared(alloc, config.jobs) {
+            Ok(jobs) => {
                 let connections = settings.connections;
                 Ok(Service {
                     line,
                     jobs,
-                    job_texts,
-                    pages,
-                    doors,
+                    job_texts: parts.job_texts,
+                    pages: parts.pages,
+                    doors: parts.doors,
                     settings,
                     version: "",
                     lost_lines: None,
                     connections,
-                    sources,
+                    sources: parts.sources,
                 })
             }
-            Err(error) => Err(error),
+            Err(error) => {
+                drop((line, settings, parts));
+                Err(error.into())
+            }
         }
     }
 
@@ -182,20 +200,54 @@ impl Service {
     }
 }
 
-/// The pages of a configuration whose rules can be read, and its sources.
-fn parts_of(
+/// What a service has of a configuration whose rules can be read.
+#[derive(Drop)]
+struct Parts {
+    pages: Arc<ConfigPages>,
+    job_texts: Arc<List<JobText>>,
+    doors: Arc<Admission>,
+    sources: Vec<SourceSettings>,
+}
+
+impl Parts {
+    fn of(
+        alloc: Global,
+        line: &str,
+        config: &Config,
+        settings: &Settings,
+    ) -> Result<Parts, ServiceError> {
+        check_rules(alloc, config.jobs.as_slice())?;
+        let sources = sources_of(alloc, settings)?;
+        let pages = pages_of(alloc, line, config, settings)?;
+        let job_texts = shared(alloc, job_texts_of(alloc, config)?)?;
+        let doors = shared(alloc, Admission::open())?;
+        Ok(Parts {
+            pages,
+            job_texts,
+            doors,
+            sources,
+        })
+    }
+}
+
+fn pages_of(
     alloc: Global,
     line: &str,
     config: &Config,
     settings: &Settings,
-) -> Result<(Arc<ConfigPages>, Vec<SourceSettings>), ServiceError> {
-    check_rules(alloc, config.jobs.as_slice())?;
-    let sources = sources_of(alloc, settings)?;
+) -> Result<Arc<ConfigPages>, AllocError> {
     let scrape_configs = collectors_text(alloc, line)?;
     let mut pages = ConfigPages::of(alloc, config, scrape_configs)?;
-    pages.acknowledge = copy_of(&settings.acknowledge)?;
-    let pages = shared(alloc, pages)?;
-    Ok((pages, sources))
+    match copy_of(&settings.acknowledge) {
+        Ok(acknowledge) => {
+            pages.acknowledge = acknowledge;
+            shared(alloc, pages)
+        }
+        Err(error) => {
+            drop(pages);
+            Err(error)
+        }
+    }
 }
 
 fn copy_of(text: &Option<Text>) -> Result<Option<Text>, AllocError> {
@@ -208,7 +260,18 @@ fn copy_of(text: &Option<Text>) -> Result<Option<Text>, AllocError> {
 /// The text of the scrape configs of a document as its collectors are to use them.
 fn collectors_text(alloc: Global, line: &str) -> Result<Text, AllocError> {
     match parse(alloc, line.as_bytes())? {
-        Some(document) => text_of(alloc, &collectors_configs(alloc, &document)?),
+        Some(document) => {
+            let text = match collectors_configs(alloc, &document) {
+                Ok(configs) => {
+                    let text = text_of(alloc, &configs);
+                    drop(configs);
+                    text
+                }
+                Err(error) => Err(error),
+            };
+            drop(document);
+            text
+        }
         None => Text::from_str(alloc, "{}"),
     }
 }
@@ -239,8 +302,9 @@ fn shared<T: Drop>(alloc: Global, value: T) -> Result<Arc<T>, AllocError> {
 /// Whether the rules of each job can be read.
 fn check_rules(alloc: Global, jobs: &[Job]) -> Result<(), ServiceError> {
     for (job, of) in jobs.iter().enumerate() {
-        if let Err(error) = Rules::read(alloc, of.rules.as_slice()) {
-            return Err(ServiceError::Rules { job, error });
+        match Rules::read(alloc, of.rules.as_slice()) {
+            Ok(rules) => drop(rules),
+            Err(error) => return Err(ServiceError::Rules { job, error }),
         }
     }
     Ok(())

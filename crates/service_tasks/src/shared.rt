@@ -5,7 +5,7 @@ use crate::office::Office;
 use crate::patience::Patience;
 use crate::service::Service;
 use alloc_desk::{Desk, DeskName, JobEvening};
-use service_settings::Spread;
+use service_settings::{JobSpread, Spread};
 use service_state::{Kept, ServiceState};
 use std::alloc::{AllocError, Global};
 use std::sync::atomic::{AtomicBool, AtomicU64};
@@ -53,26 +53,30 @@ impl<R: Wait + Copy, L: Ledger, B: Ledger, N: DeskName> Shared<R, L, B, N> {
         desk: Arc<Desk<L, B, N>>,
         kept: Option<Arc<Kept>>,
     ) -> Result<Shared<R, L, B, N>, AllocError> {
-        let state = Arc::try_clone(&office.state)?;
         let settings = &service.settings;
-        let by_job = evenings_of(alloc, settings.spreads.as_slice())?;
-        Ok(Shared {
-            rt: *rt,
-            alloc,
-            desk,
-            round: Duration::from_millis(settings.scrape_interval),
-            settle: Duration::from_millis(settings.settle),
-            spread: settings.spread,
-            by_job,
-            patience: Patience::of(settings),
-            rejoin: settings.rejoin,
-            give_up: Duration::from_millis(settings.give_up),
-            control: Control::new(),
-            state,
-            listed: AtomicU64::new(0),
-            is_long: AtomicBool::new(office.is_long()),
-            kept,
-        })
+        match parts_of(alloc, settings.spreads.as_slice(), &office.state) {
+            Ok((by_job, state)) => Ok(Shared {
+                rt: *rt,
+                alloc,
+                desk,
+                round: Duration::from_millis(settings.scrape_interval),
+                settle: Duration::from_millis(settings.settle),
+                spread: settings.spread,
+                by_job,
+                patience: Patience::of(settings),
+                rejoin: settings.rejoin,
+                give_up: Duration::from_millis(settings.give_up),
+                control: Control::new(),
+                state,
+                listed: AtomicU64::new(0),
+                is_long: AtomicBool::new(office.is_long()),
+                kept,
+            }),
+            Err(error) => {
+                drop((desk, kept));
+                Err(error)
+            }
+        }
     }
 
     /// Whether the service is to end. Else another desk follows.
@@ -91,4 +95,15 @@ impl<R: Wait + Copy, L: Ledger, B: Ledger, N: DeskName> Shared<R, L, B, N> {
     pub fn ending(&self) -> Ending {
         self.control.ending(&self.rt).unwrap_or(Ending::Quit)
     }
+}
+
+/// How each job is evened out, and the state of a service.
+fn parts_of(
+    alloc: Global,
+    spreads: &[JobSpread],
+    state: &Arc<ServiceState>,
+) -> Result<(Vec<JobEvening>, Arc<ServiceState>), AllocError> {
+    let state = Arc::try_clone(state)?;
+    let by_job = evenings_of(alloc, spreads)?;
+    Ok((by_job, state))
 }
