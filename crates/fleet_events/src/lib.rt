@@ -8,6 +8,7 @@
 mod answer;
 mod event;
 mod ids;
+mod members;
 mod number_lists;
 mod reading;
 mod refusal;

@@ -1,15 +1,17 @@
 //! Spreads out of JSON, and as JSON.
-ghost use Rattle.std.specs.Prelude.{◌≡◌, Some, None, IfOk, option_map, codes};
+ghost use Rattle.std.specs.Prelude.{◌≡◌, Some, IfOk, OnOk, option_map, codes};
+ghost use Rattle.serde_json.specs.Data.{object, no_members};
 ghost use Rattle.serde_json.specs.Find.{get};
-ghost use Rattle.serde_json.specs.View.{view};
+ghost use Rattle.serde_json.specs.View.{view, members_view};
 ghost use Rattle.spread_certificate.specs.Document.{even_in, optional_in, spread_in};
 ghost use Rattle.fleet_events.specs.Reading.{event_in, spread_event_in};
-ghost use Rattle.fleet_events.specs.Writing.{spread_event_data, told_spread, told_spread_data};
+ghost use Rattle.fleet_events.specs.Writing.{spread_event_data};
 
 use crate::event::Event;
+use crate::members::{put_event, put_written};
 use json_values::{Spelled, member};
 use price_certificate::Plan;
-use serde_json::{Value, json};
+use serde_json::{Map, Value};
 use spread_certificate::{Even, Spread};
 use std::alloc::{AllocError, Global};
 
@@ -73,77 +75,35 @@ pub(crate) fn spread_value(alloc: Global, spread: &Spread) -> Result<Value, Allo
     ensures form { IfOk result (λ v. view v ≡ spread_event_data spread.now) }
     ensures reads_back { IfOk result (λ v. event_in (view v) ≡ Some (Event.Spread spread.now)) }
 {
-    match &spread.even {
-        Some(even) => even_spread_value(alloc, spread, even),
-        None => plain_spread_value(alloc, spread),
+    let mut members = Map::new(alloc);
+    match put_spread(&mut members, alloc, spread) {
+        Ok(()) => Ok(Value::Object(members)),
+        Err(refused) => {
+            drop(members);
+            Err(refused)
+        }
     }
 }
 
-/// The event of a spread that tells how even it is.
+/// The members of a spread's event.
 #[tactic(auto, unfolding(crate::specs::Reading::event_in, price_certificate::specs::Plan::plan_in, spread_certificate::specs::Document::spread_in))]
-fn even_spread_value(alloc: Global, spread: &Spread, even: &Even) -> Result<Value, AllocError>
-    ensures form { IfOk result (λ v. view v ≡ told_spread_data spread.now (Some even.now)) }
-    ensures reads_back { IfOk result (λ v. event_in (view v) ≡ Some (Event.Spread (told_spread spread.now (Some even.now)))) }
-{
-    let bin_prices = spread.plan.bin_prices.write(alloc)?;
-    let caps = spread.caps.write(alloc)?;
-    let even = even.write(alloc)?;
-    let free_bin_prices = spread.free_bin_prices.write(alloc)?;
-    let free_item_prices = spread.free_item_prices.write(alloc)?;
-    let item_prices = spread.plan.item_prices.write(alloc)?;
-    let pairs = spread.plan.pairs.write(alloc)?;
-    json!(in alloc; {
-        "bin_prices": bin_prices,
-        "caps": caps,
-        "even": even,
-        "event": "spread",
-        "free_bin_prices": free_bin_prices,
-        "free_item_prices": free_item_prices,
-        "item_prices": item_prices,
-        "pairs": pairs
-    })
-}
-
-/// The event of a spread that does not tell how even it is.
-#[tactic(auto, unfolding(crate::specs::Reading::event_in, price_certificate::specs::Plan::plan_in, spread_certificate::specs::Document::spread_in))]
-fn plain_spread_value(alloc: Global, spread: &Spread) -> Result<Value, AllocError>
-    ensures form { IfOk result (λ v. view v ≡ told_spread_data spread.now None) }
-    ensures reads_back { IfOk result (λ v. event_in (view v) ≡ Some (Event.Spread (told_spread spread.now None))) }
-{
-    let (caps, pairs) = written(alloc, &spread.caps, &spread.plan.pairs)?;
-    let (bin_prices, item_prices) = written(
-        alloc,
-        &spread.plan.bin_prices,
-        &spread.plan.item_prices,
-    )?;
-    let (free_bin_prices, free_item_prices) = written(
-        alloc,
-        &spread.free_bin_prices,
-        &spread.free_item_prices,
-    )?;
-    json!(in alloc; {
-        "bin_prices": bin_prices,
-        "caps": caps,
-        "event": "spread",
-        "free_bin_prices": free_bin_prices,
-        "free_item_prices": free_item_prices,
-        "item_prices": item_prices,
-        "pairs": pairs
-    })
-}
-
-/// Two values that are written as JSON.
-fn written<A: Spelled, B: Spelled>(
+fn put_spread(
+    members: &mut Map<String, Value>,
     alloc: Global,
-    first: &A,
-    second: &B,
-) -> Result<(Value, Value), AllocError>
-    ensures first_form { IfOk result (λ v. view v.0 ≡ A.spelling first.now) }
-    ensures first_reads_back { IfOk result (λ v. A.spelled (view v.0) ≡ Some first.now) }
-    ensures second_form { IfOk result (λ v. view v.1 ≡ B.spelling second.now) }
-    ensures second_reads_back { IfOk result (λ v. B.spelled (view v.1) ≡ Some second.now) }
+    spread: &Spread,
+) -> Result<(), AllocError>
+    requires { members_view members.old.entries ≡ no_members }
+    ensures form { OnOk result (object (members_view members.new.entries) ≡ spread_event_data spread.now) }
+    ensures reads_back { OnOk result (event_in (object (members_view members.new.entries)) ≡ Some (Event.Spread spread.now)) }
 {
-    let first = first.write(alloc)?;
-    let second = second.write(alloc)?;
-    Ok((first, second))
+    put_written(members, alloc, "bin_prices", &spread.plan.bin_prices)?;
+    put_written(members, alloc, "caps", &spread.caps)?;
+    if let Some(even) = &spread.even {
+        put_written(members, alloc, "even", even)?;
+    }
+    put_event(members, alloc, "spread")?;
+    put_written(members, alloc, "free_bin_prices", &spread.free_bin_prices)?;
+    put_written(members, alloc, "free_item_prices", &spread.free_item_prices)?;
+    put_written(members, alloc, "item_prices", &spread.plan.item_prices)?;
+    put_written(members, alloc, "pairs", &spread.plan.pairs)
 }

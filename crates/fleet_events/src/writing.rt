@@ -1,7 +1,8 @@
 //! Events as JSON texts.
-ghost use Rattle.std.specs.Prelude.{◌≡◌, [], Some, None, false, IfOk, codes};
+ghost use Rattle.std.specs.Prelude.{◌≡◌, [], Some, None, false, IfOk, OnOk, codes};
 ghost use Rattle.std.specs.List.{list_any};
-ghost use Rattle.serde_json.specs.View.{view, items_view};
+ghost use Rattle.serde_json.specs.Data.{object, no_members};
+ghost use Rattle.serde_json.specs.View.{view, items_view, members_view};
 ghost use Rattle.json_values.specs.Spelling.{all_in, items_data};
 ghost use Rattle.json_values.specs.Texts.{is_line_feed};
 ghost use Rattle.label_sets.specs.Target.{target_data};
@@ -11,6 +12,7 @@ ghost use Rattle.fleet_events.specs.Writing.{discover_data, unlimited_join_data,
 
 use crate::event::Event;
 use crate::ids::CollectorId;
+use crate::members::{put_event, put_written};
 use crate::report::Report;
 use crate::spreads::spread_value;
 use json_values::{Spelled, text_of};
@@ -19,7 +21,7 @@ use lists::Text;
 use price_certificate::Plan;
 use reach_rules::{CollectorName, OwnLimits, Reach};
 use scrape_books::Outcome;
-use serde_json::{Value, json};
+use serde_json::{Map, Value, json};
 use std::alloc::{AllocError, Global};
 
 impl Event {
@@ -113,7 +115,6 @@ fn join_value(
     limited_join_value(alloc, name, reach, limits)
 }
 
-#[tactic(auto, unfolding(crate::specs::Reading::event_in, crate::specs::Reading::join_in))]
 fn unlimited_join_value(
     alloc: Global,
     name: &CollectorName,
@@ -122,12 +123,32 @@ fn unlimited_join_value(
     ensures form { IfOk result (λ v. view v ≡ unlimited_join_data name.now reach.now) }
     ensures reads_back { IfOk result (λ v. event_in (view v) ≡ Some (Event.Join name.now reach.now [])) }
 {
-    let name = name.write(alloc)?;
-    let reach = reach.write(alloc)?;
-    json!(in alloc; {"event": "join", "name": name, "reach": reach})
+    let mut members = Map::new(alloc);
+    match put_unlimited_join(&mut members, alloc, name, reach) {
+        Ok(()) => Ok(Value::Object(members)),
+        Err(refused) => {
+            drop(members);
+            Err(refused)
+        }
+    }
 }
 
 #[tactic(auto, unfolding(crate::specs::Reading::event_in, crate::specs::Reading::join_in))]
+fn put_unlimited_join(
+    members: &mut Map<String, Value>,
+    alloc: Global,
+    name: &CollectorName,
+    reach: &Reach,
+) -> Result<(), AllocError>
+    requires { members_view members.old.entries ≡ no_members }
+    ensures form { OnOk result (object (members_view members.new.entries) ≡ unlimited_join_data name.now reach.now) }
+    ensures reads_back { OnOk result (event_in (object (members_view members.new.entries)) ≡ Some (Event.Join name.now reach.now [])) }
+{
+    put_event(members, alloc, "join")?;
+    put_written(members, alloc, "name", name)?;
+    put_written(members, alloc, "reach", reach)
+}
+
 fn limited_join_value(
     alloc: Global,
     name: &CollectorName,
@@ -137,10 +158,32 @@ fn limited_join_value(
     ensures form { IfOk result (λ v. view v ≡ limited_join_data name.now reach.now limits.now) }
     ensures reads_back { IfOk result (λ v. event_in (view v) ≡ Some (Event.Join name.now reach.now limits.now)) }
 {
-    let limits = limits.write(alloc)?;
-    let name = name.write(alloc)?;
-    let reach = reach.write(alloc)?;
-    json!(in alloc; {"event": "join", "limits": limits, "name": name, "reach": reach})
+    let mut members = Map::new(alloc);
+    match put_limited_join(&mut members, alloc, name, reach, limits) {
+        Ok(()) => Ok(Value::Object(members)),
+        Err(refused) => {
+            drop(members);
+            Err(refused)
+        }
+    }
+}
+
+#[tactic(auto, unfolding(crate::specs::Reading::event_in, crate::specs::Reading::join_in))]
+fn put_limited_join(
+    members: &mut Map<String, Value>,
+    alloc: Global,
+    name: &CollectorName,
+    reach: &Reach,
+    limits: &OwnLimits,
+) -> Result<(), AllocError>
+    requires { members_view members.old.entries ≡ no_members }
+    ensures form { OnOk result (object (members_view members.new.entries) ≡ limited_join_data name.now reach.now limits.now) }
+    ensures reads_back { OnOk result (event_in (object (members_view members.new.entries)) ≡ Some (Event.Join name.now reach.now limits.now)) }
+{
+    put_event(members, alloc, "join")?;
+    put_written(members, alloc, "limits", limits)?;
+    put_written(members, alloc, "name", name)?;
+    put_written(members, alloc, "reach", reach)
 }
 
 #[tactic(auto, unfolding(crate::specs::Reading::event_in))]
@@ -172,15 +215,34 @@ fn set_limits_value(
     json!(in alloc; {"collector": collector, "event": "limits", "limits": limits})
 }
 
-#[tactic(auto, unfolding(crate::specs::Reading::event_in, price_certificate::specs::Plan::plan_in))]
 fn install_value(alloc: Global, plan: &Plan) -> Result<Value, AllocError>
     ensures form { IfOk result (λ v. view v ≡ install_data plan.now) }
     ensures reads_back { IfOk result (λ v. event_in (view v) ≡ Some (Event.Install plan.now)) }
 {
-    let bin_prices = plan.bin_prices.write(alloc)?;
-    let item_prices = plan.item_prices.write(alloc)?;
-    let pairs = plan.pairs.write(alloc)?;
-    json!(in alloc; {"bin_prices": bin_prices, "event": "install", "item_prices": item_prices, "pairs": pairs})
+    let mut members = Map::new(alloc);
+    match put_install(&mut members, alloc, plan) {
+        Ok(()) => Ok(Value::Object(members)),
+        Err(refused) => {
+            drop(members);
+            Err(refused)
+        }
+    }
+}
+
+#[tactic(auto, unfolding(crate::specs::Reading::event_in, price_certificate::specs::Plan::plan_in))]
+fn put_install(
+    members: &mut Map<String, Value>,
+    alloc: Global,
+    plan: &Plan,
+) -> Result<(), AllocError>
+    requires { members_view members.old.entries ≡ no_members }
+    ensures form { OnOk result (object (members_view members.new.entries) ≡ install_data plan.now) }
+    ensures reads_back { OnOk result (event_in (object (members_view members.new.entries)) ≡ Some (Event.Install plan.now)) }
+{
+    put_written(members, alloc, "bin_prices", &plan.bin_prices)?;
+    put_event(members, alloc, "install")?;
+    put_written(members, alloc, "item_prices", &plan.item_prices)?;
+    put_written(members, alloc, "pairs", &plan.pairs)
 }
 
 #[tactic(auto, unfolding(crate::specs::Reading::event_in))]

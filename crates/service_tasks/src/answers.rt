@@ -13,10 +13,8 @@ pub(crate) enum Came {
     Reply(Reply),
     /// There is no answer.
     Nothing(Cause),
-    /// These are its files.
-    Files(List<FileText>),
-    /// Its files cannot be read.
-    NoFiles(FilesFault),
+    /// These are its files, or why they cannot be read.
+    Files(Result<List<FileText>, FilesFault>),
 }
 
 /// Why a source gave no list.
@@ -27,41 +25,44 @@ pub(crate) enum Failure {
     Files(FilesFault),
 }
 
-impl Came {
-    /// What the job's source of this number lists. The job's rules are compiled for each refresh.
-    pub(crate) fn list(self, alloc: Global, job: &Job, number: u32) -> Result<Listing, Failure> {
-        match self {
-            Came::Reply(reply) => list_in_reply(alloc, job, number, reply),
-            Came::Nothing(cause) => Err(Failure::Nothing(cause)),
-            Came::Files(files) => {
-                let list = list_in_files(alloc, job, number, files.as_slice());
-                drop(files);
-                list
-            }
-            Came::NoFiles(fault) => Err(Failure::Files(fault)),
-        }
-    }
-}
-
-fn list_in_reply(alloc: Global, job: &Job, number: u32, reply: Reply) -> Result<Listing, Failure> {
+/// What the job's source of this number lists by its answer. The job's rules are compiled for each.
+pub(crate) fn list_in_reply(
+    alloc: Global,
+    job: &Job,
+    number: u32,
+    fetched: &Result<Reply, FetchFault>,
+) -> Result<Listing, Failure> {
     match Rules::read(alloc, job.rules.as_slice()) {
         Ok(rules) => {
-            let fetched: Result<Reply, FetchFault> = Ok(reply);
-            let listing = heard(alloc, job, &rules, number, &fetched);
-            drop((rules, fetched));
+            let listing = heard(alloc, job, &rules, number, fetched);
+            drop(rules);
             match listing {
                 Ok(listing) => Ok(listing),
                 Err(error) => Err(Failure::Refused(error)),
             }
         }
-        Err(_) => {
-            drop(reply);
-            Err(Failure::Nothing(Cause::Memory))
-        }
+        Err(_) => Err(Failure::Nothing(Cause::Memory)),
     }
 }
 
-fn list_in_files(
+/// What the job's source of this number lists by its files.
+pub(crate) fn list_in_files(
+    alloc: Global,
+    job: &Job,
+    number: u32,
+    files: Result<List<FileText>, FilesFault>,
+) -> Result<Listing, Failure> {
+    match files {
+        Ok(files) => {
+            let list = list_in(alloc, job, number, files.as_slice());
+            drop(files);
+            list
+        }
+        Err(fault) => Err(Failure::Files(fault)),
+    }
+}
+
+fn list_in(
     alloc: Global,
     job: &Job,
     number: u32,

@@ -1,5 +1,5 @@
 //! The thread that refreshes what discovery sources list.
-use crate::answers::{Came, Failure, fault_in};
+use crate::answers::{Came, Failure, fault_in, list_in_files, list_in_reply};
 use crate::logging::{log_warning, log_warning_of};
 use crate::shared::Shared;
 use crate::source::{Listed, Source};
@@ -8,7 +8,9 @@ use crate::told_source::ToldSource;
 use alloc_desk::{DeskName, Pass};
 use file_configs::{ReadFiles, patterns_of};
 use fleet_events::Event;
-use http_get::{Asker, Cause, FetchSeveral, Get, Listing, Next, Reply, get_of_source};
+use http_get::{
+    Asker, Cause, FetchFault, FetchSeveral, Get, Listing, Next, Reply, get_of_source,
+};
 use lists::{List, Plain, Text};
 use log::warn;
 use logfmt::{Logfmt, Quoted, QuotedUrl, timestamp};
@@ -116,10 +118,8 @@ where
 
     /// Reads the files of the source at a place.
     fn read(&mut self, place: usize, patterns: &[Text]) {
-        match self.files.read_files(patterns) {
-            Ok(files) => self.end(place, Came::Files(files)),
-            Err(fault) => self.end(place, Came::NoFiles(fault)),
-        }
+        let files = self.files.read_files(patterns);
+        self.end(place, Came::Files(files));
     }
 
     /// The refresh of the source at a place came to this.
@@ -206,15 +206,69 @@ impl<R: Wait + Clock + Eprint + Copy, L: Ledger, B: Ledger, N: DeskName> Shared<
 
     fn refresh(&self, pass: &mut Pass<L, B, N>, job: &Job, source: &mut Source, came: Came) {
         self.state.count_refresh();
+        match came {
+            Came::Reply(reply) => self.refresh_by_reply(pass, job, source, reply),
+            Came::Files(files) => {
+                let list = list_in_files(self.alloc, job, source.settings.number, files);
+                self.follow_list(pass, job, source, list);
+            }
+            Came::Nothing(cause) => {
+                self.follow_list(pass, job, source, Err(Failure::Nothing(cause)));
+            }
+        }
+    }
+
+    /// An answer that is that of before lists what stands already.
+    fn refresh_by_reply(
+        &self,
+        pass: &mut Pass<L, B, N>,
+        job: &Job,
+        source: &mut Source,
+        reply: Reply,
+    ) {
         let number = source.settings.number;
-        let list = came.list(self.alloc, job, number);
+        if let Some(counts) = source.listed.counts_again(&reply) {
+            self.tell_again(job, number, counts);
+            drop(reply);
+            return;
+        }
+        let fetched: Result<Reply, FetchFault> = Ok(reply);
+        let list = list_in_reply(self.alloc, job, number, &fetched);
+        let counts = counts_in(&list);
+        let stands = self.follow_list(pass, job, source, list);
+        match (fetched, counts) {
+            (Ok(reply), Some(counts)) if stands => source.listed.answered(reply, counts),
+            (unread, _) => drop(unread),
+        }
+    }
+
+    /// Tells what a source lists, or why it does not, and submits it where it is news. Whether it is what was submitted last.
+    fn follow_list(
+        &self,
+        pass: &mut Pass<L, B, N>,
+        job: &Job,
+        source: &mut Source,
+        list: Result<Listing, Failure>,
+    ) -> bool {
+        let number = source.settings.number;
         self.tell(job, number, &list);
         match list {
             Ok(listing) => {
                 let listed = &mut source.listed;
-                self.submit_news(pass, told_source(job, number), listed, listing.event);
+                self.submit_news(pass, told_source(job, number), listed, listing.event)
             }
-            Err(told) => drop(told),
+            Err(told) => {
+                drop(told);
+                false
+            }
+        }
+    }
+
+    /// Tells that a refresh found what was listed before.
+    fn tell_again(&self, job: &Job, number: u32, counts: ListCounts) {
+        match Text::from_str(self.alloc, "") {
+            Ok(no_fault) => self.note_refresh(job, number, Some(counts), no_fault),
+            Err(_) => log_warning(&self.rt, "no memory to note a refresh"),
         }
     }
 
@@ -281,26 +335,33 @@ impl<R: Wait + Clock + Eprint + Copy, L: Ledger, B: Ledger, N: DeskName> Shared<
         }
     }
 
-    /// Submits a list that is another one than the last.
+    /// Submits a list that is another one than the last. Whether it is the one that was submitted last from then on.
     fn submit_news(
         &self,
         pass: &mut Pass<L, B, N>,
         source: ToldSource<'_>,
         listed: &mut Listed,
         event: Event,
-    ) {
+    ) -> bool {
         let Ok(text) = event.to_json(self.alloc) else {
             drop(event);
             log_warning(&self.rt, "no memory for a list of targets");
-            return;
+            return false;
         };
         if !listed.is_news(text.as_str()) {
             drop((text, event));
-            return;
+            return true;
         }
         self.listed.fetch_add(targets_in(&event), Ordering::SeqCst);
-        if let Some(is_refused) = self.enter_list(pass, source, event) {
-            listed.submitted(text, is_refused);
+        match self.enter_list(pass, source, event) {
+            Some(is_refused) => {
+                listed.submitted(text, is_refused);
+                true
+            }
+            None => {
+                drop(text);
+                false
+            }
         }
     }
 }

@@ -1,6 +1,8 @@
 //! A discovery source as it is watched.
 use crate::service::SourceSettings;
+use http_get::Reply;
 use lists::Text;
+use service_state::ListCounts;
 use std::time::{Duration, Instant};
 
 /// After how many refreshes a list that was refused is submitted again, as long as it is the same.
@@ -31,6 +33,8 @@ pub(crate) struct Listed {
     last: Option<Text>,
     /// How many refreshes from now on the same list is not submitted again, where it was refused.
     refused_for: Option<u32>,
+    /// The answer that has this list, and what is counted of it.
+    reply: Option<(Reply, ListCounts)>,
 }
 
 impl Source {
@@ -102,21 +106,44 @@ impl Listed {
         Listed {
             last: None,
             refused_for: None,
+            reply: None,
+        }
+    }
+
+    /// What is counted of the list of this answer, where it is the answer of before, so that nothing is to be read or submitted.
+    pub(crate) fn counts_again(&mut self, reply: &Reply) -> Option<ListCounts> {
+        let counts = self.counts_of(reply)?;
+        if self.is_due_again() {
+            return None;
+        }
+        Some(counts)
+    }
+
+    fn counts_of(&self, reply: &Reply) -> Option<ListCounts> {
+        match &self.reply {
+            Some((last, counts)) if is_same(last, reply) => Some(*counts),
+            _ => None,
         }
     }
 
     /// Whether a list of this text is to be submitted: it is another one than the last, or its refusal was long ago.
     pub(crate) fn is_news(&mut self, text: &str) -> bool {
-        match &self.last {
-            Some(last) if last.as_str() == text => match self.refused_for {
-                Some(0) => true,
-                Some(left) => {
-                    self.refused_for = Some(left.saturating_sub(1));
-                    false
-                }
-                None => false,
-            },
-            _ => true,
+        let is_last = match &self.last {
+            Some(last) => last.as_str() == text,
+            None => false,
+        };
+        !is_last || self.is_due_again()
+    }
+
+    /// Whether the last list was refused, and so long ago that it is submitted again.
+    fn is_due_again(&mut self) -> bool {
+        match self.refused_for {
+            Some(0) => true,
+            Some(left) => {
+                self.refused_for = Some(left.saturating_sub(1));
+                false
+            }
+            None => false,
         }
     }
 
@@ -124,7 +151,20 @@ impl Listed {
     pub(crate) fn submitted(&mut self, text: Text, is_refused: bool) {
         self.last = Some(text);
         self.refused_for = is_refused.then_some(REFUSED_AGAIN);
+        self.reply = None;
     }
+
+    /// This answer has the list that was submitted last.
+    pub(crate) fn answered(&mut self, reply: Reply, counts: ListCounts) {
+        self.reply = Some((reply, counts));
+    }
+}
+
+/// Whether two answers list the same. The longest part is compared last.
+fn is_same(reply: &Reply, other: &Reply) -> bool {
+    reply.status == other.status
+        && reply.media.as_str() == other.media.as_str()
+        && reply.body.as_slice() == other.body.as_slice()
 }
 
 /// So many parts of a time that is cut into as many.
