@@ -52,13 +52,22 @@ pub(crate) fn attempted(answer: &Answer, instance: Instance, plan: Plan) -> Atte
     ensures { result ≡ attempted_by answer.now instance plan }
 {
     match answer {
-        Answer::Published(number) => Attempt::Published(*number),
-        Answer::Not(Refusal::Unchanged(number)) => Attempt::Unchanged(*number),
+        Answer::Published(number) => {
+            drop((instance, plan));
+            Attempt::Published(*number)
+        }
+        Answer::Not(Refusal::Unchanged(number)) => {
+            drop((instance, plan));
+            Attempt::Unchanged(*number)
+        }
         Answer::Not(Refusal::Refused(fault)) => Attempt::Lost(Lost {
             fault: *fault,
             instance,
             plan,
         }),
-        _ => Attempt::NumbersSpent,
+        _ => {
+            drop((instance, plan));
+            Attempt::NumbersSpent
+        }
     }
 }

@@ -4,16 +4,17 @@ ghost use Rattle.scrape_books.specs.Books.{total_of};
 ghost use Rattle.allocation_core.specs.State.{State};
 ghost use Rattle.allocation_core.specs.Steps.{answer_of, state_after, gained};
 ghost use Rattle.alloc_desk.specs.Changed.{changed_in};
+ghost use Rattle.alloc_desk.specs.Spare.{IsSpareOf};
 ghost use Rattle.journal_entries.specs.Legal.{IsLegal};
 ghost use Rattle.alloc_desk.specs.declared.limits.TheConstants.{MOST_ENTRIES};
 
 use crate::changed::changed_by;
 use crate::limits::MOST_ENTRIES;
 use crate::spare::{copy_with, spare_of};
-use allocation_core::{Answer, Core, Event};
+use allocation_core::{Answer, Core, Event, ServedList};
 use journal_entries::Entry;
 use lists::Plain;
-use std::alloc::Global;
+use std::alloc::{AllocError, Global};
 use std::marker::Model;
 
 /// Why an event was not entered.
@@ -103,18 +104,19 @@ impl Record {
     {
         let position = self.journal.len();
         if position == MOST_ENTRIES {
+            drop(event);
             return Err(EnterError::JournalFull);
         }
         if self.journal.reserve(1).is_err() {
+            drop(event);
             return Err(EnterError::Memory);
         }
-        let Ok(copy) = event.copy() else {
-            return Err(EnterError::Memory);
-        };
-        let Ok(spare) = spare_of(*self.journal.allocator(), &self.core, &event) else {
+        let Ok((copy, spare)) = copies_for(*self.journal.allocator(), &self.core, &event) else {
+            drop(event);
             return Err(EnterError::Memory);
         };
         let Ok(answer) = self.core.apply(event) else {
+            drop((copy, spare));
             return Err(EnterError::Memory);
         };
         self.changed = changed_by(self.changed, &answer);
@@ -124,5 +126,24 @@ impl Record {
             answer: copy_with(&answer, spare),
         });
         Ok((position as u64, answer))
+    }
+}
+
+/// A copy of an event, and the lists that a copy of its answer will have, where it may have some.
+fn copies_for(
+    alloc: Global,
+    core: &Core,
+    event: &Event,
+) -> Result<(Event, Option<ServedList>), AllocError>
+    ensures copy { IfOk result (λ r. r.0 ≡ event.now) }
+    ensures spare { IfOk result (λ r. IsSpareOf core.now event.now r.1) }
+{
+    let copy = event.copy()?;
+    match spare_of(alloc, core, event) {
+        Ok(spare) => Ok((copy, spare)),
+        Err(error) => {
+            drop(copy);
+            Err(error)
+        }
     }
 }

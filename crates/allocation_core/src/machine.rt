@@ -66,7 +66,13 @@ impl Core {
         ensures bad { (result ≡ Err OpenError.BadJobs) ↔ (are_jobs jobs.items ≡ false) }
     {
         let fleet = Fleet::open(alloc, jobs)?;
-        let instance = empty_instance(alloc)?;
+        let instance = match empty_instance(alloc) {
+            Ok(instance) => instance,
+            Err(error) => {
+                drop(fleet);
+                return Err(error.into());
+            }
+        };
         Ok(Core {
             alloc,
             fleet,
@@ -248,7 +254,12 @@ impl Core {
         ensures plan { IfOk result (λ c. c.1 ≡ self.now.plan) }
     {
         let instance = self.instance.copy()?;
-        let plan = self.plan.copy()?;
-        Ok((instance, plan))
+        match self.plan.copy() {
+            Ok(plan) => Ok((instance, plan)),
+            Err(error) => {
+                drop(instance);
+                Err(error)
+            }
+        }
     }
 }

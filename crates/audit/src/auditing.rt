@@ -36,7 +36,7 @@ impl Progress {
     {
         self.events = self.events.saturating_add(end.events);
         self.total = self.total.saturating_add(end.core.total());
-        self.before = Some(end.core);
+        drop(self.before.replace(end.core));
     }
 }
 
@@ -59,7 +59,9 @@ pub fn audit(
         events: 0,
         total: 0,
     };
-    audit_all(alloc, &mut progress, journals, text)
+    let audited = audit_all(alloc, &mut progress, journals, text);
+    drop(progress);
+    audited
 }
 
 fn audit_all(
@@ -99,11 +101,16 @@ fn audit_next(
     ensures renewal { IfOk result (λ b. b ≡ true → FileBeginsWithRenewal progress.old.before journal.now) }
 {
     match file_checked(alloc, progress.before.take(), journal)? {
-        Ok(end) => {
-            write_journal(alloc, file, &end, text)?;
-            progress.add(end);
-            Ok(true)
-        }
+        Ok(end) => match write_journal(alloc, file, &end, text) {
+            Ok(()) => {
+                progress.add(end);
+                Ok(true)
+            }
+            Err(error) => {
+                drop(end);
+                Err(error)
+            }
+        },
         Err(fault) => {
             write_fault(alloc, file, fault, text)?;
             Ok(false)

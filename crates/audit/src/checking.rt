@@ -26,9 +26,16 @@ pub(crate) fn file_checked(
     if !is_sealed(file) {
         return checked(alloc, before, file);
     }
-    match unsealed(alloc, file)? {
-        Ok(plain) => checked(alloc, before, plain.text.as_slice()),
-        Err(wrong) => Ok(Err(wrong_digest(wrong))),
+    match unsealed(alloc, file) {
+        Ok(Ok(plain)) => checked(alloc, before, plain.text.as_slice()),
+        Ok(Err(wrong)) => {
+            drop(before);
+            Ok(Err(wrong_digest(wrong)))
+        }
+        Err(error) => {
+            drop(before);
+            Err(error)
+        }
     }
 }
 
@@ -72,9 +79,20 @@ fn first_fault(alloc: Global, core: Core, journal: &[u8]) -> Result<Option<Fault
     ensures renewal { IfOk result (λ o. IfNone o (BeginsWithRenewal (Some core) journal.now)) }
 {
     opened_are_whole();
-    match resume(alloc, first_line(journal))? {
-        Ok(start) => start_fault(alloc, core, &start.core),
-        Err(damage) => Ok(Some(unreadable(damage))),
+    match resume(alloc, first_line(journal)) {
+        Ok(Ok(start)) => {
+            let fault = start_fault(alloc, core, &start.core);
+            drop(start);
+            fault
+        }
+        Ok(Err(damage)) => {
+            drop(core);
+            Ok(Some(unreadable(damage)))
+        }
+        Err(error) => {
+            drop(core);
+            Err(error)
+        }
     }
 }
 

@@ -8,7 +8,7 @@ ghost use Rattle.audit.specs.Renewals.{IsRenewalOf};
 
 use crate::fault::Why;
 use crate::laws::histories_tell;
-use allocation_core::{Core, JobSpec, RenewalError, ReportRounds};
+use allocation_core::{Core, JobSpec, NotRenewed, RenewalError, ReportRounds};
 use core_history::write_history;
 use lists::copies;
 use std::alloc::{AllocError, Global};
@@ -24,9 +24,19 @@ pub(crate) fn renewal_fault(
     ensures renewal { IfOk result (λ o. IsWhole next.now → IfNone o (IsRenewalOf core next.now)) }
 {
     histories_tell();
-    let jobs = copies(alloc, next.fleet().jobs())?;
+    let jobs = match copies(alloc, next.fleet().jobs()) {
+        Ok(jobs) => jobs,
+        Err(error) => {
+            drop(core);
+            return Err(error);
+        }
+    };
     match renewed_under(core, jobs, next.report_rounds()) {
-        Ok(renewed) => other_state(alloc, &renewed, next),
+        Ok(renewed) => {
+            let why = other_state(alloc, &renewed, next);
+            drop(renewed);
+            why
+        }
         Err(why) => why_refused(why),
     }
 }
@@ -44,7 +54,10 @@ fn renewed_under(
     let _pairs = core.allocation();
     match core.renew(jobs, report_rounds) {
         Ok(renewed) => Ok(renewed),
-        Err(refused) => Err(refused.why),
+        Err(NotRenewed { core, why }) => {
+            drop(core);
+            Err(why)
+        }
     }
 }
 

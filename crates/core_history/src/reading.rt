@@ -53,22 +53,45 @@ fn parts_in(alloc: Global, value: &Value) -> Result<Option<History>, AllocError>
     let Some(certificate) = certificate_member(alloc, value)? else {
         return Ok(None);
     };
-    let Some(fleet) = fleet_member(alloc, value)? else {
-        return Ok(None);
+    let fleet = match fleet_member(alloc, value) {
+        Ok(Some(fleet)) => fleet,
+        Ok(None) => {
+            drop((allocation, certificate));
+            return Ok(None);
+        }
+        Err(error) => {
+            drop((allocation, certificate));
+            return Err(error);
+        }
     };
-    let Some(round) = member(alloc, value, "round")? else {
-        return Ok(None);
+    let round = match member(alloc, value, "round") {
+        Ok(Some(round)) => round,
+        Ok(None) => {
+            drop((allocation, certificate, fleet));
+            return Ok(None);
+        }
+        Err(error) => {
+            drop((allocation, certificate, fleet));
+            return Err(error);
+        }
     };
-    let Some(served) = served_or_none(alloc, value)? else {
-        return Ok(None);
-    };
-    Ok(Some(History {
-        allocation,
-        certificate,
-        fleet,
-        round,
-        served,
-    }))
+    match served_or_none(alloc, value) {
+        Ok(Some(served)) => Ok(Some(History {
+            allocation,
+            certificate,
+            fleet,
+            round,
+            served,
+        })),
+        Ok(None) => {
+            drop((allocation, certificate, fleet));
+            Ok(None)
+        }
+        Err(error) => {
+            drop((allocation, certificate, fleet));
+            Err(error)
+        }
+    }
 }
 
 /// Whose lists have which targets: nothing where the member is left out.
@@ -100,10 +123,17 @@ fn certificate_in(alloc: Global, document: &Value) -> Result<Option<Certificate>
     let Some(instance) = instance_of(alloc, document)? else {
         return Ok(None);
     };
-    let Some(plan) = Plan::read(alloc, document)? else {
-        return Ok(None);
-    };
-    Ok(Some(Certificate { instance, plan }))
+    match Plan::read(alloc, document) {
+        Ok(Some(plan)) => Ok(Some(Certificate { instance, plan })),
+        Ok(None) => {
+            drop(instance);
+            Ok(None)
+        }
+        Err(error) => {
+            drop(instance);
+            Err(error)
+        }
+    }
 }
 
 fn fleet_member(alloc: Global, value: &Value) -> Result<Option<FleetParts>, AllocError>

@@ -28,19 +28,35 @@ pub(crate) fn restored(alloc: Global, history: History) -> Result<Core, HistoryE
         round,
         served,
     } = history;
-    let fleet = fleet_restored(alloc, fleet)?;
+    let fleet = match fleet_restored(alloc, fleet) {
+        Ok(fleet) => fleet,
+        Err(error) => {
+            drop((allocation, certificate, served));
+            return Err(error);
+        }
+    };
     if !is_allocation(&fleet, allocation.as_slice()) {
+        drop((allocation, certificate, fleet, served));
         return Err(HistoryError::BadAllocation);
     }
     if round == 0 {
+        drop((allocation, certificate, fleet, served));
         return Err(HistoryError::BadRound);
     }
     if !are_slots(&fleet, &served) {
+        drop((allocation, certificate, fleet, served));
         return Err(HistoryError::BadServed);
     }
-    let slots = slots_of(alloc, &fleet, &served)?;
+    let slots = match slots_of(alloc, &fleet, &served) {
+        Ok(slots) => slots,
+        Err(error) => {
+            drop((allocation, certificate, fleet, served));
+            return Err(error.into());
+        }
+    };
+    drop(served);
     let Certificate { instance, plan } = certificate;
-    let core = Core::restored(
+    match Core::restored(
         alloc,
         fleet,
         allocation,
@@ -49,8 +65,10 @@ pub(crate) fn restored(alloc: Global, history: History) -> Result<Core, HistoryE
         instance,
         plan,
         ReportRounds::least(),
-    )?;
-    Ok(core)
+    ) {
+        Ok(core) => Ok(core),
+        Err(error) => Err(error.into()),
+    }
 }
 
 /// Whether there are not more slots than known targets, of collectors that joined once.
@@ -111,8 +129,10 @@ fn fleet_restored(alloc: Global, parts: FleetParts) -> Result<Fleet, HistoryErro
     ensures fleet { IfOk result (λ f. (f ≡ fleet_of parts) × (parts_fault (fleet_of parts) ≡ None)) }
     ensures fault { IfErr result (λ e. e ≢ Memory → IsFaultOf (fleet_of parts) e) }
 {
-    let fleet = Fleet::restored(alloc, parts)?;
-    Ok(fleet)
+    match Fleet::restored(alloc, parts) {
+        Ok(fleet) => Ok(fleet),
+        Err(fault) => Err(fault.into()),
+    }
 }
 
 /// Whether the pairs name known targets, in ascending order, and live collectors.

@@ -80,12 +80,9 @@ renewed_levels m (object ms) r h e =
 -- ---- as a value
 
 pub put_form :
-    (value : Value) (old told new : BTreeMap (String Global) Value) (h r : Data) (m : State) → value ≡ Object old → members_view told.entries ≡ put (codes "history") h (members_view old.entries)
-    → members_view new.entries ≡ put (codes "report_rounds") r (members_view told.entries) → h ≡ history_data m → r ≡ number_data m.report_rounds → Some (view (Object new)) ≡ with_history m (view value)
-put_form value old told new h r m is added counted form count =
-    let both : members_view new.entries ≡ with_both m (members_view old.entries) =
-    counted ∙ (λ i. put (codes "report_rounds") (count i) (added i)) ∙ ap (λ (x : Data). put (codes "report_rounds") (number_data m.report_rounds) (put (codes "history") x (members_view old.entries))) form in
-    ap Some (view-Object new ∙ ap object both) ∙ sym (ap (with_history m) (ap view is ∙ view-Object old))
+    (value : Value) (old new : BTreeMap (String Global) Value) (m : State) → value ≡ Object old
+    → members_view new.entries ≡ put (codes "report_rounds") (number_data m.report_rounds) (put (codes "history") (history_data m) (members_view old.entries)) → Some (view (Object new)) ≡ with_history m (view value)
+put_form value old new m is both = ap Some (view-Object new ∙ ap object both) ∙ sym (ap (with_history m) (ap view is ∙ view-Object old))
 
 -- ---- what it opens
 

@@ -22,7 +22,10 @@ pub fn sealed_by_hand(alloc: Global, journal: &[u8]) -> Result<Result<List<u8>, 
 {
     let plain = without_digests(alloc, journal)?;
     match resume(alloc, plain.as_slice())? {
-        Ok(_) => sealed_anew(alloc, plain.as_slice()),
+        Ok(resumption) => {
+            drop(resumption);
+            sealed_anew(alloc, plain.as_slice())
+        }
         Err(damage) => Ok(Err(damage)),
     }
 }

@@ -1,8 +1,10 @@
 //! The first line of the journal of an allocator that was renewed.
-ghost use Rattle.std.specs.Prelude.{◌≡◌, ℕ, List, IfOk, IfSome, option_and_then, option_map};
+ghost use Rattle.std.specs.Prelude.{◌≡◌, ℕ, List, IfOk, IfSome, OnOk, codes, option_and_then, option_map};
 ghost use Rattle.core_history.specs.History.{ReadsBack, history_data, history_in};
 ghost use Rattle.json_values.specs.Texts.{json_of};
-ghost use Rattle.serde_json.specs.View.{view};
+ghost use Rattle.json_values.specs.Spelling.{number_data};
+ghost use Rattle.serde_json.specs.Data.{put};
+ghost use Rattle.serde_json.specs.View.{members_view, view};
 ghost use Rattle.durable_journal.specs.Beginnings.{BeginsMarked, Opens, OpensWhole, value_of};
 ghost use Rattle.durable_journal.specs.Configured.{goes_on, with_history};
 ghost use Rattle.durable_journal.specs.Marks.{marked as with_mark};
@@ -11,7 +13,7 @@ use crate::beginning::{FirstLine, line_of};
 use allocation_core::Core;
 use core_history::history_value;
 use json_values::{Spelled, parse};
-use serde_json::{Value, put};
+use serde_json::{Map, Value, put};
 use std::alloc::{AllocError, Global};
 
 impl FirstLine {
@@ -55,13 +57,28 @@ fn with_history(alloc: Global, value: Value, core: &Core) -> Result<Option<Value
     ensures reads_back { IfOk result (λ o. IfSome o (λ v. ReadsBack core.now (history_in (history_data core.now)))) }
 {
     match value {
-        Value::Object(mut members) => {
-            let history = history_value(alloc, core)?;
-            put(&mut members, alloc, "history", history)?;
-            let report_rounds = core.report_rounds().count().write(alloc)?;
-            put(&mut members, alloc, "report_rounds", report_rounds)?;
-            Ok(Some(Value::Object(members)))
-        }
+        Value::Object(mut members) => match put_history(alloc, &mut members, core) {
+            Ok(()) => Ok(Some(Value::Object(members))),
+            Err(error) => {
+                drop(members);
+                Err(error)
+            }
+        },
         _ => Ok(None),
     }
+}
+
+/// Puts the core's history among the members, and of how many rounds the core books reports.
+fn put_history(
+    alloc: Global,
+    members: &mut Map<String, Value>,
+    core: &Core,
+) -> Result<(), AllocError>
+    ensures form { OnOk result (members_view members.new.entries ≡ put (codes "report_rounds") (number_data core.now.report_rounds) (put (codes "history") (history_data core.now) (members_view members.old.entries))) }
+    ensures reads_back { OnOk result (ReadsBack core.now (history_in (history_data core.now))) }
+{
+    let history = history_value(alloc, core)?;
+    put(members, alloc, "history", history)?;
+    let report_rounds = core.report_rounds().count().write(alloc)?;
+    put(members, alloc, "report_rounds", report_rounds)
 }

@@ -116,9 +116,14 @@ fn begin<R: Files<File = File> + AllocGlobal + Clock + Eprint + Copy + Drop>(
         past,
         journal,
     } = start;
-    match next_file(journals, path, file, &journal) {
+    let written = next_file(journals, path, file, &journal);
+    drop(journal);
+    match written {
         Ok(written) => Ok(opened_with(core, past, written)),
-        Err(error) => Err(Fault::Machine(error)),
+        Err(error) => {
+            drop((core, past));
+            Err(Fault::Machine(error))
+        }
     }
 }
 

@@ -133,7 +133,10 @@ fn go_on(
 ) -> Result<Begun, Fault> {
     match past_of(alloc, lines, &core) {
         Ok(past) => start_behind(alloc, path, wanted, core, past, events),
-        Err(error) => Err(error.into()),
+        Err(error) => {
+            drop(core);
+            Err(error.into())
+        }
     }
 }
 
@@ -150,12 +153,16 @@ fn start_behind(
         Ok((jobs, report_rounds)) => {
             let is_same = core.report_rounds().count() == report_rounds.count();
             if is_same && are_jobs_of(core.fleet().jobs(), wanted.jobs) {
+                drop(jobs);
                 let next = Next::GoesOn(events);
                 return Ok(Begun { core, past, next });
             }
             start_renewed(alloc, path, wanted, core, past, jobs, report_rounds)
         }
-        Err(fault) => Err(fault),
+        Err(fault) => {
+            drop((core, past));
+            Err(fault)
+        }
     }
 }
 
@@ -182,7 +189,10 @@ fn start_anew(alloc: Global, wanted: Wanted<'_>) -> Result<Begun, Fault> {
     let first = given(FirstLine::configured(alloc, line.as_slice())?)?;
     match configured(alloc, line.as_slice()) {
         Ok(core) => Ok(begun_anew(alloc, wanted.epoch, first, core)),
-        Err(fault) => Err(fault),
+        Err(fault) => {
+            drop(first);
+            Err(fault)
+        }
     }
 }
 
@@ -207,15 +217,20 @@ fn start_renewed(
 ) -> Result<Begun, Fault> {
     match core.renew(jobs, report_rounds) {
         Ok(renewed) => replaced(alloc, wanted, past, renewed),
-        Err(NotRenewed { core: _, why }) => Err(not_renewed(alloc, path, why)),
+        Err(NotRenewed { core, why }) => {
+            drop((core, past));
+            Err(not_renewed(alloc, path, why))
+        }
     }
 }
 
 /// What the allocator of a configuration's line has: its jobs, and of how many rounds it books reports.
 fn machine_in(alloc: Global, line: &str) -> Result<(Vec<JobSpec>, ReportRounds), Fault> {
     let core = configured(alloc, line.as_bytes())?;
-    let jobs = copies(alloc, core.fleet().jobs())?;
-    Ok((jobs, core.report_rounds()))
+    let jobs = copies(alloc, core.fleet().jobs());
+    let report_rounds = core.report_rounds();
+    drop(core);
+    Ok((jobs?, report_rounds))
 }
 
 fn replaced(alloc: Global, wanted: Wanted<'_>, past: Past, core: Core) -> Result<Begun, Fault> {
@@ -229,7 +244,10 @@ fn replaced(alloc: Global, wanted: Wanted<'_>, past: Past, core: Core) -> Result
             },
             next: Next::IsReplaced(first),
         }),
-        Err(fault) => Err(fault),
+        Err(fault) => {
+            drop((core, past));
+            Err(fault)
+        }
     }
 }
 

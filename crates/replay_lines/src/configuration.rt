@@ -33,11 +33,19 @@ pub(crate) fn open_core(alloc: Global, line: &[u8]) -> Result<Option<Core>, Allo
 fn open_line(alloc: Global, line: &[u8], jobs: Vec<JobSpec>) -> Result<Option<Core>, AllocError>
     ensures { IfOk result (λ o. o ≡ opened_in line.now jobs.items) }
 {
-    match parse(alloc, line)? {
-        Some(value) => open_value(alloc, &value, jobs),
-        None => {
+    match parse(alloc, line) {
+        Ok(Some(value)) => {
+            let opened = open_value(alloc, &value, jobs);
+            drop(value);
+            opened
+        }
+        Ok(None) => {
             let opened = open_with(alloc, jobs)?;
             Ok(with_rounds(opened, ReportRounds::least()))
+        }
+        Err(error) => {
+            drop(jobs);
+            Err(error)
         }
     }
 }
@@ -46,12 +54,19 @@ fn open_line(alloc: Global, line: &[u8], jobs: Vec<JobSpec>) -> Result<Option<Co
 fn open_value(alloc: Global, value: &Value, jobs: Vec<JobSpec>) -> Result<Option<Core>, AllocError>
     ensures { IfOk result (λ o. o ≡ opened_by (report_rounds_in (view value.now)) (opened_from (get (codes "history") (view value.now)) jobs.items)) }
 {
-    match read_report_rounds(alloc, value)? {
-        Some(report_rounds) => {
+    match read_report_rounds(alloc, value) {
+        Ok(Some(report_rounds)) => {
             let opened = open_history(alloc, value, jobs)?;
             Ok(with_rounds(opened, report_rounds))
         }
-        None => Ok(None),
+        Ok(None) => {
+            drop(jobs);
+            Ok(None)
+        }
+        Err(error) => {
+            drop(jobs);
+            Err(error)
+        }
     }
 }
 
@@ -73,7 +88,11 @@ fn open_history(
     ensures { IfOk result (λ o. o ≡ opened_from (get (codes "history") (view value.now)) jobs.items) }
 {
     match value.get("history") {
-        Some(history) => resume(alloc, history, jobs.as_slice()),
+        Some(history) => {
+            let opened = resume(alloc, history, jobs.as_slice());
+            drop(jobs);
+            opened
+        }
         None => open_with(alloc, jobs),
     }
 }
@@ -95,6 +114,7 @@ fn with_jobs(core: Core, jobs: &[JobSpec]) -> Option<Core>
     if same_jobs(core.fleet().jobs(), jobs) {
         return Some(core);
     }
+    drop(core);
     None
 }
 
@@ -135,7 +155,11 @@ fn jobs_in(alloc: Global, line: &[u8]) -> Result<Option<Vec<JobSpec>>, AllocErro
     ensures { IfOk result (λ o. option_map (λ v. v.items) o ≡ jobs_said line.now) }
 {
     match read_config(alloc, line) {
-        Ok(config) => Ok(Some(specs_of(alloc, config.jobs.as_slice())?)),
+        Ok(config) => {
+            let specs = specs_of(alloc, config.jobs.as_slice());
+            drop(config);
+            Ok(Some(specs?))
+        }
         Err(SdError::Memory) => Err(AllocError),
         Err(_) => Ok(None),
     }

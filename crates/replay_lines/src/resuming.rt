@@ -48,8 +48,14 @@ fn with_core(
 {
     match applied {
         Ok(Ok(events)) => Ok(Ok(Resumption { core, events })),
-        Ok(Err(damage)) => Ok(Err(damage)),
-        Err(error) => Err(error),
+        Ok(Err(damage)) => {
+            drop(core);
+            Ok(Err(damage))
+        }
+        Err(error) => {
+            drop(core);
+            Err(error)
+        }
     }
 }
 
@@ -88,7 +94,7 @@ fn apply_line(alloc: Global, core: &mut Core, line: &[u8]) -> Result<bool, Alloc
     }
     match read_event(alloc, line)? {
         Some(event) => {
-            core.apply(event)?;
+            drop(core.apply(event)?);
             Ok(true)
         }
         None => Ok(false),

@@ -8,7 +8,7 @@ ghost use Rattle.replay_lines.specs.Replays.{answered_line, totalled, unreadable
 use crate::configuration::open_core;
 use crate::line::first_line;
 use allocation_core::{Core, booked_by_holders, published_are_best};
-use fleet_events::{Event, read_event};
+use fleet_events::{Answer, Event, read_event};
 use std::alloc::{AllocError, Global};
 
 /// How a replay ended.
@@ -31,7 +31,11 @@ pub fn replay(alloc: Global, input: &[u8], text: &mut Vec<u8>) -> Result<Ended, 
     booked_by_holders();
     let (line, others) = first_line(input);
     match open_core(alloc, line)? {
-        Some(mut core) => answer_lines(alloc, &mut core, others, text),
+        Some(mut core) => {
+            let ended = answer_lines(alloc, &mut core, others, text);
+            drop(core);
+            ended
+        }
         None => write_unreadable(alloc, 1, text),
     }
 }
@@ -95,6 +99,15 @@ fn answer_event(
     ensures memory { OnErr result (text.new.items ≡ text.old.items) }
 {
     let answer = core.apply(event)?;
+    let written = write_answer(alloc, &answer, text);
+    drop(answer);
+    written
+}
+
+fn write_answer(alloc: Global, answer: &Answer, text: &mut Vec<u8>) -> Result<(), AllocError>
+    ensures text { OnOk result (text.new.items ≡ text.old.items ++ answered_line answer.now) }
+    ensures memory { OnErr result (text.new.items ≡ text.old.items) }
+{
     let mut line = answer.line(alloc)?;
     line.push_str("\n")?;
     text.extend_from_slice(line.as_bytes())?;

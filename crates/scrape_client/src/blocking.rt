@@ -45,10 +45,17 @@ pub(crate) fn answer_until<R>(
 where
     R: Wait + Clock + Net + RandomSource + AllocGlobal,
 {
-    let mut runtime = LocalRuntime::new(rt).map_err(|e| io_cause(&e))?;
-    let timed = timed_at(rt, runtime.handle(), deadline, address, ask)?;
-    match runtime.block_on(rt, timed) {
-        Ok(ended) => came_to(ended),
-        Err(e) => Err(io_cause(&e)),
-    }
+    let mut runtime = match LocalRuntime::new(rt) {
+        Ok(runtime) => runtime,
+        Err(e) => return Err(io_cause(&e)),
+    };
+    let came = match timed_at(rt, runtime.handle(), deadline, address, ask) {
+        Ok(timed) => match runtime.block_on(rt, timed) {
+            Ok(ended) => came_to(ended),
+            Err(e) => Err(io_cause(&e)),
+        },
+        Err(cause) => Err(cause),
+    };
+    drop(runtime);
+    came
 }

@@ -58,10 +58,10 @@ impl Exchange {
         ensures { IfOk result ⟦<Exchange as Future>⟧.can_poll }
     {
         let alloc = rt.alloc();
-        let request = request_for(alloc, ask)?;
         let Ok(keys) = RandomState::new(rt) else {
             return Err(Cause::Broken);
         };
+        let request = request_for(alloc, ask)?;
         let connect = TcpStream::connect(rt, address, reactor);
         Ok(Exchange {
             alloc,
@@ -86,13 +86,36 @@ impl Exchange {
     {
         let mut connect = connect;
         match connect.poll(cx) {
-            Poll::Ready(Ok(socket)) => self.ask(socket, keys, request, cx),
-            Poll::Ready(Err(e)) => Poll::Ready(Err(io_cause(&e))),
+            Poll::Ready(Ok(socket)) => {
+                drop(connect);
+                self.ask(socket, keys, request, cx)
+            }
+            Poll::Ready(Err(e)) => {
+                drop((connect, keys, request));
+                Poll::Ready(Err(io_cause(&e)))
+            }
             Poll::Pending => {
-                self.stage = Stage::Connecting(connect, keys, request);
+                self.go_on(Stage::Connecting(connect, keys, request));
                 Poll::Pending
             }
         }
+    }
+
+    /// Goes on with this stage.
+    fn go_on(&mut self, stage: Stage)
+        requires { ⟦<Exchange as Future>⟧.can_poll self.old }
+        ensures { ⟦<Exchange as Future>⟧.can_poll self.new }
+    {
+        drop(std::mem::replace(&mut self.stage, stage));
+    }
+
+    /// Drives this connection from now on.
+    fn follow(&mut self, line: Connection<TcpStream, Full<Bytes>>)
+        requires before { ⟦<Exchange as Future>⟧.can_poll self.old }
+        requires line { ⟦<Connection<TcpStream, Full<Bytes>> as Future>⟧.can_poll line }
+        ensures { ⟦<Exchange as Future>⟧.can_poll self.new }
+    {
+        drop(self.line.replace(line));
     }
 
     /// Asks over a connection that stands.
@@ -110,11 +133,16 @@ impl Exchange {
     {
         match handshake(self.alloc, keys, socket) {
             Ok((mut sender, line)) => {
-                self.stage = Stage::Asking(sender.send_request(request));
-                self.line = Some(line);
+                let asked = sender.send_request(request);
+                drop(sender);
+                self.follow(line);
+                self.go_on(Stage::Asking(asked));
                 cx.yield_now()
             }
-            Err(e) => Poll::Ready(Err(hyper_cause(&e))),
+            Err(e) => {
+                drop(request);
+                Poll::Ready(Err(hyper_cause(&e)))
+            }
         }
     }
 
@@ -131,12 +159,16 @@ impl Exchange {
         let mut asked = asked;
         match asked.poll(cx) {
             Poll::Ready(Ok(response)) => {
+                drop(asked);
                 self.read(response);
                 cx.yield_now()
             }
-            Poll::Ready(Err(e)) => Poll::Ready(Err(hyper_cause(&e))),
+            Poll::Ready(Err(e)) => {
+                drop(asked);
+                Poll::Ready(Err(hyper_cause(&e)))
+            }
             Poll::Pending => {
-                self.stage = Stage::Asking(asked);
+                self.go_on(Stage::Asking(asked));
                 Poll::Pending
             }
         }
@@ -148,8 +180,11 @@ impl Exchange {
         ensures { ⟦<Exchange as Future>⟧.can_poll self.new }
     {
         let (head, body) = response.into_parts();
-        self.stage = Stage::Reading(head);
-        self.body = Some(Limited::new(body, self.longest).collect(self.alloc));
+        self.go_on(Stage::Reading(head));
+        drop(
+            self.body
+                .replace(Limited::new(body, self.longest).collect(self.alloc)),
+        );
     }
 
     fn poll_reading(&mut self, head: Parts, cx: &mut Context<'_>) -> Poll<Result<Answer, Cause>>
@@ -159,15 +194,18 @@ impl Exchange {
         ensures kept { Keeps cx.old cx.new }
     {
         let Some(body) = self.body.take() else {
+            drop(head);
             return Poll::Ready(Err(Cause::Broken));
         };
         match polled(body, cx) {
             Ok(Ok(all)) => Poll::Ready(answer_of(self.alloc, head, all)),
-            Ok(Err(LimitedError::LengthLimit)) => Poll::Ready(Err(Cause::TooLong)),
-            Ok(Err(LimitedError::Body(e))) => Poll::Ready(Err(hyper_cause(&e))),
+            Ok(Err(error)) => {
+                drop(head);
+                Poll::Ready(Err(body_cause(&error)))
+            }
             Err(body) => {
-                self.stage = Stage::Reading(head);
-                self.body = Some(body);
+                self.go_on(Stage::Reading(head));
+                drop(self.body.replace(body));
                 Poll::Pending
             }
         }
@@ -181,8 +219,8 @@ impl Exchange {
     {
         if let Some(line) = self.line.take() {
             match polled(line, cx) {
-                Ok(_ended) => {}
-                Err(line) => self.line = Some(line),
+                Ok(ended) => drop(ended),
+                Err(line) => self.follow(line),
             }
         }
     }
@@ -205,6 +243,14 @@ impl Future for Exchange {
             Stage::Reading(head) => self.poll_reading(head, cx),
             Stage::Over => Poll::Ready(Err(Cause::Broken)),
         }
+    }
+}
+
+/// Why a body is not read to its end.
+fn body_cause(error: &LimitedError<hyper::Error>) -> Cause {
+    match error {
+        LimitedError::LengthLimit => Cause::TooLong,
+        LimitedError::Body(e) => hyper_cause(e),
     }
 }
 
@@ -247,6 +293,7 @@ fn head_for(alloc: Global, ask: &Ask<'_>) -> Builder {
 /// The answer, where its body is not encoded.
 fn answer_of(alloc: Global, head: Parts, all: Collected) -> Result<Answer, Cause> {
     if is_encoded(&head) {
+        drop((head, all));
         return Err(Cause::Encoded);
     }
     match copied(alloc, all) {
@@ -262,7 +309,10 @@ fn answer_of(alloc: Global, head: Parts, all: Collected) -> Result<Answer, Cause
                 body,
             })
         }
-        Err(AllocError) => Err(Cause::Memory),
+        Err(AllocError) => {
+            drop(head);
+            Err(Cause::Memory)
+        }
     }
 }
 

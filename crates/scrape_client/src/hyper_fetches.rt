@@ -1,5 +1,5 @@
 //! Fetches over HTTP that are under way at once, all on the calling thread.
-ghost use Rattle.std.specs.Prelude.{◌≡◌};
+ghost use Rattle.std.specs.Prelude.{◌≡◌, IfOk};
 ghost use Rattle.futures.specs.Queued.{AllPollable, set_places};
 ghost use Rattle.futures.specs.Task.{IsArmed, Keeps};
 ghost use Rattle.futures.specs.Poll.{OnPending};
@@ -55,16 +55,46 @@ where
 {
     fn fetch_for<A: Asker>(&self, asker: &mut A) -> io::Result<()> {
         let mut runtime = LocalRuntime::new(&self.rt)?;
-        let under_way = UnderWay {
-            rt: &self.rt,
-            limit: self.limit,
-            handle: runtime.handle().clone()?,
-            asker,
-            looking: Looking::begin(&self.rt, self.rt.alloc(), &self.lookups),
-            fetches: FuturesUnordered::new(self.rt.alloc())?,
-            pause: None,
+        let ended = match self.under_way(&runtime, asker) {
+            Ok(under_way) => match runtime.block_on(&self.rt, under_way) {
+                Ok(ended) => ended,
+                Err(e) => Err(e),
+            },
+            Err(e) => Err(e),
         };
-        runtime.block_on(&self.rt, under_way)?
+        drop(runtime);
+        ended
+    }
+}
+
+impl<R> HyperFetches<R>
+where
+    R: Wait + Clock + Net + RandomSource + AllocGlobal,
+{
+    /// No fetch is under way yet.
+    fn under_way<'a, A: Asker>(
+        &'a self,
+        runtime: &LocalRuntime,
+        asker: &'a mut A,
+    ) -> io::Result<UnderWay<'a, R, A>>
+        ensures { IfOk result (λ u. AllPollable ⟦<Marked as Future>⟧.can_poll (set_places u.fetches)) }
+    {
+        let handle = runtime.handle().clone()?;
+        match FuturesUnordered::new(self.rt.alloc()) {
+            Ok(fetches) => Ok(UnderWay {
+                rt: &self.rt,
+                limit: self.limit,
+                handle,
+                asker,
+                looking: Looking::begin(&self.rt, self.rt.alloc(), &self.lookups),
+                fetches,
+                pause: None,
+            }),
+            Err(refused) => {
+                drop(handle);
+                Err(refused.into())
+            }
+        }
     }
 }
 
@@ -80,10 +110,17 @@ where
     {
         let deadline = match deadline_of(self.rt, self.limit) {
             Ok(deadline) => deadline,
-            Err(cause) => return self.tell(mark, cause),
+            Err(cause) => {
+                drop(get);
+                return self.tell(mark, cause);
+            }
         };
         match address_of(get.address.as_str()) {
-            Some(address) => self.connect(mark, &get, deadline, SocketAddr::V4(address)),
+            Some(address) => {
+                let begun = self.connect(mark, &get, deadline, SocketAddr::V4(address));
+                drop(get);
+                begun
+            }
             None => self.look_up(mark, get, deadline),
         }
     }
@@ -103,10 +140,12 @@ where
         requires { AllPollable ⟦<Marked as Future>⟧.can_poll (set_places self.old.fetches) }
         ensures { AllPollable ⟦<Marked as Future>⟧.can_poll (set_places self.new.fetches) }
     {
-        match looked.came {
+        let begun = match looked.came {
             Ok(address) => self.connect(looked.mark, &looked.get, looked.deadline, address),
             Err(cause) => self.tell(looked.mark, cause),
-        }
+        };
+        drop(looked);
+        begun
     }
 
     /// Begins a fetch of the host at an address.
@@ -123,11 +162,23 @@ where
         let alloc = self.rt.alloc();
         let ask = ask_of(get, self.limit);
         match timed_at(self.rt, &self.handle, deadline, address, &ask) {
-            Ok(timed) => match self.fetches.push(Marked { alloc, mark, timed }) {
-                Ok(()) => Ok(()),
-                Err(_) => Err(io::ErrorKind::OutOfMemory.into()),
-            },
+            Ok(timed) => self.push(Marked { alloc, mark, timed }),
             Err(cause) => self.tell(mark, cause),
+        }
+    }
+
+    /// Another fetch is under way.
+    fn push(&mut self, fetch: Marked) -> io::Result<()>
+        requires fetch { ⟦<Marked as Future>⟧.can_poll fetch }
+        requires fetches { AllPollable ⟦<Marked as Future>⟧.can_poll (set_places self.old.fetches) }
+        ensures { AllPollable ⟦<Marked as Future>⟧.can_poll (set_places self.new.fetches) }
+    {
+        match self.fetches.push(fetch) {
+            Ok(()) => Ok(()),
+            Err(lost) => {
+                drop(lost);
+                Err(io::ErrorKind::OutOfMemory.into())
+            }
         }
     }
 
@@ -173,7 +224,7 @@ where
         match pause.poll(cx) {
             Poll::Ready(_) => cx.yield_now(),
             Poll::Pending => {
-                self.pause = Some(pause);
+                drop(self.pause.replace(pause));
                 Poll::Pending
             }
         }

@@ -1,8 +1,8 @@
 //! The text of a list that is acknowledged.
-ghost use Rattle.std.specs.Prelude.{◌≡◌, IfOk, List, drop};
+ghost use Rattle.std.specs.Prelude.{◌≡◌, IfOk, OnOk, List, drop};
 ghost use Rattle.std.specs.Fmt.{decimal};
-ghost use Rattle.serde_json.specs.Data.{string};
-ghost use Rattle.serde_json.specs.View.{view};
+ghost use Rattle.serde_json.specs.Data.{string, object, no_members};
+ghost use Rattle.serde_json.specs.View.{view, members_view};
 ghost use Rattle.serde_json.specs.Written.{compact_text};
 ghost use Rattle.json_values.specs.Spelling.{list_data};
 ghost use Rattle.target_shares.specs.declared.numbered_target.NumberedTarget.{NumberedTarget};
@@ -10,10 +10,11 @@ ghost use Rattle.sd_routes.specs.Acknowledging.{acknowledged_data, is_end as is_
 ghost use Rattle.sd_routes.specs.Pages.{group_data};
 
 use crate::list_head::ListHead;
+use crate::members::{object_of, put_text};
 use bytes::Bytes;
 use json_values::text_of;
 use lists::Text;
-use serde_json::{Value, json};
+use serde_json::{Map, Value, json, put};
 use std::alloc::{AllocError, Global};
 
 /// The text of a list with this head and these groups, and before them the service itself, as collectors reach it: whoever scrapes that
@@ -87,17 +88,29 @@ fn own_group(alloc: Global, at: &str, job: &str, head: &ListHead) -> Result<Valu
 fn own_labels(alloc: Global, job: &str, head: &ListHead) -> Result<Value, AllocError>
     ensures { IfOk result (λ v. view v ≡ own_labels job.now head.now) }
 {
+    let mut members = Map::new(alloc);
+    let done = put_own_labels(&mut members, alloc, job, head);
+    object_of(done, members)
+}
+
+fn put_own_labels(
+    members: &mut Map<String, Value>,
+    alloc: Global,
+    job: &str,
+    head: &ListHead,
+) -> Result<(), AllocError>
+    requires { members_view members.old.entries ≡ no_members }
+    ensures { OnOk result (object (members_view members.new.entries) ≡ own_labels job.now head.now) }
+{
+    put_text(members, alloc, "__metrics_path__", "/acknowledged")?;
     let collector = number_value(alloc, u64::from(head.collector))?;
+    put(members, alloc, "__param_collector", collector)?;
     let epoch = number_value(alloc, head.epoch)?;
+    put(members, alloc, "__param_epoch", epoch)?;
+    put_text(members, alloc, "__param_job", job)?;
     let list = number_value(alloc, u64::from(head.allocation))?;
-    json!(in alloc; {
-        "__metrics_path__": "/acknowledged",
-        "__param_collector": collector,
-        "__param_epoch": epoch,
-        "__param_job": job,
-        "__param_list": list,
-        "__scheme__": "http"
-    })
+    put(members, alloc, "__param_list", list)?;
+    put_text(members, alloc, "__scheme__", "http")
 }
 
 /// A number in decimal, as a text.

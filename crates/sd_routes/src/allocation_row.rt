@@ -1,15 +1,17 @@
 //! The JSON texts of allocations.
-ghost use Rattle.std.specs.Prelude.{◌≡◌, IfOk};
-ghost use Rattle.serde_json.specs.View.{view, items_view};
+ghost use Rattle.std.specs.Prelude.{◌≡◌, IfOk, OnOk};
+ghost use Rattle.serde_json.specs.Data.{object, no_members};
+ghost use Rattle.serde_json.specs.View.{view, items_view, members_view};
 ghost use Rattle.serde_json.specs.Written.{compact_text};
 ghost use Rattle.json_values.specs.Spelling.{items_data, list_data};
 ghost use Rattle.sd_routes.specs.AllocationPages.{allocation_data, move_data};
 ghost use Rattle.sd_routes.specs.FoundPages.{holder_data};
 
+use crate::members::{object_of, put_text};
 use fleet_events::AllocationNumber;
 use json_values::text_of;
 use lists::{List, Text};
-use serde_json::{Value, json};
+use serde_json::{Map, Value, put};
 use std::alloc::{AllocError, Global};
 
 /// What is told of an allocation that was published.
@@ -72,20 +74,33 @@ fn allocation_values(alloc: Global, rows: &[AllocationRow]) -> Result<Vec<Value>
 fn allocation_value(alloc: Global, row: &AllocationRow) -> Result<Value, AllocError>
     ensures { IfOk result (λ v. view v ≡ allocation_data row.now) }
 {
+    let mut members = Map::new(alloc);
+    let done = put_allocation(&mut members, alloc, row);
+    object_of(done, members)
+}
+
+fn put_allocation(
+    members: &mut Map<String, Value>,
+    alloc: Global,
+    row: &AllocationRow,
+) -> Result<(), AllocError>
+    requires { members_view members.old.entries ≡ no_members }
+    ensures { OnOk result (object (members_view members.new.entries) ≡ allocation_data row.now) }
+{
+    put(members, alloc, "covered", Value::from(row.covered))?;
+    put(members, alloc, "left", Value::from(row.left))?;
+    put(
+        members,
+        alloc,
+        "milliseconds",
+        Value::from(row.milliseconds),
+    )?;
+    put(members, alloc, "more_moves", Value::from(row.more_moves))?;
+    put(members, alloc, "moved", Value::from(row.moved))?;
     let moves = moves_value(alloc, row.moves.as_slice())?;
-    let (covered, left, moved) = (row.covered, row.left, row.moved);
-    let (milliseconds, more_moves) = (row.milliseconds, row.more_moves);
-    let (number, published) = (row.number, row.published.as_str());
-    json!(in alloc; {
-        "covered": covered,
-        "left": left,
-        "milliseconds": milliseconds,
-        "more_moves": more_moves,
-        "moved": moved,
-        "moves": moves,
-        "number": number,
-        "published": published
-    })
+    put(members, alloc, "moves", moves)?;
+    put(members, alloc, "number", Value::from(row.number))?;
+    put_text(members, alloc, "published", row.published.as_str())
 }
 
 fn moves_value(alloc: Global, rows: &[MoveRow]) -> Result<Value, AllocError>
@@ -107,9 +122,24 @@ fn move_values(alloc: Global, rows: &[MoveRow]) -> Result<Vec<Value>, AllocError
 fn move_value(alloc: Global, row: &MoveRow) -> Result<Value, AllocError>
     ensures { IfOk result (λ v. view v ≡ move_data row.now) }
 {
+    let mut members = Map::new(alloc);
+    let done = put_move(&mut members, alloc, row);
+    object_of(done, members)
+}
+
+fn put_move(
+    members: &mut Map<String, Value>,
+    alloc: Global,
+    row: &MoveRow,
+) -> Result<(), AllocError>
+    requires { members_view members.old.entries ≡ no_members }
+    ensures { OnOk result (object (members_view members.new.entries) ≡ move_data row.now) }
+{
+    put(members, alloc, "count", Value::from(row.count))?;
+    put_text(members, alloc, "from", row.from.as_str())?;
+    put_text(members, alloc, "job", row.job.as_str())?;
     let to = name_or_null(alloc, &row.to)?;
-    let (count, from, job) = (row.count, row.from.as_str(), row.job.as_str());
-    json!(in alloc; {"count": count, "from": from, "job": job, "to": to})
+    put(members, alloc, "to", to)
 }
 
 /// The name of a collector, or that there is none.

@@ -1,16 +1,18 @@
 //! The JSON text of what was booked in a round.
-ghost use Rattle.std.specs.Prelude.{◌≡◌, IfOk};
-ghost use Rattle.serde_json.specs.View.{view, items_view};
+ghost use Rattle.std.specs.Prelude.{◌≡◌, IfOk, OnOk};
+ghost use Rattle.serde_json.specs.Data.{object, no_members};
+ghost use Rattle.serde_json.specs.View.{view, items_view, members_view};
 ghost use Rattle.serde_json.specs.Written.{compact_text};
 ghost use Rattle.json_values.specs.Spelling.{items_data, list_data};
 ghost use Rattle.sd_routes.specs.BooksPages.{books_data, collector_books_data, job_books_data};
 
 use crate::allocation_row::name_or_null;
 use crate::collector_row::{number_or_null, small_or_null};
+use crate::members::{object_of, put_text};
 use fleet_events::{CollectorId, Round};
 use json_values::text_of;
 use lists::{List, Text};
-use serde_json::{Value, json};
+use serde_json::{Map, Value, json, put};
 use std::alloc::{AllocError, Global};
 
 /// What was booked in a round.
@@ -87,18 +89,31 @@ fn job_values(alloc: Global, rows: &[JobBooks]) -> Result<Vec<Value>, AllocError
 fn job_value(alloc: Global, row: &JobBooks) -> Result<Value, AllocError>
     ensures { IfOk result (λ v. view v ≡ job_books_data row.now) }
 {
+    let mut members = Map::new(alloc);
+    let done = put_job(&mut members, alloc, row);
+    object_of(done, members)
+}
+
+fn put_job(
+    members: &mut Map<String, Value>,
+    alloc: Global,
+    row: &JobBooks,
+) -> Result<(), AllocError>
+    requires { members_view members.old.entries ≡ no_members }
+    ensures { OnOk result (object (members_view members.new.entries) ≡ job_books_data row.now) }
+{
     let collectors = collectors_value(alloc, row.collectors.as_slice())?;
-    let missing = number_or_null(row.counts.missing);
-    let (down, samples, up) = (row.counts.down, row.counts.samples, row.counts.up);
-    let job = row.job.as_str();
-    json!(in alloc; {
-        "collectors": collectors,
-        "down": down,
-        "job": job,
-        "missing": missing,
-        "samples": samples,
-        "up": up
-    })
+    put(members, alloc, "collectors", collectors)?;
+    put(members, alloc, "down", Value::from(row.counts.down))?;
+    put_text(members, alloc, "job", row.job.as_str())?;
+    put(
+        members,
+        alloc,
+        "missing",
+        number_or_null(row.counts.missing),
+    )?;
+    put(members, alloc, "samples", Value::from(row.counts.samples))?;
+    put(members, alloc, "up", Value::from(row.counts.up))
 }
 
 fn collectors_value(alloc: Global, rows: &[CollectorBooks]) -> Result<Value, AllocError>
@@ -120,16 +135,29 @@ fn collector_values(alloc: Global, rows: &[CollectorBooks]) -> Result<Vec<Value>
 fn collector_value(alloc: Global, row: &CollectorBooks) -> Result<Value, AllocError>
     ensures { IfOk result (λ v. view v ≡ collector_books_data row.now) }
 {
+    let mut members = Map::new(alloc);
+    let done = put_collector(&mut members, alloc, row);
+    object_of(done, members)
+}
+
+fn put_collector(
+    members: &mut Map<String, Value>,
+    alloc: Global,
+    row: &CollectorBooks,
+) -> Result<(), AllocError>
+    requires { members_view members.old.entries ≡ no_members }
+    ensures { OnOk result (object (members_view members.new.entries) ≡ collector_books_data row.now) }
+{
+    put(members, alloc, "down", Value::from(row.counts.down))?;
+    put(members, alloc, "id", Value::from(row.id))?;
+    put(
+        members,
+        alloc,
+        "missing",
+        number_or_null(row.counts.missing),
+    )?;
     let name = name_or_null(alloc, &row.name)?;
-    let missing = number_or_null(row.counts.missing);
-    let (down, samples, up) = (row.counts.down, row.counts.samples, row.counts.up);
-    let id = row.id;
-    json!(in alloc; {
-        "down": down,
-        "id": id,
-        "missing": missing,
-        "name": name,
-        "samples": samples,
-        "up": up
-    })
+    put(members, alloc, "name", name)?;
+    put(members, alloc, "samples", Value::from(row.counts.samples))?;
+    put(members, alloc, "up", Value::from(row.counts.up))
 }

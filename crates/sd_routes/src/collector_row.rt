@@ -1,15 +1,17 @@
 //! The JSON texts of collectors.
-ghost use Rattle.std.specs.Prelude.{◌≡◌, IfOk};
-ghost use Rattle.serde_json.specs.View.{view, items_view};
+ghost use Rattle.std.specs.Prelude.{◌≡◌, IfOk, OnOk};
+ghost use Rattle.serde_json.specs.Data.{object, no_members};
+ghost use Rattle.serde_json.specs.View.{view, items_view, members_view};
 ghost use Rattle.serde_json.specs.Written.{compact_text};
 ghost use Rattle.json_values.specs.Spelling.{items_data, list_data};
 ghost use Rattle.sd_routes.specs.CollectorPages.{collector_data, held_data, number_or_null};
 
+use crate::members::{object_of, put_text};
 use fleet_events::{AllocationNumber, CollectorId};
 use json_values::{Spelled, text_of};
 use lists::{List, Text};
 use reach_rules::{CollectorName, OwnLimits, Reach};
-use serde_json::{Map, Value, json, put};
+use serde_json::{Map, Value, put};
 use std::alloc::{AllocError, Global};
 
 /// What is told of a live collector.
@@ -67,22 +69,30 @@ fn collector_values(alloc: Global, rows: &[CollectorRow]) -> Result<Vec<Value>, 
 fn collector_value(alloc: Global, row: &CollectorRow) -> Result<Value, AllocError>
     ensures { IfOk result (λ v. view v ≡ collector_data row.now) }
 {
+    let mut members = Map::new(alloc);
+    let done = put_collector(&mut members, alloc, row);
+    object_of(done, members)
+}
+
+fn put_collector(
+    members: &mut Map<String, Value>,
+    alloc: Global,
+    row: &CollectorRow,
+) -> Result<(), AllocError>
+    requires { members_view members.old.entries ≡ no_members }
+    ensures { OnOk result (object (members_view members.new.entries) ≡ collector_data row.now) }
+{
+    put(members, alloc, "draining", Value::from(row.draining))?;
     let held = held_value(alloc, row.held.as_slice())?;
-    let last_take = number_or_null(row.last_take);
+    put(members, alloc, "held", held)?;
+    put(members, alloc, "id", Value::from(row.id))?;
+    put(members, alloc, "last_take", number_or_null(row.last_take))?;
     let limits = row.limits.write(alloc)?;
+    put(members, alloc, "limits", limits)?;
+    put_text(members, alloc, "name", row.name.as_str())?;
     let reach = row.reach.write(alloc)?;
-    let taken = small_or_null(row.taken);
-    let (draining, id, name) = (row.draining, row.id, row.name.as_str());
-    json!(in alloc; {
-        "draining": draining,
-        "held": held,
-        "id": id,
-        "last_take": last_take,
-        "limits": limits,
-        "name": name,
-        "reach": reach,
-        "taken_allocation": taken
-    })
+    put(members, alloc, "reach", reach)?;
+    put(members, alloc, "taken_allocation", small_or_null(row.taken))
 }
 
 pub(crate) fn held_value(alloc: Global, held: &[(Text, u32)]) -> Result<Value, AllocError>

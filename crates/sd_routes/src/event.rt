@@ -153,8 +153,14 @@ fn read_reported(alloc: Global, value: &Value, epoch: u64) -> Result<Event, Requ
     };
     match is_epoch(epoch, value.get("epoch")) {
         Some(true) => Ok(event),
-        Some(false) => Err(RequestError::OtherEpoch),
-        None => Err(RequestError::Shape),
+        Some(false) => {
+            drop(event);
+            Err(RequestError::OtherEpoch)
+        }
+        None => {
+            drop(event);
+            Err(RequestError::Shape)
+        }
     }
 }
 

@@ -1,17 +1,19 @@
 //! The JSON text of targets that were searched for.
-ghost use Rattle.std.specs.Prelude.{◌≡◌, IfOk};
-ghost use Rattle.serde_json.specs.View.{view, items_view};
+ghost use Rattle.std.specs.Prelude.{◌≡◌, IfOk, OnOk};
+ghost use Rattle.serde_json.specs.Data.{object, no_members};
+ghost use Rattle.serde_json.specs.View.{view, items_view, members_view};
 ghost use Rattle.serde_json.specs.Written.{compact_text};
 ghost use Rattle.json_values.specs.Spelling.{items_data};
 ghost use Rattle.sd_routes.specs.FoundPages.{found_data, holder_data, target_data};
 
 use crate::collector_row::small_or_null;
+use crate::members::{object_of, put_text};
 use crate::pages::labels_value;
 use fleet_events::{AllocationNumber, Round};
 use json_values::text_of;
 use lists::Text;
 use reach_rules::CollectorName;
-use serde_json::{Value, json};
+use serde_json::{Map, Value, json, put};
 use std::alloc::{AllocError, Global};
 use target_shares::NumberedTarget;
 
@@ -58,21 +60,39 @@ fn target_values(alloc: Global, found: &[FoundTarget]) -> Result<Vec<Value>, All
 fn target_value(alloc: Global, found: &FoundTarget) -> Result<Value, AllocError>
     ensures { IfOk result (λ v. view v ≡ target_data found.now) }
 {
+    let mut members = Map::new(alloc);
+    let done = put_target(&mut members, alloc, found);
+    object_of(done, members)
+}
+
+fn put_target(
+    members: &mut Map<String, Value>,
+    alloc: Global,
+    found: &FoundTarget,
+) -> Result<(), AllocError>
+    requires { members_view members.old.entries ≡ no_members }
+    ensures { OnOk result (object (members_view members.new.entries) ≡ target_data found.now) }
+{
+    let collector = holder_value(alloc, &found.collector)?;
+    put(members, alloc, "collector", collector)?;
+    put(
+        members,
+        alloc,
+        "handing_over",
+        Value::from(found.handing_over),
+    )?;
+    put_text(members, alloc, "job", found.job.as_str())?;
     let numbered = &found.target;
     let labels = labels_value(alloc, numbered.target.labels().entries(), numbered.number)?;
-    let collector = holder_value(alloc, &found.collector)?;
-    let (last_round, since) = (small_or_null(found.last_round), small_or_null(found.since));
-    let target = numbered.target.get("__address__");
-    let (handing_over, job) = (found.handing_over, found.job.as_str());
-    json!(in alloc; {
-        "collector": collector,
-        "handing_over": handing_over,
-        "job": job,
-        "labels": labels,
-        "last_round": last_round,
-        "since": since,
-        "target": target
-    })
+    put(members, alloc, "labels", labels)?;
+    put(
+        members,
+        alloc,
+        "last_round",
+        small_or_null(found.last_round),
+    )?;
+    put(members, alloc, "since", small_or_null(found.since))?;
+    put_text(members, alloc, "target", numbered.target.get("__address__"))
 }
 
 fn holder_value(alloc: Global, holder: &Option<CollectorName>) -> Result<Value, AllocError>

@@ -1,15 +1,17 @@
 //! The JSON text of a job.
-ghost use Rattle.std.specs.Prelude.{◌≡◌, IfOk};
-ghost use Rattle.serde_json.specs.View.{view, items_view};
+ghost use Rattle.std.specs.Prelude.{◌≡◌, IfOk, OnOk};
+ghost use Rattle.serde_json.specs.Data.{object, no_members};
+ghost use Rattle.serde_json.specs.View.{view, items_view, members_view};
 ghost use Rattle.serde_json.specs.Written.{compact_text};
 ghost use Rattle.json_values.specs.Spelling.{items_data, list_data};
 ghost use Rattle.sd_routes.specs.JobPages.{fault_or_null, job_row_data, links_data, source_data};
 
 use crate::collector_row::{held_value, number_or_null};
 use crate::link::{job_link, uncovered_link};
+use crate::members::{object_of, put_text};
 use json_values::text_of;
 use lists::{List, Text};
-use serde_json::{Value, json};
+use serde_json::{Map, Value, json, put};
 use std::alloc::{AllocError, Global};
 
 /// What is told of a job at a moment.
@@ -59,23 +61,32 @@ pub fn job_row_page(alloc: Global, row: &JobRow) -> Result<Text, AllocError>
 fn job_row_value(alloc: Global, row: &JobRow) -> Result<Value, AllocError>
     ensures { IfOk result (λ v. view v ≡ job_row_data row.now) }
 {
+    let mut members = Map::new(alloc);
+    let done = put_job(&mut members, alloc, row);
+    object_of(done, members)
+}
+
+fn put_job(members: &mut Map<String, Value>, alloc: Global, row: &JobRow) -> Result<(), AllocError>
+    requires { members_view members.old.entries ≡ no_members }
+    ensures { OnOk result (object (members_view members.new.entries) ≡ job_row_data row.now) }
+{
     let collectors = held_value(alloc, row.held.as_slice())?;
+    put(members, alloc, "collectors", collectors)?;
+    put(members, alloc, "covered", Value::from(row.covered))?;
+    put(
+        members,
+        alloc,
+        "handing_over",
+        Value::from(row.handing_over),
+    )?;
+    put_text(members, alloc, "job_name", row.name.as_str())?;
     let links = links_value(alloc, row.name.as_str())?;
+    put(members, alloc, "links", links)?;
+    put(members, alloc, "live", Value::from(row.live))?;
     let sources = sources_value(alloc, row.sources.as_slice())?;
-    let name = row.name.as_str();
-    let (live, covered, handing_over) = (row.live, row.covered, row.handing_over);
-    let (uncovered, unreached) = (row.uncovered, row.unreached);
-    json!(in alloc; {
-        "collectors": collectors,
-        "covered": covered,
-        "handing_over": handing_over,
-        "job_name": name,
-        "links": links,
-        "live": live,
-        "sources": sources,
-        "uncovered": uncovered,
-        "unreached": unreached
-    })
+    put(members, alloc, "sources", sources)?;
+    put(members, alloc, "uncovered", Value::from(row.uncovered))?;
+    put(members, alloc, "unreached", Value::from(row.unreached))
 }
 
 fn links_value(alloc: Global, job: &str) -> Result<Value, AllocError>
@@ -106,20 +117,36 @@ fn source_values(alloc: Global, sources: &[SourceRow]) -> Result<Vec<Value>, All
 fn source_value(alloc: Global, source: &SourceRow) -> Result<Value, AllocError>
     ensures { IfOk result (λ v. view v ≡ source_data source.now) }
 {
+    let mut members = Map::new(alloc);
+    let done = put_source(&mut members, alloc, source);
+    object_of(done, members)
+}
+
+fn put_source(
+    members: &mut Map<String, Value>,
+    alloc: Global,
+    source: &SourceRow,
+) -> Result<(), AllocError>
+    requires { members_view members.old.entries ≡ no_members }
+    ensures { OnOk result (object (members_view members.new.entries) ≡ source_data source.now) }
+{
+    put(members, alloc, "dropped", number_or_null(source.dropped))?;
     let fault = fault_value(alloc, &source.fault)?;
-    let last_success = number_or_null(source.last_success);
-    let targets = number_or_null(source.targets);
-    let dropped = number_or_null(source.dropped);
-    let without_address = number_or_null(source.without_address);
-    let url = source.url.as_str();
-    json!(in alloc; {
-        "dropped": dropped,
-        "fault": fault,
-        "last_success": last_success,
-        "targets": targets,
-        "url": url,
-        "without_address": without_address
-    })
+    put(members, alloc, "fault", fault)?;
+    put(
+        members,
+        alloc,
+        "last_success",
+        number_or_null(source.last_success),
+    )?;
+    put(members, alloc, "targets", number_or_null(source.targets))?;
+    put_text(members, alloc, "url", source.url.as_str())?;
+    put(
+        members,
+        alloc,
+        "without_address",
+        number_or_null(source.without_address),
+    )
 }
 
 fn fault_value(alloc: Global, fault: &Option<Text>) -> Result<Value, AllocError>

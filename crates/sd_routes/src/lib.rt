@@ -20,6 +20,7 @@ mod job_row;
 mod join_members;
 mod link;
 mod list_head;
+mod members;
 mod misshapen;
 mod notice;
 mod pages;

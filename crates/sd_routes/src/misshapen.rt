@@ -196,7 +196,7 @@ fn outcome_fault(alloc: Global, entry: &Value) -> Result<Option<&'static str>, A
 
 /// The first member of a report that is none. Where the report is whole, that is its epoch.
 fn report_fault(alloc: Global, value: &Value) -> Result<Option<String>, AllocError> {
-    if read_report(alloc, value)?.is_some() {
+    if is_report(alloc, value)? {
         return named(alloc, "epoch");
     }
     for name in ["collector", "number", "target", "round"] {
@@ -208,4 +208,14 @@ fn report_fault(alloc: Global, value: &Value) -> Result<Option<String>, AllocErr
         return named(alloc, "up");
     }
     named(alloc, "samples")
+}
+
+fn is_report(alloc: Global, value: &Value) -> Result<bool, AllocError> {
+    match read_report(alloc, value)? {
+        Some(event) => {
+            drop(event);
+            Ok(true)
+        }
+        None => Ok(false),
+    }
 }

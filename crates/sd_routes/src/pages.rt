@@ -1,11 +1,13 @@
 //! The JSON texts of pages.
-ghost use Rattle.std.specs.Prelude.{◌≡◌, IfOk};
-ghost use Rattle.serde_json.specs.View.{view, items_view};
+ghost use Rattle.std.specs.Prelude.{◌≡◌, IfOk, OnOk};
+ghost use Rattle.serde_json.specs.Data.{object, no_members};
+ghost use Rattle.serde_json.specs.View.{view, items_view, members_view};
 ghost use Rattle.serde_json.specs.Written.{compact_text};
 ghost use Rattle.json_values.specs.Spelling.{items_data, list_data};
 ghost use Rattle.sd_routes.specs.Pages.{job_data, jobs_data, labels_data, group_data, share_data, shares_data, uncovered_data};
 
 use crate::link::{collector_link, job_link};
+use crate::members::object_of;
 use json_values::text_of;
 use label_sets::LabelName;
 use lists::Text;
@@ -103,10 +105,27 @@ fn uncovered_value(
 ) -> Result<Value, AllocError>
     ensures { IfOk result (λ v. view v ≡ uncovered_data full.now handing_over.now unreached.now) }
 {
+    let mut members = Map::new(alloc);
+    let done = put_uncovered(&mut members, alloc, full, handing_over, unreached);
+    object_of(done, members)
+}
+
+fn put_uncovered(
+    members: &mut Map<String, Value>,
+    alloc: Global,
+    full: &[NumberedTarget],
+    handing_over: &[NumberedTarget],
+    unreached: &[NumberedTarget],
+) -> Result<(), AllocError>
+    requires { members_view members.old.entries ≡ no_members }
+    ensures { OnOk result (object (members_view members.new.entries) ≡ uncovered_data full.now handing_over.now unreached.now) }
+{
     let full = groups_value(alloc, full)?;
+    put(members, alloc, "full", full)?;
     let handing_over = groups_value(alloc, handing_over)?;
+    put(members, alloc, "handing_over", handing_over)?;
     let unreached = groups_value(alloc, unreached)?;
-    json!(in alloc; {"full": full, "handing_over": handing_over, "unreached": unreached})
+    put(members, alloc, "unreached", unreached)
 }
 
 fn groups_value(alloc: Global, targets: &[NumberedTarget]) -> Result<Value, AllocError>

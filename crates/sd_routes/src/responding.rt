@@ -1,9 +1,10 @@
 //! How an answer is written.
-ghost use Rattle.std.specs.Prelude.{◌≡◌, IfOk, OnOk, IsTrue, true, string_bytes};
+ghost use Rattle.std.specs.Prelude.{◌≡◌, IfOk, IsOk, OnOk, IsTrue, true, string_bytes};
 ghost use Rattle.http.specs.Response.{head_of, body_of};
+ghost use Rattle.serde_json.specs.Written.{compact_text};
 ghost use Rattle.http_header.specs.FieldValue.{is_visible_text};
 ghost use Rattle.sd_routes.specs.Errors.{status_of};
-ghost use Rattle.sd_routes.specs.Responses.{IsResponse, IsHead, closing, json_headers, media_headers, page_headers, document_headers, list_headers, with_accept, with_allocation, with_collector, with_left_out, with_number, with_times, refused_headers, refused_text, status_answered, status_said, headers_said, body_said};
+ghost use Rattle.sd_routes.specs.Responses.{IsResponse, IsHead, closing, json_headers, media_headers, misshapen_data, page_headers, document_headers, list_headers, with_accept, with_allocation, with_collector, with_left_out, with_number, with_times, refused_headers, refused_text, status_answered, status_said, headers_said, body_said};
 
 use crate::answers_text::{answer_text, answers_text};
 use crate::list_head::ListHead;
@@ -91,43 +92,53 @@ fn response_of(alloc: Global, said: Said) -> Result<Response<Full<Bytes>>, Alloc
 {
     match said {
         Said::Answer(answer) => {
-            let head = json_head(alloc, status_of(&answer))?;
-            response(head, answer_text(alloc, &answer)?)
+            let head = json_head(alloc, status_of(&answer));
+            let text = answer_text(alloc, &answer);
+            drop(answer);
+            response(head, text)
         }
         Said::Answers { answers, round } => {
-            let text = answers_text(alloc, answers.as_slice(), round)?;
-            response(json_head(alloc, StatusCode::OK)?, text)
+            let text = answers_text(alloc, answers.as_slice(), round);
+            drop(answers);
+            response(json_head(alloc, StatusCode::OK), text)
         }
-        Said::Page(text) => response(page_head(alloc)?, text.into_string()),
-        Said::List { head, groups } => Ok(response_with(list_parts(alloc, &head)?, groups)),
+        Said::Page(text) => response(page_head(alloc), Ok(text.into_string())),
+        Said::List { head, groups } => list_response(list_parts(alloc, &head), groups),
         Said::Refused(error) => {
-            let head = refused_head(alloc, error)?;
-            response(head, refused_text(alloc, error.name())?)
+            let text = refused_text(alloc, error.name());
+            response(refused_head(alloc, error), text)
         }
         Said::Misshapen(member) => {
-            let head = json_head(alloc, StatusCode::BAD_REQUEST)?;
-            response(head, misshapen_page(alloc, member.as_str())?.into_string())
+            let text = misshapen_text(alloc, member.as_str());
+            drop(member);
+            response(json_head(alloc, StatusCode::BAD_REQUEST), text)
         }
         Said::Notice(notice) => {
-            let head = head_with(alloc, notice.status(), "text/plain; charset=utf-8")?;
-            response(head, String::from_str(alloc, notice.text())?)
+            let head = head_with(alloc, notice.status(), "text/plain; charset=utf-8");
+            response(head, String::from_str(alloc, notice.text()))
         }
         Said::Metrics(text) => {
             let media = "text/plain; version=0.0.4; charset=utf-8";
-            let head = head_with(alloc, StatusCode::OK, media)?;
-            response(head, text.into_string())
+            let head = head_with(alloc, StatusCode::OK, media);
+            response(head, Ok(text.into_string()))
         }
-        Said::Document(text) => { response(document_head(alloc)?, text.into_string()) }
+        Said::Document(text) => response(document_head(alloc), Ok(text.into_string())),
         Said::Reloaded(changes) => {
-            let head = head_with(alloc, StatusCode::OK, "text/plain; charset=utf-8")?;
-            response(head, changes.into_string())
+            let head = head_with(alloc, StatusCode::OK, "text/plain; charset=utf-8");
+            response(head, Ok(changes.into_string()))
         }
         Said::NotReloaded(fault) => {
             let status = StatusCode::INTERNAL_SERVER_ERROR;
-            let head = head_with(alloc, status, "text/plain; charset=utf-8")?;
-            response(head, fault.into_string())
+            let head = head_with(alloc, status, "text/plain; charset=utf-8");
+            response(head, Ok(fault.into_string()))
         }
     }
+}
+
+fn misshapen_text(alloc: Global, member: &str) -> Result<String, AllocError>
+    ensures { IfOk result (λ t. string_bytes t ≡ compact_text (misshapen_data member.now)) }
+{
+    Ok(misshapen_page(alloc, member)?.into_string())
 }
 
 /// The status code of an answer of the allocator.
@@ -141,11 +152,45 @@ fn status_of(answer: &Answer) -> StatusCode
     }
 }
 
-fn response(head: Parts, text: String) -> Result<Response<Full<Bytes>>, AllocError>
-    ensures { IfOk result (IsResponse head.status head.headers (string_bytes text)) }
+/// The response of a head and a text, if there was memory for both.
+fn response(
+    head: Result<Parts, AllocError>,
+    text: Result<String, AllocError>,
+) -> Result<Response<Full<Bytes>>, AllocError>
+    ensures memory { IfOk result (λ r. IsOk head × IsOk text) }
+    ensures says { IfOk result (λ r. IfOk head (λ h. IfOk text (λ t. IsResponse h.status h.headers (string_bytes t) r))) }
 {
-    let body = Bytes::from_string(text)?;
-    Ok(response_with(head, body))
+    let head = match head {
+        Ok(head) => head,
+        Err(refused) => {
+            drop(text);
+            return Err(refused);
+        }
+    };
+    match text.and_then(Bytes::from_string) {
+        Ok(body) => Ok(response_with(head, body)),
+        Err(refused) => {
+            drop(head);
+            Err(refused)
+        }
+    }
+}
+
+/// The response of a head, if there was memory for it, and a list.
+fn list_response(
+    head: Result<Parts, AllocError>,
+    groups: Bytes,
+) -> Result<Response<Full<Bytes>>, AllocError>
+    ensures memory { IfOk result (λ r. IsOk head) }
+    ensures says { IfOk result (λ r. IfOk head (λ h. IsResponse h.status h.headers groups r)) }
+{
+    match head {
+        Ok(head) => Ok(response_with(head, groups)),
+        Err(refused) => {
+            drop(groups);
+            Err(refused)
+        }
+    }
 }
 
 fn response_with(head: Parts, body: Bytes) -> Response<Full<Bytes>>

@@ -1,5 +1,5 @@
 //! The table of paths.
-ghost use Rattle.std.specs.Prelude.{◌≡◌, IfOk};
+ghost use Rattle.std.specs.Prelude.{◌≡◌, [], IfOk, OnOk};
 ghost use Rattle.sd_routes.specs.Rows.{desk_rows, job_rows, route_rows};
 ghost use Rattle.sd_routes.specs.Table.{place_of};
 
@@ -49,22 +49,44 @@ impl Routes {
 fn router_of(alloc: Global) -> Result<Router<Place>, InsertError>
     ensures { IfOk result (λ r. r ≡ route_rows) }
 {
-    let mut router = desk_router(alloc)?;
+    let mut router = Router::new(alloc);
+    match put_rows(&mut router) {
+        Ok(()) => Ok(router),
+        Err(refused) => {
+            drop(router);
+            Err(refused)
+        }
+    }
+}
+
+fn put_rows(router: &mut Router<Place>) -> Result<(), InsertError>
+    requires { router.old ≡ [] }
+    ensures { OnOk result (router.new ≡ route_rows) }
+{
+    put_job_rows(router)?;
+    put_desk_rows(router)?;
+    put_service_rows(router)
+}
+
+// The rows of the service itself.
+fn put_service_rows(router: &mut Router<Place>) -> Result<(), InsertError>
+    requires { router.old ≡ desk_rows }
+    ensures { OnOk result (router.new ≡ route_rows) }
+{
     router.insert("/-/healthy", Place::Healthy)?;
     router.insert("/livez", Place::Live)?;
     router.insert("/-/ready", Place::Ready)?;
     router.insert("/readyz", Place::Ready)?;
     router.insert("/metrics", Place::Metrics)?;
     router.insert("/-/reload", Place::Reload)?;
-    router.insert("/-/quit", Place::Quit)?;
-    Ok(router)
+    router.insert("/-/quit", Place::Quit)
 }
 
-// The rows of all but the service itself.
-fn desk_router(alloc: Global) -> Result<Router<Place>, InsertError>
-    ensures { IfOk result (λ r. r ≡ desk_rows) }
+// The rows of the desk, behind those of jobs.
+fn put_desk_rows(router: &mut Router<Place>) -> Result<(), InsertError>
+    requires { router.old ≡ job_rows }
+    ensures { OnOk result (router.new ≡ desk_rows) }
 {
-    let mut router = job_router(alloc)?;
     router.insert("/acknowledged", Place::Acknowledged)?;
     router.insert("/allocations", Place::Allocations)?;
     router.insert("/books", Place::Books)?;
@@ -74,21 +96,19 @@ fn desk_router(alloc: Global) -> Result<Router<Place>, InsertError>
     router.insert("/collectors/{id}/drain", Place::Drain)?;
     router.insert("/collectors/{id}/release", Place::Release)?;
     router.insert("/collectors/{id}/limits", Place::Limits)?;
-    router.insert("/reports", Place::Reports)?;
-    Ok(router)
+    router.insert("/reports", Place::Reports)
 }
 
 // The rows of the page for people, and of jobs and their targets.
-fn job_router(alloc: Global) -> Result<Router<Place>, InsertError>
-    ensures { IfOk result (λ r. r ≡ job_rows) }
+fn put_job_rows(router: &mut Router<Place>) -> Result<(), InsertError>
+    requires { router.old ≡ [] }
+    ensures { OnOk result (router.new ≡ job_rows) }
 {
-    let mut router = Router::new(alloc);
     router.insert("/", Place::Status)?;
     router.insert("/scrape_configs", Place::ScrapeConfigs)?;
     router.insert("/jobs", Place::Jobs)?;
     router.insert("/jobs/{job}", Place::Job)?;
     router.insert("/jobs/{job}/targets", Place::JobTargets)?;
     router.insert("/jobs/{job}/uncovered", Place::Uncovered)?;
-    router.insert("/targets", Place::Targets)?;
-    Ok(router)
+    router.insert("/targets", Place::Targets)
 }

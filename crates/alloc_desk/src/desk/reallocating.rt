@@ -37,12 +37,27 @@ impl<L: Ledger, B: Ledger, N: DeskName> Desk<L, B, N> {
         let mut lost: Option<Lost> = None;
         for _turn in 0..tries {
             match self.attempt(rt, alloc, pass) {
-                Ok(Attempt::Published(number)) => return Ok(Reallocated::Published(number)),
-                Ok(Attempt::Unchanged(number)) => return Ok(Reallocated::Unchanged(number)),
-                Ok(Attempt::NumbersSpent) => return Err(ReallocateError::NumbersSpent),
-                Ok(Attempt::Lost(last)) => lost = Some(last),
-                Err(EnterError::JournalFull) => return Err(ReallocateError::JournalFull),
-                Err(EnterError::Memory) => return Err(ReallocateError::Memory),
+                Ok(Attempt::Published(number)) => {
+                    drop(lost);
+                    return Ok(Reallocated::Published(number));
+                }
+                Ok(Attempt::Unchanged(number)) => {
+                    drop(lost);
+                    return Ok(Reallocated::Unchanged(number));
+                }
+                Ok(Attempt::NumbersSpent) => {
+                    drop(lost);
+                    return Err(ReallocateError::NumbersSpent);
+                }
+                Ok(Attempt::Lost(last)) => drop(std::mem::replace(&mut lost, Some(last))),
+                Err(EnterError::JournalFull) => {
+                    drop(lost);
+                    return Err(ReallocateError::JournalFull);
+                }
+                Err(EnterError::Memory) => {
+                    drop(lost);
+                    return Err(ReallocateError::Memory);
+                }
             }
         }
         Err(ReallocateError::Overtaken(lost))
@@ -65,10 +80,16 @@ impl<L: Ledger, B: Ledger, N: DeskName> Desk<L, B, N> {
             return Err(EnterError::Memory);
         };
         let Ok((plan, twin)) = plan_for(alloc, &instance) else {
+            drop(instance);
             return Err(EnterError::Memory);
         };
-        let receipt = self.submit(rt, pass, Event::Install(twin))?;
-        Ok(attempted(&receipt.answer, instance, plan))
+        match self.submit(rt, pass, Event::Install(twin)) {
+            Ok(receipt) => Ok(attempted(&receipt.answer, instance, plan)),
+            Err(error) => {
+                drop((instance, plan));
+                Err(error)
+            }
+        }
     }
 }
 
@@ -78,6 +99,11 @@ fn plan_for(alloc: Global, instance: &Instance) -> Result<(Plan, Plan), AllocErr
     ensures copy { IfOk result (λ p. p.1 ≡ p.0) }
 {
     let (plan, _work) = solve(alloc, instance)?;
-    let copy = plan.copy()?;
-    Ok((plan, copy))
+    match plan.copy() {
+        Ok(copy) => Ok((plan, copy)),
+        Err(error) => {
+            drop(plan);
+            Err(error)
+        }
+    }
 }

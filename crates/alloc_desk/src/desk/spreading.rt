@@ -74,8 +74,10 @@ impl<L: Ledger, B: Ledger, N: DeskName> Desk<L, B, N> {
             return Err(EnterError::Memory);
         };
         let Ok(spread) = spread_for(alloc, &instance, jobs, slack, by_job, most_moves) else {
+            drop(instance);
             return Err(EnterError::Memory);
         };
+        drop(instance);
         let receipt = self.submit(rt, pass, Event::Spread(spread))?;
         Ok(spread_attempted(&receipt.answer))
     }

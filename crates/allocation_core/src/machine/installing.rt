@@ -40,14 +40,36 @@ impl Core {
     {
         no_fault_is_certified();
         instances_are_problems();
-        let live = self.fleet.live()?;
+        let live = match self.fleet.live() {
+            Ok(live) => live,
+            Err(error) => {
+                drop(plan);
+                return Err(error);
+            }
+        };
         let before = self.holders.current_pairs();
-        let instance = build_instance(self.alloc, &self.fleet, live.as_slice(), before)?;
-        if let Some(fault) = fault_in(self.alloc, &instance, &plan)? {
-            return Ok(Answer::Not(Refusal::Refused(fault)));
+        let instance = match build_instance(self.alloc, &self.fleet, live.as_slice(), before) {
+            Ok(instance) => instance,
+            Err(error) => {
+                drop((live, plan));
+                return Err(error);
+            }
+        };
+        match fault_in(self.alloc, &instance, &plan) {
+            Ok(None) => {
+                let answer = self.publish(live.as_slice(), instance, plan);
+                drop(live);
+                answer
+            }
+            Ok(Some(fault)) => {
+                drop((live, instance, plan));
+                Ok(Answer::Not(Refusal::Refused(fault)))
+            }
+            Err(error) => {
+                drop((live, instance, plan));
+                Err(error)
+            }
         }
-        let answer = self.publish(live.as_slice(), instance, plan)?;
-        Ok(answer)
     }
 
     /// A plan within caps is published, where the judge finds no fault of it at the instance of this moment.
@@ -60,15 +82,44 @@ impl Core {
     {
         no_best_fault_is_certified();
         instances_are_problems();
-        let live = self.fleet.live()?;
+        let live = match self.fleet.live() {
+            Ok(live) => live,
+            Err(error) => {
+                drop(spread);
+                return Err(error);
+            }
+        };
         let before = self.holders.current_pairs();
-        let instance = build_instance(self.alloc, &self.fleet, live.as_slice(), before)?;
-        if let Some(fault) = check_spread(self.alloc, &instance, &spread)? {
-            return Ok(Answer::Not(Refusal::RefusedSpread(fault)));
+        let instance = match build_instance(self.alloc, &self.fleet, live.as_slice(), before) {
+            Ok(instance) => instance,
+            Err(error) => {
+                drop((live, spread));
+                return Err(error);
+            }
+        };
+        match check_spread(self.alloc, &instance, &spread) {
+            Ok(None) => {}
+            Ok(Some(fault)) => {
+                drop((live, instance, spread));
+                return Ok(Answer::Not(Refusal::RefusedSpread(fault)));
+            }
+            Err(error) => {
+                drop((live, instance, spread));
+                return Err(error);
+            }
         }
-        let capped = instance.capped(self.alloc, spread.caps.as_slice())?;
-        let answer = self.publish(live.as_slice(), capped, spread.plan)?;
-        Ok(answer)
+        match instance.capped(self.alloc, spread.caps.as_slice()) {
+            Ok(capped) => {
+                drop(instance);
+                let answer = self.publish(live.as_slice(), capped, plan_of(spread));
+                drop(live);
+                answer
+            }
+            Err(error) => {
+                drop((live, instance, spread));
+                Err(error)
+            }
+        }
     }
 
     /// The allocation of a plan is published, with the instance that its prices certify it for, unless it is the current one. The live
@@ -85,20 +136,40 @@ impl Core {
         ensures err { OnErr result (self.new ≡ self.old) }
         ensures installed { IfOk result (IsInstalled self.old) }
     {
-        let pairs = build_allocation(self.alloc, &self.fleet, live, plan.pairs.as_slice())?;
+        let pairs = match build_allocation(self.alloc, &self.fleet, live, plan.pairs.as_slice()) {
+            Ok(pairs) => pairs,
+            Err(error) => {
+                drop((instance, plan));
+                return Err(error);
+            }
+        };
         if same_pairs(pairs.as_slice(), self.holders.current_pairs()) {
+            drop((pairs, instance, plan));
             return Ok(Answer::Not(Refusal::Unchanged(self.holders.current())));
         }
         match self.holders.publish(pairs) {
             Ok(number) => {
-                self.instance = instance;
-                self.plan = plan;
+                drop(std::mem::replace(&mut self.instance, instance));
+                drop(std::mem::replace(&mut self.plan, plan));
                 Ok(Answer::Published(number))
             }
-            Err(HoldersError::NumbersSpent) => Ok(Answer::Not(Refusal::NumbersSpent)),
-            Err(_) => Err(AllocError),
+            Err(HoldersError::NumbersSpent) => {
+                drop((instance, plan));
+                Ok(Answer::Not(Refusal::NumbersSpent))
+            }
+            Err(_) => {
+                drop((instance, plan));
+                Err(AllocError)
+            }
         }
     }
+}
+
+/// The plan of a spread.
+fn plan_of(spread: Spread) -> Plan
+    ensures { result ≡ spread.plan }
+{
+    spread.plan
 }
 
 /// The first fault of a plan.

@@ -29,6 +29,7 @@ impl Core {
         ensures refused { IfErr result (λ n. IsWhyNot (renewal_refusal self jobs.items) n.why) }
     {
         if let Some(why) = self.renewal_refusal(jobs.as_slice()) {
+            drop(jobs);
             return Err(NotRenewed { core: self, why });
         }
         match self.carried(jobs) {
@@ -78,11 +79,16 @@ impl Core {
     {
         let pairs = self.holders.current_pairs();
         match renew_fleet(self.alloc, &self.fleet, jobs, pairs, self.served.slots()) {
-            Ok(renewed) => {
-                let holders = Holders::carried_over(self.alloc, renewed.pairs)?;
-                let served = ServedLists::carried_over(self.alloc, renewed.slots.into_vec());
-                Ok((renewed.fleet, holders, served))
-            }
+            Ok(renewed) => match Holders::carried_over(self.alloc, renewed.pairs) {
+                Ok(holders) => {
+                    let served = ServedLists::carried_over(self.alloc, renewed.slots.into_vec());
+                    Ok((renewed.fleet, holders, served))
+                }
+                Err(error) => {
+                    drop((renewed.fleet, renewed.slots));
+                    Err(error)
+                }
+            },
             Err(_) => Err(AllocError),
         }
     }
@@ -102,6 +108,7 @@ impl Core {
         requires left { self.round < LAST_ROUND }
         ensures { result ≡ record self { fleet = fleet; published = holders.published; taken = holders.taken; served = served; round = self.round + 1; booked = []; begun = self.round + 1; report_rounds = report_rounds } }
     {
+        drop((self.fleet, self.holders, self.served, self.books));
         Core {
             alloc: self.alloc,
             fleet,

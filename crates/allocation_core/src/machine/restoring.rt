@@ -34,7 +34,13 @@ impl Core {
         ensures { IfOk result (λ c. c ≡ restored fleet pairs slots.items instance plan round report_rounds) }
     {
         let _jobs = fleet.jobs();
-        let holders = Holders::carried_over(alloc, pairs)?;
+        let holders = match Holders::carried_over(alloc, pairs) {
+            Ok(holders) => holders,
+            Err(error) => {
+                drop((fleet, slots, instance, plan));
+                return Err(error);
+            }
+        };
         Ok(Core {
             alloc,
             fleet,

@@ -10,13 +10,13 @@ pub returns-in-Some : goal.returns-in-Some
 returns-in-Some c =
     let others = lines_left c.first_line.result.1 in
     let same : written_from 2 c.in-Some.core others ≡ replay_of c.args.input.now = sym (replay_opened c.args.input.now c.first_line.result.0.now others c.in-Some.core c.first_line.ensures.lines (sym c.in_ok-core.ensures ∙ c.in-Some.is)) in
-    let told = c.answer_lines.ensures in
+    let told = c.answer_lines-ended.ensures in
     let old = c.args.text.now.items in
-    let new = c.answer_lines.new.text.items in
+    let new = c.answer_lines-ended.new.text.items in
     record {
-      text = subst (λ (w : Written). OnOk c.answer_lines.result (new ≡ old ++ w.text)) same told.text;
-      ended = subst (λ (w : Written). IfOk c.answer_lines.result (λ e. e ≡ w.ended)) same told.ended;
-      memory = subst (λ (w : Written). OnErr c.answer_lines.result (AddsFront w.text old new)) same told.memory;
+      text = subst (λ (w : Written). OnOk c.answer_lines-ended.result (new ≡ old ++ w.text)) same told.text;
+      ended = subst (λ (w : Written). IfOk c.answer_lines-ended.result (λ e. e ≡ w.ended)) same told.ended;
+      memory = subst (λ (w : Written). OnErr c.answer_lines-ended.result (AddsFront w.text old new)) same told.memory;
       run = replay_is_run c.published_are_best.ensures c.booked_by_holders.ensures c.args.input.now;
     }
 

@@ -6,8 +6,8 @@ use Rattle.allocation_core.specs.State.{State, current_pairs}
 use Rattle.allocation_core.proofs.RenewedLemmas.{slots_given}
 use Rattle.allocation_core.proofs.machine.Core.carried.Goals as goal
 
-pub returns-in_ok-holders-in-Ok-clause-given : goal.returns-in_ok-holders-in-Ok-clause-given
-returns-in_ok-holders-in-Ok-clause-given c =
+pub returns-in-Ok-carried_over-clause-given : goal.returns-in-Ok-carried_over-clause-given
+returns-in-Ok-carried_over-clause-given c =
     let s : State =
     record {
       fleet = c.self.inside.fleet;

@@ -5,10 +5,10 @@ use Rattle.allocation_core.specs.State.{current_pairs, instance_at}
 use Rattle.allocation_core.specs.Kept.{IsKept}
 use Rattle.allocation_core.proofs.machine.Core.install.Goals as goal
 
-pub returns-in-Some-clause-certified : goal.returns-in-Some-clause-certified
-returns-in-Some-clause-certified c = λ h.
+pub returns-in-Ok-Some-clause-certified : goal.returns-in-Ok-Some-clause-certified
+returns-in-Ok-Some-clause-certified c = λ h.
     let kept : IsKept c.args.self.now = subst IsKept c.self.view_is c.self.invariant in
     let none : fault_of (instance_at c.args.self.now) c.args.plan.pairs c.args.plan.item_prices c.args.plan.bin_prices ≡ None = (c.no_fault_is_certified.ensures (instance_at c.args.self.now) c.args.plan.pairs c.args.plan.item_prices c.args.plan.bin_prices (c.instances_are_problems.ensures c.args.self.now.fleet (current_pairs c.args.self.now) kept.fleet)).1 h in
-    let is : c.in_ok-instance.instance ≡ instance_at c.args.self.now =
-    c.in_ok-instance.ensures ∙ (λ i. instance_of c.self.inside.fleet (c.current_pairs-before.ensures.pairs i)) ∙ ap instance_at c.self.view_is in
-    cc (none, is, c.in_ok-fault.ensures, c.in-Some.is)
+    let is : c.in-Ok-build_instance.instance ≡ instance_at c.args.self.now =
+    c.in-Ok-build_instance.ensures ∙ (λ i. instance_of c.self.inside.fleet (c.current_pairs-before.ensures.pairs i)) ∙ ap instance_at c.self.view_is in
+    cc (none, is, c.in-Ok-Some.ensures)
