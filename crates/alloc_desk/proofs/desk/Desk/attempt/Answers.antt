@@ -8,14 +8,14 @@ use Rattle.alloc_desk.proofs.desk.Desk.attempt.Goals as goal
 
 pub attempted-requires : goal.attempted-requires
 attempted-requires g c =
-    let told = c.in_ok-receipt.ensures.answered in
+    let told = c.in-Ok-submit.ensures.answered in
     rw told.holds.answer (c.answers_fit.ensures told.history.state (Install c.in-Ok-plan_for.twin))
 
-pub returns-clause-came_to : goal.returns-clause-came_to
-returns-clause-came_to g c =
+pub returns-in-Ok-submit-clause-came_to : goal.returns-in-Ok-submit-clause-came_to
+returns-in-Ok-submit-clause-came_to g c =
     let opening = g.N.DeskName.opening in
-    let told = c.in_ok-receipt.ensures.answered in
-    let receipt = c.in_ok-receipt.receipt in
+    let told = c.in-Ok-submit.ensures.answered in
+    let receipt = c.in-Ok-submit.receipt in
     let P : Plan → Type 0 = λ plan. EndsIn opening (c.instance.new.pass.calls + 1) (Install plan) receipt.answer in
     let Q : Counts → Type 0 = λ counts. EndsIn opening (counts.calls + 1) (Install c.in-Ok-plan_for.plan) receipt.answer in
     let e = subst Q c.in-Ok.ensures.same (subst P c.in-Ok-plan_for.ensures.copy (ends_in opening c.instance.new.pass (Install c.in-Ok-plan_for.twin) receipt told)) in

@@ -11,7 +11,7 @@ use Rattle.alloc_desk.proofs.SpareLemmas.{spare_fits}
 use Rattle.alloc_desk.proofs.record.Record.enter.Goals as goal
 
 pub copy_with-requires : goal.copy_with-requires
-copy_with-requires c = rw c.in-Ok-apply.ensures.answer (spare_fits c.self.inside.core c.args.event c.in-Ok-copies_for.spare c.in-Ok-copies_for.ensures.spare)
+copy_with-requires c = rw c.in-Ok-apply.ensures.answer (spare_fits c.self.inside.core c.args.event c.in-Ok.spare c.in-Ok.ensures.spare)
 
 pub invariant_of-self-2 : goal.invariant_of-self-2
 invariant_of-self-2 c =
