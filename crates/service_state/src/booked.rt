@@ -119,7 +119,9 @@ pub(crate) fn job_books(
 {
     let nothing = nothing_of(core.round(), round);
     let tallies = tallies_of(alloc, core, round, nothing)?;
-    rows_of(alloc, core, nothing, tallies.as_slice())
+    let rows = rows_of(alloc, core, nothing, tallies.as_slice());
+    drop(tallies);
+    rows
 }
 
 /// What is counted before anything is. What is missing is known of the open round and of the last one that is over: lists are told as they are now.
@@ -144,19 +146,48 @@ fn tallies_of(
     nothing: BookCounts,
 ) -> Result<Vec<Vec<Tally>>, AllocError> {
     let reports = reports_of(alloc, core.books().entries(), round)?;
+    let tallies = tallies_by(alloc, core, reports.as_slice(), nothing);
+    drop(reports);
+    tallies
+}
+
+fn tallies_by(
+    alloc: Global,
+    core: &Core,
+    reports: &[(TargetId, Entry)],
+    nothing: BookCounts,
+) -> Result<Vec<Vec<Tally>>, AllocError> {
     let jobs = no_tallies(alloc, core.fleet().jobs().len())?;
     let mut tallies = Tallies { nothing, jobs };
-    tallies.count_reports(core, reports.as_slice())?;
-    tallies.count_held(alloc, core, reports.as_slice())?;
-    Ok(tallies.jobs)
+    match tallies.count(alloc, core, reports) {
+        Ok(()) => Ok(tallies.jobs),
+        Err(refused) => {
+            drop(tallies);
+            Err(refused)
+        }
+    }
 }
 
 fn no_tallies(alloc: Global, count: usize) -> Result<Vec<Vec<Tally>>, AllocError> {
     let mut jobs = Vec::with_capacity(alloc, count)?;
+    match push_no_tallies(&mut jobs, alloc, count) {
+        Ok(()) => Ok(jobs),
+        Err(refused) => {
+            drop(jobs);
+            Err(refused)
+        }
+    }
+}
+
+fn push_no_tallies(
+    jobs: &mut Vec<Vec<Tally>>,
+    alloc: Global,
+    count: usize,
+) -> Result<(), AllocError> {
     for _ in 0..count {
         jobs.push(Vec::new(alloc))?;
     }
-    Ok(jobs)
+    Ok(())
 }
 
 /// The reports of a round beside their targets. Entries need not stand in order of rounds, so all are looked at.
@@ -177,6 +208,16 @@ fn reports_of(
 }
 
 impl Tallies {
+    fn count(
+        &mut self,
+        alloc: Global,
+        core: &Core,
+        reports: &[(TargetId, Entry)],
+    ) -> Result<(), AllocError> {
+        self.count_reports(core, reports)?;
+        self.count_held(alloc, core, reports)
+    }
+
     fn count_reports(
         &mut self,
         core: &Core,
@@ -411,6 +452,21 @@ fn collectors_of(
     tallies: &[Tally],
 ) -> Result<List<CollectorBooks>, AllocError> {
     let mut rows = List::new(alloc);
+    match push_collectors(&mut rows, alloc, core, tallies) {
+        Ok(()) => Ok(rows),
+        Err(refused) => {
+            drop(rows);
+            Err(refused)
+        }
+    }
+}
+
+fn push_collectors(
+    rows: &mut List<CollectorBooks>,
+    alloc: Global,
+    core: &Core,
+    tallies: &[Tally],
+) -> Result<(), AllocError> {
     for tally in tallies {
         let name = name_of(alloc, core, tally.id)?;
         rows.push(CollectorBooks {
@@ -419,7 +475,7 @@ fn collectors_of(
             counts: tally.counts,
         })?;
     }
-    Ok(rows)
+    Ok(())
 }
 
 /// The name of a collector, if it is live.

@@ -41,18 +41,27 @@ impl ConfigPages {
         ensures names { IfOk result (λ p. p.names ≡ map (λ (j : Job). j.name) config.now.jobs) }
         ensures urls { IfOk result (λ p. p.urls ≡ map (λ (j : Job). j.http_urls) config.now.jobs) }
     {
-        let as_read = scrape_configs_text(alloc, config)?;
-        let jobs = jobs_page(alloc, config.jobs.as_slice())?;
-        let names = names_of(alloc, config.jobs.as_slice())?;
-        let urls = urls_of(alloc, config.jobs.as_slice())?;
-        Ok(ConfigPages {
-            scrape_configs,
-            as_read,
-            jobs,
-            names,
-            urls,
-            acknowledge: None,
-        })
+        let (as_read, jobs) = match texts_of(alloc, config) {
+            Ok(texts) => texts,
+            Err(refused) => {
+                drop(scrape_configs);
+                return Err(refused);
+            }
+        };
+        match jobs_of(alloc, config.jobs.as_slice()) {
+            Ok((names, urls)) => Ok(ConfigPages {
+                scrape_configs,
+                as_read,
+                jobs,
+                names,
+                urls,
+                acknowledge: None,
+            }),
+            Err(refused) => {
+                drop((scrape_configs, as_read, jobs));
+                Err(refused)
+            }
+        }
     }
 
     /// The URLs of the sources of the job at a place, by their numbers.
@@ -71,6 +80,31 @@ impl ConfigPages {
             .as_slice()
             .iter()
             .position(|name| name.as_str() == job)
+    }
+}
+
+/// The scrape configs as they were read, and the page of the jobs.
+fn texts_of(alloc: Global, config: &Config) -> Result<(Text, Text), AllocError>
+    ensures as_read { IfOk result (λ t. t.0 ≡ compact_text (view config.now.as_read)) }
+    ensures jobs { IfOk result (λ t. t.1 ≡ compact_text (jobs_data config.now.jobs)) }
+{
+    let as_read = scrape_configs_text(alloc, config)?;
+    let jobs = jobs_page(alloc, config.jobs.as_slice())?;
+    Ok((as_read, jobs))
+}
+
+/// The names of jobs, and the URLs of their sources.
+fn jobs_of(alloc: Global, jobs: &[Job]) -> Result<(List<Text>, List<List<Text>>), AllocError>
+    ensures names { IfOk result (λ r. r.0 ≡ map (λ (j : Job). j.name) jobs.now) }
+    ensures urls { IfOk result (λ r. r.1 ≡ map (λ (j : Job). j.http_urls) jobs.now) }
+{
+    let names = names_of(alloc, jobs)?;
+    match urls_of(alloc, jobs) {
+        Ok(urls) => Ok((names, urls)),
+        Err(refused) => {
+            drop(names);
+            Err(refused)
+        }
     }
 }
 

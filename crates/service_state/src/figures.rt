@@ -9,25 +9,57 @@ use std::alloc::{AllocError, Global};
 
 /// The numbers of a desk at a moment, whose journal has so many entries.
 pub fn figures_of(alloc: Global, core: &Core, entries: usize) -> Result<Figures, AllocError> {
-    let mut figures = Figures {
-        jobs: empty_jobs(alloc, core)?,
-        collectors: idle_collectors(alloc, core)?,
-        allocation: core.current(),
-        round: core.round(),
-        samples: core.total(),
-        entries,
-        waited_for_left: 0,
-    };
+    let mut figures = no_figures(alloc, core, entries)?;
+    match count_all(alloc, core, &mut figures) {
+        Ok(()) => Ok(figures),
+        Err(refused) => {
+            drop(figures);
+            Err(refused)
+        }
+    }
+}
+
+/// The numbers of a desk before anything is counted.
+fn no_figures(alloc: Global, core: &Core, entries: usize) -> Result<Figures, AllocError> {
+    let jobs = empty_jobs(alloc, core)?;
+    match idle_collectors(alloc, core) {
+        Ok(collectors) => Ok(Figures {
+            jobs,
+            collectors,
+            allocation: core.current(),
+            round: core.round(),
+            samples: core.total(),
+            entries,
+            waited_for_left: 0,
+        }),
+        Err(refused) => {
+            drop(jobs);
+            Err(refused)
+        }
+    }
+}
+
+fn count_all(alloc: Global, core: &Core, figures: &mut Figures) -> Result<(), AllocError> {
     let live = core.fleet().live_marks()?;
-    count_live(core, live.as_slice(), &mut figures);
-    count_covered(core, live.as_slice(), &mut figures);
+    count_live(core, live.as_slice(), figures);
+    count_covered(core, live.as_slice(), figures);
     let waiting = targets_handing_over(alloc, core)?;
-    count_handing_over(core, waiting.as_slice(), &mut figures);
-    Ok(figures)
+    count_handing_over(core, waiting.as_slice(), figures);
+    Ok(())
 }
 
 fn empty_jobs(alloc: Global, core: &Core) -> Result<Vec<JobFigures>, AllocError> {
     let mut jobs = Vec::new(alloc);
+    match push_jobs(&mut jobs, core) {
+        Ok(()) => Ok(jobs),
+        Err(refused) => {
+            drop(jobs);
+            Err(refused)
+        }
+    }
+}
+
+fn push_jobs(jobs: &mut Vec<JobFigures>, core: &Core) -> Result<(), AllocError> {
     for job in core.fleet().jobs() {
         let name = job.name.copy()?;
         jobs.push(JobFigures {
@@ -38,25 +70,53 @@ fn empty_jobs(alloc: Global, core: &Core) -> Result<Vec<JobFigures>, AllocError>
             taken: 0,
         })?;
     }
-    Ok(jobs)
+    Ok(())
 }
 
 fn idle_collectors(alloc: Global, core: &Core) -> Result<Vec<CollectorFigures>, AllocError> {
     let mut collectors = Vec::new(alloc);
+    match push_collectors(&mut collectors, alloc, core) {
+        Ok(()) => Ok(collectors),
+        Err(refused) => {
+            drop(collectors);
+            Err(refused)
+        }
+    }
+}
+
+fn push_collectors(
+    collectors: &mut Vec<CollectorFigures>,
+    alloc: Global,
+    core: &Core,
+) -> Result<(), AllocError> {
     for collector in core.collectors() {
-        let name = Text::from_str(alloc, collector.name.as_str())?;
-        collectors.push(CollectorFigures {
+        collectors.push(idle_collector(alloc, core, collector)?)?;
+    }
+    Ok(())
+}
+
+fn idle_collector(
+    alloc: Global,
+    core: &Core,
+    collector: &Collector,
+) -> Result<CollectorFigures, AllocError> {
+    let shares = idle_shares(alloc, core.fleet().jobs(), collector)?;
+    match Text::from_str(alloc, collector.name.as_str()) {
+        Ok(name) => Ok(CollectorFigures {
             name,
             id: collector.id,
             draining: collector.draining,
             held: 0,
-            shares: idle_shares(alloc, core.fleet().jobs(), collector)?,
+            shares,
             taken: last_list(core, collector.id),
             room: room_of(core.fleet().jobs(), collector),
             waited_for: 0,
-        })?;
+        }),
+        Err(refused) => {
+            drop(shares);
+            Err(refused)
+        }
     }
-    Ok(collectors)
 }
 
 /// The number of the allocation of its last list: of its lists that are served in order, that of the oldest; 0 where it has none.

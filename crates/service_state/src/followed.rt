@@ -70,9 +70,12 @@ impl Followed {
 
     fn add(&mut self, list: FollowedList, targets: &[TargetId]) -> Result<(), AllocError> {
         let mut waiting = Waiting::new(self.alloc, list);
-        waiting.give(self.alloc, list.allocation, targets)?;
+        if let Err(refused) = waiting.give(self.alloc, list.allocation, targets) {
+            drop(waiting);
+            return Err(refused);
+        }
         if self.waiting.len() >= MOST_WAITING {
-            self.waiting.remove(0);
+            drop(self.waiting.remove(0));
         }
         self.waiting.push(waiting)?;
         Ok(())

@@ -20,32 +20,37 @@ pub fn metrics_page(
     state: &ServiceState,
 ) -> Result<Text, AllocError> {
     let mut page = Exposition::new(alloc);
-    write_jobs(&mut page, figures.jobs.as_slice())?;
-    write_collectors(&mut page, figures.collectors.as_slice())?;
-    write_last_takes(
-        &mut page,
-        figures.collectors.as_slice(),
-        notes.asked.as_slice(),
-    )?;
-    write_loads(
-        &mut page,
-        figures.collectors.as_slice(),
-        notes.loads.as_slice(),
-    )?;
-    write_books(&mut page, figures.jobs.as_slice(), &notes.books)?;
-    write_allocation(&mut page, figures)?;
-    write_last_allocation(&mut page, notes)?;
-    write_waiting(&mut page, figures, state)?;
-    write_events(&mut page, &notes.counts)?;
-    write_requests(&mut page, alloc, &notes.counts)?;
-    write_sources(&mut page, alloc, notes.sources.as_slice())?;
-    write_state(&mut page, state)?;
-    write_journal_writes(&mut page, notes)?;
-    write_process_figures(&mut page, &notes.process)?;
+    if let Err(refused) = write_page(&mut page, alloc, figures, notes, state) {
+        drop(page);
+        return Err(refused);
+    }
     match page.into_string() {
         Some(text) => Ok(Text::from_string(text)),
         None => Err(AllocError),
     }
+}
+
+fn write_page(
+    page: &mut Exposition,
+    alloc: Global,
+    figures: &Figures,
+    notes: &Notes,
+    state: &ServiceState,
+) -> Result<(), AllocError> {
+    write_jobs(page, figures.jobs.as_slice())?;
+    write_collectors(page, figures.collectors.as_slice())?;
+    write_last_takes(page, figures.collectors.as_slice(), notes.asked.as_slice())?;
+    write_loads(page, figures.collectors.as_slice(), notes.loads.as_slice())?;
+    write_books(page, figures.jobs.as_slice(), &notes.books)?;
+    write_allocation(page, figures)?;
+    write_last_allocation(page, notes)?;
+    write_waiting(page, figures, state)?;
+    write_events(page, &notes.counts)?;
+    write_requests(page, alloc, &notes.counts)?;
+    write_sources(page, alloc, notes.sources.as_slice())?;
+    write_state(page, state)?;
+    write_journal_writes(page, notes)?;
+    write_process_figures(page, &notes.process)
 }
 
 fn write_jobs(page: &mut Exposition, jobs: &[JobFigures]) -> Result<(), AllocError> {

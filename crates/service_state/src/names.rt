@@ -133,10 +133,20 @@ impl Names {
     /// The names with their last numbers. The one that was live first stands first.
     pub(crate) fn all(&self, alloc: Global) -> Result<Vec<(Text, CollectorId)>, AllocError> {
         let mut names = Vec::with_capacity(alloc, self.live.len())?;
+        match self.push_all(&mut names) {
+            Ok(()) => Ok(names),
+            Err(refused) => {
+                drop(names);
+                Err(refused)
+            }
+        }
+    }
+
+    fn push_all(&self, names: &mut Vec<(Text, CollectorId)>) -> Result<(), AllocError> {
         for known in self.live.iter() {
             names.push((known.name.copy()?, known.id))?;
         }
-        Ok(names)
+        Ok(())
     }
 
     /// Nobody has this name, and somebody asks under it.

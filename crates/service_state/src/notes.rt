@@ -53,29 +53,51 @@ impl Notes {
         alloc: Global,
         asked: Vec<(CollectorId, u64)>,
     ) -> Result<Notes, AllocError> {
-        Ok(Notes {
-            counts: self.counts,
-            sources: copied_sources(alloc, self.sources.as_slice())?,
-            allocations: copied_allocations(alloc, self.allocations.as_slice())?,
-            searches: self.searches,
-            writes: self.writes,
-            process: self.process,
-            asked,
-            loads: copied_loads(alloc, self.loads.as_slice())?,
-            books: self.books.copy(alloc)?,
-        })
+        let sources = match copied_sources(alloc, self.sources.as_slice()) {
+            Ok(sources) => sources,
+            Err(refused) => {
+                drop(asked);
+                return Err(refused);
+            }
+        };
+        let allocations = match copied_allocations(alloc, self.allocations.as_slice()) {
+            Ok(allocations) => allocations,
+            Err(refused) => {
+                drop((asked, sources));
+                return Err(refused);
+            }
+        };
+        let loads = match copied_loads(alloc, self.loads.as_slice()) {
+            Ok(loads) => loads,
+            Err(refused) => {
+                drop((asked, sources, allocations));
+                return Err(refused);
+            }
+        };
+        match self.books.copy(alloc) {
+            Ok(books) => Ok(Notes {
+                counts: self.counts,
+                sources,
+                allocations,
+                searches: self.searches,
+                writes: self.writes,
+                process: self.process,
+                asked,
+                loads,
+                books,
+            }),
+            Err(refused) => {
+                drop((asked, sources, allocations, loads));
+                Err(refused)
+            }
+        }
     }
 
     /// A source was refreshed.
     pub(crate) fn note_refresh(&mut self, refresh: SourceNote) -> Result<(), AllocError> {
         for note in &mut self.sources {
             if note.number == refresh.number && note.job.same(&refresh.job) {
-                note.refreshes = note.refreshes.saturating_add(refresh.refreshes);
-                note.failures = note.failures.saturating_add(refresh.failures);
-                note.succeeded = note.succeeded.max(refresh.succeeded);
-                note.at = refresh.at;
-                note.fault = refresh.fault;
-                note.counts = refresh.counts.or(note.counts);
+                add_refresh(note, refresh);
                 return Ok(());
             }
         }
@@ -91,12 +113,32 @@ impl Notes {
     }
 }
 
+/// What a refresh told is added to what is known of its source.
+fn add_refresh(note: &mut SourceNote, refresh: SourceNote) {
+    note.refreshes = note.refreshes.saturating_add(refresh.refreshes);
+    note.failures = note.failures.saturating_add(refresh.failures);
+    note.succeeded = note.succeeded.max(refresh.succeeded);
+    note.at = refresh.at;
+    note.fault = refresh.fault;
+    note.counts = refresh.counts.or(note.counts);
+}
+
 fn copied_sources(alloc: Global, notes: &[SourceNote]) -> Result<Vec<SourceNote>, AllocError> {
     let mut copies = Vec::with_capacity(alloc, notes.len())?;
+    match push_sources(&mut copies, notes) {
+        Ok(()) => Ok(copies),
+        Err(refused) => {
+            drop(copies);
+            Err(refused)
+        }
+    }
+}
+
+fn push_sources(copies: &mut Vec<SourceNote>, notes: &[SourceNote]) -> Result<(), AllocError> {
     for note in notes {
         copies.push(note.copy()?)?;
     }
-    Ok(copies)
+    Ok(())
 }
 
 fn copied_loads(alloc: Global, notes: &[LoadNote]) -> Result<Vec<LoadNote>, AllocError> {
@@ -112,8 +154,21 @@ fn copied_allocations(
     notes: &[AllocationNote],
 ) -> Result<Vec<AllocationNote>, AllocError> {
     let mut copies = Vec::with_capacity(alloc, notes.len())?;
+    match push_allocations(&mut copies, notes) {
+        Ok(()) => Ok(copies),
+        Err(refused) => {
+            drop(copies);
+            Err(refused)
+        }
+    }
+}
+
+fn push_allocations(
+    copies: &mut Vec<AllocationNote>,
+    notes: &[AllocationNote],
+) -> Result<(), AllocError> {
     for note in notes {
         copies.push(note.copy()?)?;
     }
-    Ok(copies)
+    Ok(())
 }

@@ -36,14 +36,13 @@ impl RoundBooks {
 
     pub(crate) fn copy(&self, alloc: Global) -> Result<RoundBooks, AllocError> {
         let mut jobs = Vec::with_capacity(alloc, self.jobs.len())?;
-        for job in &self.jobs {
-            let name = job.name.copy()?;
-            jobs.push(JobSums {
-                name,
-                counts: job.counts,
-            })?;
+        match push_copies(&mut jobs, self.jobs.as_slice()) {
+            Ok(()) => Ok(RoundBooks { jobs }),
+            Err(refused) => {
+                drop(jobs);
+                Err(refused)
+            }
         }
-        Ok(RoundBooks { jobs })
     }
 
     /// Those of the job of a name, which mostly stands at this place.
@@ -65,11 +64,23 @@ impl RoundBooks {
 /// What is booked of a round that is over, where the next one is open since a moment ago.
 pub fn books_of_round(alloc: Global, core: &Core, round: Round) -> Result<RoundBooks, AllocError> {
     let booked = job_books(alloc, core, round)?;
-    sums_of(alloc, booked.as_slice())
+    let sums = sums_of(alloc, booked.as_slice());
+    drop(booked);
+    sums
 }
 
 fn sums_of(alloc: Global, booked: &[JobBooks]) -> Result<RoundBooks, AllocError> {
     let mut jobs = Vec::with_capacity(alloc, booked.len())?;
+    match push_sums(&mut jobs, booked) {
+        Ok(()) => Ok(RoundBooks { jobs }),
+        Err(refused) => {
+            drop(jobs);
+            Err(refused)
+        }
+    }
+}
+
+fn push_sums(jobs: &mut Vec<JobSums>, booked: &[JobBooks]) -> Result<(), AllocError> {
     for job in booked {
         let name = job.job.copy()?;
         jobs.push(JobSums {
@@ -77,5 +88,16 @@ fn sums_of(alloc: Global, booked: &[JobBooks]) -> Result<RoundBooks, AllocError>
             counts: job.counts,
         })?;
     }
-    Ok(RoundBooks { jobs })
+    Ok(())
+}
+
+fn push_copies(jobs: &mut Vec<JobSums>, copied: &[JobSums]) -> Result<(), AllocError> {
+    for job in copied {
+        let name = job.name.copy()?;
+        jobs.push(JobSums {
+            name,
+            counts: job.counts,
+        })?;
+    }
+    Ok(())
 }

@@ -16,6 +16,7 @@ use lists::Text;
 use service_pages::{AllocationNote, LoadNote, SourceNote, Standing};
 use service_settings::Lifecycle;
 use std::alloc::{AllocError, Global};
+use std::mem;
 use std::sync::atomic::{AtomicBool, AtomicU64, Ordering};
 use std::sync::{Arc, Mutex, Wait};
 use std::time::{Clock, Duration, Instant};
@@ -433,7 +434,7 @@ impl ServiceState {
 
     /// A round is over, in which this was booked.
     pub fn note_books(&self, rt: &impl Wait, books: RoundBooks) {
-        self.notes.lock(rt).books = books;
+        drop(mem::replace(&mut self.notes.lock(rt).books, books));
     }
 
     /// A search for an allocation that began then is over.
