@@ -35,7 +35,9 @@ pub(crate) fn scrape_target<L: Ledger, B: Ledger, N: DeskName, S: Scrape, G: Gat
     gate.before(collector, target);
     let fetched = scrape.fetch(&get);
     gate.after(collector, target);
-    found(&fetched)
+    let outcome = found(&fetched);
+    drop((fetched, get));
+    outcome
 }
 
 /// How a target is asked, where it is known and can be asked.
@@ -51,7 +53,11 @@ fn get_for<L: Ledger, B: Ledger, N: DeskName, R: Wait>(
     ensures asked { IfOk result (λ get. Reached N.opening pass.old (λ h. get ≡ asked_in h.state jobs.now target)) }
 {
     match desk.target(rt, pass, target)? {
-        Some((job, target)) => get_in(alloc, jobs, job, &target),
+        Some((job, target)) => {
+            let get = get_in(alloc, jobs, job, &target);
+            drop(target);
+            get
+        }
         None => Ok(None),
     }
 }

@@ -66,5 +66,7 @@ pub(crate) fn visit<L: Ledger, B: Ledger, N: DeskName, S: Scrape, G: Gate, R: Wa
         outcome,
     };
     let receipt = desk.submit(rt, pass, Event::Report(report))?;
-    Ok(tally_of(&receipt.answer))
+    let tally = tally_of(&receipt.answer);
+    drop(receipt);
+    Ok(tally)
 }

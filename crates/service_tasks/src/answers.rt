@@ -62,12 +62,7 @@ pub(crate) fn list_in_files(
     }
 }
 
-fn list_in(
-    alloc: Global,
-    job: &Job,
-    number: u32,
-    files: &[FileText],
-) -> Result<Listing, Failure> {
+fn list_in(alloc: Global, job: &Job, number: u32, files: &[FileText]) -> Result<Listing, Failure> {
     match Rules::read(alloc, job.rules.as_slice()) {
         Ok(rules) => {
             let list = list_by_rules(alloc, job, &rules, number, files);

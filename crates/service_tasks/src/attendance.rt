@@ -1,5 +1,5 @@
 //! Collectors that ask for nothing for long: their lists are let go, they are drained, and then they leave.
-use crate::logging::log_warning;
+use crate::logging::{log_of_number, log_warning};
 use crate::patience::Patience;
 use crate::scheduling::Schedule;
 use crate::shared::Shared;
@@ -8,8 +8,7 @@ use alloc_desk::{DeskName, Pass};
 use allocation_core::Core;
 use fleet_events::{Answer, CollectorId, Event};
 use lists::Text;
-use log::warn;
-use logfmt::Logfmt;
+use log::Level;
 use std::alloc::{AllocError, Global};
 use std::sync::Wait;
 use std::sync::ledger::Ledger;
@@ -375,7 +374,8 @@ impl<R: Wait + Clock + Eprint + Copy, L: Ledger, B: Ledger, N: DeskName> Shared<
     fn release(&self, pass: &mut Pass<L, B, N>, collector: CollectorId) {
         let job = None;
         if let Some(answer) = self.enter(pass, Event::Release { collector, job }) {
-            warn!(Logfmt(self.rt); collector; "a collector asked for nothing for long: its lists count as let go");
+            let line = "a collector asked for nothing for long: its lists count as let go";
+            log_of_number(&self.rt, Level::Warn, collector, line);
             self.log_of_number(collector, &answer);
             drop(answer);
         }
@@ -386,8 +386,9 @@ impl<R: Wait + Clock + Eprint + Copy, L: Ledger, B: Ledger, N: DeskName> Shared<
         for sighting in &mut attendance.live {
             if !sighting.is_told && self.patience.is_short(sighting.gap) {
                 sighting.is_told = true;
-                let collector = sighting.collector;
-                warn!(Logfmt(self.rt); collector; "collector_timeout is shorter than two refreshes of a collector: one that comes late is drained");
+                let line =
+                    "collector_timeout is shorter than two refreshes of a collector: one that comes late is drained";
+                log_of_number(&self.rt, Level::Warn, sighting.collector, line);
             }
         }
     }
@@ -443,6 +444,7 @@ impl<R: Wait + Clock + Eprint + Copy, L: Ledger, B: Ledger, N: DeskName> Shared<
     }
 
     fn log_absence(&self, collector: CollectorId) {
-        warn!(Logfmt(self.rt); collector; "a collector took nothing for long");
+        let line = "a collector took nothing for long";
+        log_of_number(&self.rt, Level::Warn, collector, line);
     }
 }

@@ -1,8 +1,9 @@
 //! What was asked of the fleet over HTTP, in the log.
+use crate::logging::level_of;
 use crate::shared::Shared;
 use alloc_desk::DeskName;
 use lists::Text;
-use log::{info, warn};
+use log::{log, warn};
 use logfmt::{Logfmt, Quoted};
 use service_state::ChangeNote;
 use std::alloc::{AllocError, Global};
@@ -26,28 +27,17 @@ impl<R: Wait + Clock + Eprint + Copy, L: Ledger, B: Ledger, N: DeskName> Shared<
     /// Logs a change with who asked for it: one that was refused as a warning.
     fn log_change(&self, note: &ChangeNote) {
         if let Ok(peer) = peer_of(self.alloc, note) {
-            if note.is_refused() {
-                self.log_refused_change(note, peer.as_str());
-            } else {
-                self.log_made_change(note, peer.as_str());
-            }
+            self.log_change_of(note, peer.as_str());
         }
     }
 
-    fn log_refused_change(&self, note: &ChangeNote, peer: &str) {
+    fn log_change_of(&self, note: &ChangeNote, peer: &str) {
         let peer = Quoted(peer);
         let collector = Quoted(note.collector.as_str());
         let answer = Quoted(note.answer.as_str());
         let what = note.what.name();
-        warn!(Logfmt(self.rt); collector:% = collector, answer:% = answer, peer:% = peer; "{what} over HTTP");
-    }
-
-    fn log_made_change(&self, note: &ChangeNote, peer: &str) {
-        let peer = Quoted(peer);
-        let collector = Quoted(note.collector.as_str());
-        let answer = Quoted(note.answer.as_str());
-        let what = note.what.name();
-        info!(Logfmt(self.rt); collector:% = collector, answer:% = answer, peer:% = peer; "{what} over HTTP");
+        let level = level_of(note.is_refused());
+        log!(Logfmt(self.rt); level, collector:% = collector, answer:% = answer, peer:% = peer; "{what} over HTTP");
     }
 
     fn log_dropped(&self, changes: u64) {

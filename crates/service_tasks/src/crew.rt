@@ -21,8 +21,14 @@ impl<L: Ledger, B: Ledger, N: DeskName> Crew<L, B, N> {
 
     fn of(passes: &mut Vec<Pass<L, B, N>>) -> Option<Crew<L, B, N>> {
         let scheduler = passes.pop()?;
-        let keeper = passes.pop()?;
-        let refresher = passes.pop()?;
+        let Some(keeper) = passes.pop() else {
+            drop(scheduler);
+            return None;
+        };
+        let Some(refresher) = passes.pop() else {
+            drop((scheduler, keeper));
+            return None;
+        };
         Some(Crew {
             scheduler,
             keeper,

@@ -130,17 +130,21 @@ fn add_jobs(
 ) -> Result<(), AllocError> {
     for job in before {
         if job_named(after, job.name.as_str()).is_none() {
-            found.removed.push(job.name.copy()?)?;
+            add_copy(&mut found.removed, &job.name)?;
         }
     }
     for job in after {
         match job_named(before, job.name.as_str()) {
             Some(former) if former.text.same(&job.text) => {}
-            Some(_) => found.changed.push(job.name.copy()?)?,
-            None => found.added.push(job.name.copy()?)?,
+            Some(_) => add_copy(&mut found.changed, &job.name)?,
+            None => add_copy(&mut found.added, &job.name)?,
         }
     }
     Ok(())
+}
+
+fn add_copy(names: &mut List<Text>, name: &Text) -> Result<(), AllocError> {
+    names.push(name.copy()?)
 }
 
 fn job_named<'a>(jobs: &'a [JobText], name: &str) -> Option<&'a JobText> {
@@ -175,8 +179,7 @@ fn add_collectors(
 ) -> Result<(), AllocError> {
     for collector in before {
         if collector_named(after, collector.name.as_str()).is_none() {
-            let name = Text::from_str(alloc, collector.name.as_str())?;
-            found.removed.push(name)?;
+            add_name(alloc, &mut found.removed, collector)?;
         }
     }
     for collector in after {
@@ -193,21 +196,23 @@ fn add_collector(
     collector: &Collector,
 ) -> Result<(), AllocError> {
     let Some(former) = former else {
-        return found
-            .added
-            .push(Text::from_str(alloc, collector.name.as_str())?);
+        return add_name(alloc, &mut found.added, collector);
     };
     if !former.limits.same(&collector.limits) {
-        found
-            .changed
-            .push(Text::from_str(alloc, collector.name.as_str())?)?;
+        add_name(alloc, &mut found.changed, collector)?;
     }
     if !former.reach.same(&collector.reach) {
-        found
-            .moved
-            .push(Text::from_str(alloc, collector.name.as_str())?)?;
+        add_name(alloc, &mut found.moved, collector)?;
     }
     Ok(())
+}
+
+fn add_name(
+    alloc: Global,
+    names: &mut List<Text>,
+    collector: &Collector,
+) -> Result<(), AllocError> {
+    names.push(Text::from_str(alloc, collector.name.as_str())?)
 }
 
 /// The collector of a name.

@@ -1,11 +1,11 @@
 //! Events that a service enters of itself.
 use crate::control::Ending;
-use crate::logging::log_warning;
+use crate::logging::{level_of, log_warning};
 use crate::shared::Shared;
 use crate::told_source::ToldSource;
 use alloc_desk::{DeskName, EnterError, Pass};
 use fleet_events::{Answer, CollectorId, Event};
-use log::{info, warn};
+use log::{info, log, warn};
 use logfmt::{Logfmt, Quoted, QuotedUrl};
 use service_state::EventKind;
 use std::alloc::AllocError;
@@ -115,45 +115,30 @@ impl<R: Wait + Clock + Eprint + Copy, L: Ledger, B: Ledger, N: DeskName> Shared<
     /// Logs what the event of a collector was answered: a refusal as a warning.
     fn log_of_name(&self, collector: &str, answer: &Answer) {
         if let Ok(line) = answer.line(self.alloc) {
-            if is_refused(answer) {
-                self.log_refusal_of_name(collector, line.as_str());
-            } else {
-                self.log_entry_of_name(collector, line.as_str());
-            }
+            self.log_answer_of_name(collector, line.as_str(), is_refused(answer));
         }
     }
 
-    fn log_refusal_of_name(&self, collector: &str, answer: &str) {
+    fn log_answer_of_name(&self, collector: &str, answer: &str, is_refused: bool) {
         let collector = Quoted(collector);
         let answer = Quoted(answer);
-        warn!(Logfmt(self.rt); collector:% = collector, answer:% = answer; "refused");
-    }
-
-    fn log_entry_of_name(&self, collector: &str, answer: &str) {
-        let collector = Quoted(collector);
-        let answer = Quoted(answer);
-        info!(Logfmt(self.rt); collector:% = collector, answer:% = answer; "entered");
+        let what = word_of(is_refused);
+        let level = level_of(is_refused);
+        log!(Logfmt(self.rt); level, collector:% = collector, answer:% = answer; "{what}");
     }
 
     /// The same of the collector of a number.
     pub(crate) fn log_of_number(&self, collector: CollectorId, answer: &Answer) {
         if let Ok(line) = answer.line(self.alloc) {
-            if is_refused(answer) {
-                self.log_refusal_of_number(collector, line.as_str());
-            } else {
-                self.log_entry_of_number(collector, line.as_str());
-            }
+            self.log_answer_of_number(collector, line.as_str(), is_refused(answer));
         }
     }
 
-    fn log_refusal_of_number(&self, collector: CollectorId, answer: &str) {
+    fn log_answer_of_number(&self, collector: CollectorId, answer: &str, is_refused: bool) {
         let answer = Quoted(answer);
-        warn!(Logfmt(self.rt); collector, answer:% = answer; "refused");
-    }
-
-    fn log_entry_of_number(&self, collector: CollectorId, answer: &str) {
-        let answer = Quoted(answer);
-        info!(Logfmt(self.rt); collector, answer:% = answer; "entered");
+        let what = word_of(is_refused);
+        let level = level_of(is_refused);
+        log!(Logfmt(self.rt); level, collector, answer:% = answer; "{what}");
     }
 
     /// Logs what a list of a source changed, if it did, and a refusal as a warning.
@@ -186,4 +171,8 @@ impl<R: Wait + Clock + Eprint + Copy, L: Ledger, B: Ledger, N: DeskName> Shared<
 
 fn is_refused(answer: &Answer) -> bool {
     matches!(answer, Answer::Not(_))
+}
+
+fn word_of(is_refused: bool) -> &'static str {
+    if is_refused { "refused" } else { "entered" }
 }

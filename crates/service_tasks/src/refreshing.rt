@@ -8,9 +8,7 @@ use crate::told_source::ToldSource;
 use alloc_desk::{DeskName, Pass};
 use file_configs::{ReadFiles, patterns_of};
 use fleet_events::Event;
-use http_get::{
-    Asker, Cause, FetchFault, FetchSeveral, Get, Listing, Next, Reply, get_of_source,
-};
+use http_get::{Asker, Cause, FetchFault, FetchSeveral, Get, Listing, Next, Reply, get_of_source};
 use lists::{List, Plain, Text};
 use log::warn;
 use logfmt::{Logfmt, Quoted, QuotedUrl, timestamp};

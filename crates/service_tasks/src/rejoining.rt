@@ -1,14 +1,13 @@
 //! Collectors that ask for their list and are not live, or are drained since they were absent: they join anew.
 use crate::differences::collector_named;
-use crate::logging::log_warning;
+use crate::logging::{log_of_name, log_of_number, log_warning};
 use crate::roster::{Roster, join_of, joining};
 use crate::shared::Shared;
 use alloc_desk::{DeskName, Pass};
 use allocation_core::Core;
 use fleet_events::{CollectorId, Event};
 use lists::Plain;
-use log::info;
-use logfmt::{Logfmt, Quoted};
+use log::Level;
 use reach_rules::CollectorName;
 use service_settings::{Collector, JoiningPattern};
 use std::alloc::{AllocError, Global};
@@ -82,7 +81,8 @@ impl<R: Wait + Clock + Eprint + Copy, L: Ledger, B: Ledger, N: DeskName> Shared<
     }
 
     fn exchange(&self, pass: &mut Pass<L, B, N>, collector: CollectorId, joins: Event) {
-        info!(Logfmt(self.rt); collector; "a collector that was absent asks again: it joins anew");
+        let line = "a collector that was absent asks again: it joins anew";
+        log_of_number(&self.rt, Level::Info, collector, line);
         if self.enter_numbered(pass, collector, Event::Leave(collector)) {
             self.enter_numbered(pass, collector, joins);
         } else {
@@ -91,13 +91,13 @@ impl<R: Wait + Clock + Eprint + Copy, L: Ledger, B: Ledger, N: DeskName> Shared<
     }
 
     fn log_asking_by_pattern(&self, name: &str) {
-        let name = Quoted(name);
-        info!(Logfmt(self.rt); collector:% = name; "a collector that matches a pattern asks for its list: it joins");
+        let line = "a collector that matches a pattern asks for its list: it joins";
+        log_of_name(&self.rt, Level::Info, name, line);
     }
 
     fn log_asking(&self, name: &str) {
-        let name = Quoted(name);
-        info!(Logfmt(self.rt); collector:% = name; "a collector of the configuration asks for its list: it joins");
+        let line = "a collector of the configuration asks for its list: it joins";
+        log_of_name(&self.rt, Level::Info, name, line);
     }
 }
 

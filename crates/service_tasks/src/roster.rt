@@ -1,13 +1,12 @@
 //! The collectors that the configuration names: what is entered of them as it changes.
 use crate::differences::collector_named;
-use crate::logging::log_warning;
+use crate::logging::{log_of_name, log_warning};
 use crate::shared::Shared;
 use alloc_desk::{DeskName, Pass};
 use allocation_core::Core;
 use fleet_events::{AllocationNumber, CollectorId, Event};
 use lists::{List, Plain};
-use log::info;
-use logfmt::{Logfmt, Quoted};
+use log::Level;
 use reach_rules::{CollectorName, OwnLimits, Reach};
 use service_settings::{Collector, JoiningPattern, ReachChanges, Settings};
 use std::alloc::{AllocError, Global};
@@ -358,18 +357,19 @@ impl<R: Wait + Clock + Eprint + Copy, L: Ledger, B: Ledger, N: DeskName> Shared<
     }
 
     fn log_unlisted(&self, name: &str) {
-        let collector = Quoted(name);
-        info!(Logfmt(self.rt); collector:% = collector; "not in the configuration any more: it is drained, and leaves once it holds nothing");
+        let line =
+            "not in the configuration any more: it is drained, and leaves once it holds nothing";
+        log_of_name(&self.rt, Level::Info, name, line);
     }
 
     fn log_emptying(&self, name: &str) {
-        let collector = Quoted(name);
-        info!(Logfmt(self.rt); collector:% = collector; "another reach: it is drained, leaves, and joins anew");
+        let line = "another reach: it is drained, leaves, and joins anew";
+        log_of_name(&self.rt, Level::Info, name, line);
     }
 
     fn log_rejoining(&self, name: &str) {
-        let collector = Quoted(name);
-        info!(Logfmt(self.rt); collector:% = collector; "another reach: it leaves and joins anew at once");
+        let line = "another reach: it leaves and joins anew at once";
+        log_of_name(&self.rt, Level::Info, name, line);
     }
 }
 

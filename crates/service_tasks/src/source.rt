@@ -149,14 +149,14 @@ impl Listed {
 
     /// A list of this text was submitted.
     pub(crate) fn submitted(&mut self, text: Text, is_refused: bool) {
-        self.last = Some(text);
+        drop(std::mem::replace(&mut self.last, Some(text)));
         self.refused_for = is_refused.then_some(REFUSED_AGAIN);
-        self.reply = None;
+        drop(std::mem::replace(&mut self.reply, None));
     }
 
     /// This answer has the list that was submitted last.
     pub(crate) fn answered(&mut self, reply: Reply, counts: ListCounts) {
-        self.reply = Some((reply, counts));
+        drop(std::mem::replace(&mut self.reply, Some((reply, counts))));
     }
 }
 

@@ -34,7 +34,13 @@ pub fn begin<L: Ledger, B: Ledger, N: DeskName, S: Scrape, R: Wait>(
     enter_joins(desk, rt, &mut refresher.pass, session.joins.as_slice())?;
     for job in session.config.jobs.as_slice() {
         let rules = Rules::read(alloc, job.rules.as_slice())?;
-        list_job(desk, rt, alloc, job, &rules, refresher, text)?;
+        match list_job(desk, rt, alloc, job, &rules, refresher, text) {
+            Ok(()) => drop(rules),
+            Err(stop) => {
+                drop(rules);
+                return Err(stop);
+            }
+        }
     }
     reallocate(desk, rt, alloc, &mut refresher.pass)
 }

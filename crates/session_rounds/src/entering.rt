@@ -32,6 +32,7 @@ pub(crate) fn enter<L: Ledger, B: Ledger, N: DeskName, R: Wait>(
     if matches!(&receipt.answer, Answer::Not(_)) {
         return Err(SessionStop::Refused(receipt.answer));
     }
+    drop(receipt);
     Ok(())
 }
 
@@ -60,12 +61,17 @@ pub(crate) fn static_targets(alloc: Global, job: &Job, rules: &Rules) -> Result<
     ensures books_nothing { IfOk result BooksNothing }
 {
     let Found { targets, .. } = rules.discover(alloc, job, 0, job.static_groups.as_slice())?;
-    let job = job.name.copy()?;
-    Ok(Event::Discover {
-        job,
-        source: 0,
-        targets,
-    })
+    match job.name.copy() {
+        Ok(job) => Ok(Event::Discover {
+            job,
+            source: 0,
+            targets,
+        }),
+        Err(error) => {
+            drop(targets);
+            Err(error)
+        }
+    }
 }
 
 /// Finds a best allocation for the moment.

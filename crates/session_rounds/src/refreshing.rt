@@ -35,7 +35,13 @@ pub(crate) fn renew<L: Ledger, B: Ledger, N: DeskName, S: Scrape, R: Wait>(
 {
     for job in jobs {
         let rules = Rules::read(alloc, job.rules.as_slice())?;
-        renew_job(desk, rt, alloc, job, &rules, refresher)?;
+        match renew_job(desk, rt, alloc, job, &rules, refresher) {
+            Ok(()) => drop(rules),
+            Err(stop) => {
+                drop(rules);
+                return Err(stop);
+            }
+        }
     }
     reallocate(desk, rt, alloc, &mut refresher.pass)
 }
@@ -82,7 +88,10 @@ fn renew_source<L: Ledger, B: Ledger, N: DeskName, S: Scrape, R: Wait>(
 {
     match refresh(alloc, job, rules, source, &mut refresher.scrape) {
         Ok(event) => match desk.submit(rt, &mut refresher.pass, event) {
-            Ok(_) => Ok(()),
+            Ok(receipt) => {
+                drop(receipt);
+                Ok(())
+            }
             Err(EnterError::JournalFull) => Err(SessionStop::JournalFull),
             Err(EnterError::Memory) => Err(SessionStop::Memory),
         },

@@ -12,4 +12,4 @@ returns-clause-scraped g c =
     let fetch : Fetch = record { get = c.in-Some.get; result = c.fetch-fetched.result } in
     let P : Option Get → Type 0 = λ get. Reached opening c.args.pass.now (λ h. get ≡ asked_in h.state c.args.jobs.now c.args.target) in
     let asked = subst P c.in-Some.is c.in_ok-get.ensures.asked in
-    (Some fetch, c.fetch-fetched.ensures.fetched, came_to opening c.args.pass.now c.args.jobs.now c.args.target fetch c.found.result asked c.found.ensures)
+    (Some fetch, c.fetch-fetched.ensures.fetched, came_to opening c.args.pass.now c.args.jobs.now c.args.target fetch c.found-outcome.result asked c.found-outcome.ensures)

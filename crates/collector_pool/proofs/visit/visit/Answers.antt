@@ -35,7 +35,7 @@ returns-clause-visited g c =
       of = refl;
       is = record { asked = scraped.2.0; answered = scraped.2.1; reported = subst Q scraped.2.2 (subst P c.in-Ok.ensures.same told) };
       step = scraped.1;
-      tallied = c.tally_of.ensures;
+      tallied = c.tally_of-tally.ensures;
       calls = ap (λ (p : Counts). p.calls) counts;
       booked = subst B scraped.2.2 (ap (λ (p : Counts). p.booked) counts ∙ ap (λ n. c.args.pass.now.booked + n) gains);
     }

@@ -15,7 +15,7 @@ loop-job-preserved g c =
     let jobs = c.args.session.now.config.jobs in
     let job = c.job-item.result in
     let inv = c.loop-job.invariant in
-    let done = c.in_ok-list_job.ensures in
+    let done = c.in-Ok.ensures in
     let Below : List Job → Type 0 = λ js. c.loop-job.job-index < length js in
     let At : List Job → Type 0 = λ js. job ≡ get_or js c.loop-job.job-index job in
     let below = subst Below c.as_slice-job-items.ensures c.loop-job-test.true in
@@ -59,8 +59,8 @@ returns-in_err-rules-clause-stopped g c =
     rules_stop_on g.N.DeskName.opening c.args.refresher.now.pass c.loop-job.refresher.pass (IsBeginning session) jobs c.from_residual-in_err-rules.result error c.loop-job.job-index job below (sym at)
     c.from_residual-in_err-rules.ensures.1 refused
 
-pub returns-in_err-list_job-clause-stopped : goal.returns-in_err-list_job-clause-stopped
-returns-in_err-list_job-clause-stopped g c =
+pub returns-in-Err-clause-stopped : goal.returns-in-Err-clause-stopped
+returns-in-Err-clause-stopped g c =
     let opening = g.N.DeskName.opening in
     let session = c.args.session.now in
     let jobs = session.config.jobs in
@@ -74,10 +74,8 @@ returns-in_err-list_job-clause-stopped g c =
     let said = subst Said c.as_slice-in-loop-job.ensures c.in_ok-rules.ensures.rules in
     let old = c.args.refresher.now.pass in
     let new = c.list_job.new.refresher.pass in
-    let stop = c.in_err-list_job.field-0.0 in
-    stops_on (IsStop opening old new (IsBeginning session) jobs) c.from_residual-in_err-list_job.result stop c.from_residual-in_err-list_job.ensures.1
-    (stop_within opening old c.loop-job.refresher.pass new (IsListed job rules) (IsBeginning session) jobs stop c.loop-job.invariant.grown
-    (λ event listed. inr (c.loop-job.job-index, job, below, sym at, (rules, said, listed))) c.in_err-list_job.ensures.stopped)
+    stop_within opening old c.loop-job.refresher.pass new (IsListed job rules) (IsBeginning session) jobs c.in-Err.stop c.loop-job.invariant.grown
+    (λ event listed. inr (c.loop-job.job-index, job, below, sym at, (rules, said, listed))) c.in-Err.ensures.stopped
 
 pub returns-clause-stopped : goal.returns-clause-stopped
 returns-clause-stopped g c =
