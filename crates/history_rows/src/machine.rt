@@ -27,7 +27,7 @@ pub(crate) fn stepped(
 ) -> Result<String, AllocError> {
     match step {
         "open" => {
-            *twin = None;
+            drop(twin.take());
             open(alloc, slot, jobs_of(alloc, text))
         }
         "report_rounds" => book_of(alloc, slot, number(text)),
@@ -58,7 +58,7 @@ fn opened(
 ) -> Result<String, AllocError> {
     match core {
         Ok(core) => {
-            *slot = Some(core);
+            drop(slot.replace(core));
             String::from_str(alloc, "opened")
         }
         Err(_) => String::from_str(alloc, "not opened"),
@@ -69,11 +69,11 @@ fn opened(
 fn book_of(alloc: Global, slot: &mut Slot, count: u32) -> Result<String, AllocError> {
     match (slot.take(), ReportRounds::read(count)) {
         (Some(core), Some(report_rounds)) => {
-            *slot = Some(core.with_report_rounds(report_rounds));
+            drop(slot.replace(core.with_report_rounds(report_rounds)));
             String::from_str(alloc, "so many")
         }
         (core, _) => {
-            *slot = core;
+            drop(std::mem::replace(slot, core));
             String::from_str(alloc, "as before")
         }
     }
@@ -97,7 +97,10 @@ fn renew_under(slot: &mut Slot, jobs: Vec<JobSpec>) -> Option<RenewalError> {
             let report_rounds = core.report_rounds();
             put(slot, core.renew(jobs, report_rounds))
         }
-        None => None,
+        None => {
+            drop(jobs);
+            None
+        }
     }
 }
 
@@ -105,11 +108,11 @@ fn renew_under(slot: &mut Slot, jobs: Vec<JobSpec>) -> Option<RenewalError> {
 fn put(slot: &mut Slot, renewed: Result<Core, NotRenewed>) -> Option<RenewalError> {
     match renewed {
         Ok(core) => {
-            *slot = Some(core);
+            drop(slot.replace(core));
             None
         }
         Err(NotRenewed { core, why }) => {
-            *slot = Some(core);
+            drop(slot.replace(core));
             Some(why)
         }
     }
@@ -185,7 +188,11 @@ fn reallocated(alloc: Global, core: &mut Core) -> Result<String, AllocError> {
 
 fn instance(alloc: Global, core: &Core) -> Result<String, AllocError> {
     match core.instance() {
-        Ok(instance) => document_of(alloc, &instance),
+        Ok(instance) => {
+            let document = document_of(alloc, &instance);
+            drop(instance);
+            document
+        }
         Err(error) => Err(error),
     }
 }
@@ -205,7 +212,9 @@ fn changed(alloc: Global, core: &Core, text: &str) -> Result<String, AllocError>
 }
 
 fn line_of(alloc: Global, answer: Answer) -> Result<String, AllocError> {
-    answer.line(alloc)
+    let line = answer.line(alloc);
+    drop(answer);
+    line
 }
 
 fn applied(alloc: Global, core: &mut Core, text: &str) -> Result<String, AllocError> {
@@ -346,7 +355,7 @@ fn outline_of(alloc: Global, slot: &Slot) -> Result<String, AllocError> {
 fn read_into(alloc: Global, slot: &mut Slot, line: &str) -> Result<String, AllocError> {
     match read_history(alloc, line.as_bytes()) {
         Ok(core) => {
-            *slot = Some(core);
+            drop(slot.replace(core));
             String::from_str(alloc, READ)
         }
         Err(error) => fault(alloc, error),

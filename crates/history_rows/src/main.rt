@@ -55,7 +55,9 @@ fn written(alloc: Global, name: Option<&str>, bytes: &[u8]) -> Result<Option<Str
 fn table(alloc: Global, rows: &str) -> Result<String, AllocError> {
     let mut slot = None;
     let mut twin = None;
-    filled(alloc, &mut slot, &mut twin, rows)
+    let table = filled(alloc, &mut slot, &mut twin, rows);
+    drop((slot, twin));
+    table
 }
 
 fn filled(

@@ -28,7 +28,11 @@ pub(crate) fn some(line: Result<String, AllocError>) -> Result<Option<String>, A
 /// An event in its written form.
 fn event(alloc: Global, bytes: &[u8]) -> Result<String, AllocError> {
     match read_event(alloc, bytes) {
-        Ok(Some(event)) => text_of(event.to_json(alloc)),
+        Ok(Some(event)) => {
+            let line = event.to_json(alloc);
+            drop(event);
+            text_of(line)
+        }
         Ok(None) => String::from_str(alloc, "no event"),
         Err(error) => Err(error),
     }
@@ -43,7 +47,10 @@ fn text_of(line: Result<Text, AllocError>) -> Result<String, AllocError> {
 
 pub(crate) fn history(alloc: Global, bytes: &[u8]) -> Result<String, AllocError> {
     match read_history(alloc, bytes) {
-        Ok(_) => String::from_str(alloc, READ),
+        Ok(core) => {
+            drop(core);
+            String::from_str(alloc, READ)
+        }
         Err(error) => fault(alloc, error),
     }
 }
@@ -77,7 +84,11 @@ fn journal(alloc: Global, bytes: &[u8]) -> Result<String, AllocError> {
 /// How many events, or the damaged line.
 fn events_in(alloc: Global, bytes: &[u8]) -> Result<Result<u64, u64>, AllocError> {
     match resume(alloc, bytes) {
-        Ok(Ok(resumed)) => Ok(Ok(resumed.events)),
+        Ok(Ok(resumed)) => {
+            let events = resumed.events;
+            drop(resumed);
+            Ok(Ok(events))
+        }
         Ok(Err(damage)) => Ok(Err(damage.line)),
         Err(error) => Err(error),
     }
