@@ -47,21 +47,35 @@ impl<S: FetchSeveral + Drop, F: Drop, C: Configuration + Drop> Office<S, F, C> {
         configuration: C,
     ) -> io::Result<Office<S, F, C>> {
         match Parts::of(rt, alloc, service, &journal) {
-            Ok(parts) => Ok(Office {
-                listener,
-                connections: service.connections,
-                pages: parts.shares.pages,
-                doors: parts.shares.doors,
-                state: parts.state,
-                schedule: Schedule::new(alloc, parts.start, parts.shares.job_texts, configuration),
-                watch: Watch {
-                    device,
-                    jobs: parts.shares.jobs,
-                    sources: parts.sources,
-                },
-                journal,
-                is_new: true,
-            }),
+            Ok(parts) => {
+                let Parts {
+                    state,
+                    start,
+                    shares,
+                    sources,
+                } = parts;
+                let Shares {
+                    pages,
+                    doors,
+                    job_texts,
+                    jobs,
+                } = shares;
+                Ok(Office {
+                    listener,
+                    connections: service.connections,
+                    pages,
+                    doors,
+                    state,
+                    schedule: Schedule::new(alloc, start, job_texts, configuration),
+                    watch: Watch {
+                        device,
+                        jobs,
+                        sources,
+                    },
+                    journal,
+                    is_new: true,
+                })
+            }
             Err(error) => {
                 drop((listener, journal, device, configuration));
                 Err(error)
