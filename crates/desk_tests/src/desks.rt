@@ -86,7 +86,10 @@ fn ended_at<
 {
     match Desk::<L, B, N>::open(alloc, core, seats, calls, samples, log) {
         Ok((desk, passes)) => worked(rt, alloc, desk, passes, steps),
-        Err(_) => None,
+        Err(core) => {
+            drop(core);
+            None
+        }
     }
 }
 
@@ -135,6 +138,7 @@ fn all_work<
     let _is_hired = hire(rt, alloc, desk, &mut workers, passes);
     work(rt, alloc, desk, workers.as_mut_slice(), steps);
     dismiss(passes, fronts, notes, &mut workers);
+    drop(workers);
 }
 
 /// Gives each pass to a worker.
@@ -235,8 +239,15 @@ fn left_of<L: Ledger, B: Ledger, N: DeskName>(
     notes: Notes,
 ) -> Option<Ended> {
     match closed_in_two_steps(desk, passes) {
-        Some(closed) => ended_with(closed, fronts.as_slice(), notes),
-        None => None,
+        Some(closed) => {
+            let ended = ended_with(closed, fronts.as_slice(), notes);
+            drop(fronts);
+            ended
+        }
+        None => {
+            drop((fronts, notes));
+            None
+        }
     }
 }
 
@@ -248,7 +259,10 @@ fn closed_in_two_steps<L: Ledger, B: Ledger, N: DeskName>(
     let last = passes.pop();
     let left = passes.len();
     match desk.close(passes) {
-        Ok(_) => None,
+        Ok(closed) => {
+            drop((closed, last));
+            None
+        }
         Err(missing) => closed_with(missing, left, last),
     }
 }
@@ -262,7 +276,10 @@ fn closed_with<L: Ledger, B: Ledger, N: DeskName>(
     let _is_back = gives_back(&mut passes, left, last);
     match desk.close(passes) {
         Ok(closed) => Some(closed),
-        Err(_) => None,
+        Err(missing) => {
+            drop(missing);
+            None
+        }
     }
 }
 
@@ -286,7 +303,10 @@ fn ended_with<N: DeskName>(closed: Closed<N>, fronts: &[Front<N>], notes: Notes)
     } = notes;
     match told.sort_by_key(|one| one.1.position) {
         Ok(()) => Some(seen(closed, fronts, told, said, calls)),
-        Err(_) => None,
+        Err(_) => {
+            drop((closed, told, said));
+            None
+        }
     }
 }
 

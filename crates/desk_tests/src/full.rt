@@ -15,7 +15,9 @@ fn comes_to_be_full(alloc: Global) -> bool {
     match core_of(alloc, 1) {
         Some(core) => {
             let mut record = Record::open(alloc, core);
-            fills(&mut record) && is_full(&mut record)
+            let is_full = fills(&mut record) && is_full(&mut record);
+            drop(record);
+            is_full
         }
         None => false,
     }
@@ -34,7 +36,10 @@ fn fills(record: &mut Record) -> bool {
 fn is_full(record: &mut Record) -> bool {
     let refused = match record.enter(0, Event::NextRound) {
         Err(error) => error == EnterError::JournalFull,
-        Ok(_) => false,
+        Ok((_, answer)) => {
+            drop(answer);
+            false
+        }
     };
     refused && record.journal().len() == MOST_ENTRIES && record.core().round() == 1_048_577
 }

@@ -27,7 +27,11 @@ impl Notes {
 
     /// Takes an event with its receipt.
     pub(crate) fn takes(&mut self, alloc: Global, event: Event, receipt: Receipt) -> bool {
-        self.answers(alloc, &receipt.answer) && self.told.push((event, receipt)).is_ok()
+        if !self.answers(alloc, &receipt.answer) {
+            drop((event, receipt));
+            return false;
+        }
+        self.told.push((event, receipt)).is_ok()
     }
 
     pub(crate) fn answers(&mut self, alloc: Global, answer: &Answer) -> bool {

@@ -13,7 +13,11 @@ fn an_allocator_alone_is_reallocated(rt: HostRuntime) -> Result<(), Fail> {
 
 fn opens_and_reallocates(alloc: Global) -> bool {
     match core_of(alloc, 1) {
-        Some(mut core) => is_reallocated(alloc, &mut core),
+        Some(mut core) => {
+            let is_reallocated = is_reallocated(alloc, &mut core);
+            drop(core);
+            is_reallocated
+        }
         None => false,
     }
 }

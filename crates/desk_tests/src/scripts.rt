@@ -136,7 +136,11 @@ fn loads_are_made_even_one_target_at_a_time(rt: HostRuntime) -> Result<(), Fail>
 /// Whether each of two collectors has two targets.
 fn is_even(core: Option<Core>) -> bool {
     match core {
-        Some(core) => held_by(&core, 1) == 2 && held_by(&core, 2) == 2,
+        Some(core) => {
+            let is_even = held_by(&core, 1) == 2 && held_by(&core, 2) == 2;
+            drop(core);
+            is_even
+        }
         None => false,
     }
 }
@@ -199,7 +203,11 @@ fn goes<R: Threads + Wait + Sync>(rt: &R, alloc: Global, script: &Script) -> boo
         seats,
         &script.steps,
     ) {
-        Some(ended) => is_as_in(&ended, script) && is_replayed(alloc, &ended, script),
+        Some(ended) => {
+            let is_well = is_as_in(&ended, script) && is_replayed(alloc, &ended, script);
+            drop(ended);
+            is_well
+        }
         None => false,
     }
 }
@@ -246,9 +254,11 @@ fn is_replayed(alloc: Global, ended: &Ended, script: &Script) -> bool {
 fn answers_again(alloc: Global, ended: &Ended, target_limit: u32) -> bool {
     match core_of(alloc, target_limit) {
         Some(mut again) => {
-            answer_alike(&mut again, ended.told.as_slice())
+            let is_alike = answer_alike(&mut again, ended.told.as_slice())
                 && again.total() == ended.core.total()
-                && again.round() == ended.core.round()
+                && again.round() == ended.core.round();
+            drop(again);
+            is_alike
         }
         None => false,
     }
@@ -266,7 +276,11 @@ fn answer_alike(core: &mut Core, told: &[(Event, Receipt)]) -> bool {
 fn answers_alike(core: &mut Core, told: &(Event, Receipt)) -> bool {
     match told.0.copy() {
         Ok(event) => match core.apply(event) {
-            Ok(answer) => answer.same(&told.1.answer),
+            Ok(answer) => {
+                let is_same = answer.same(&told.1.answer);
+                drop(answer);
+                is_same
+            }
             Err(_) => false,
         },
         Err(_) => false,
@@ -291,14 +305,21 @@ fn opens_thirty_rounds<R: Threads + Wait + Sync>(rt: &R, alloc: Global) -> bool 
         core = core_left(over_desk(rt, alloc, core, 1, &TEN_ROUNDS));
     }
     match core {
-        Some(core) => core.round() == 31,
+        Some(core) => {
+            let round = core.round();
+            drop(core);
+            round == 31
+        }
         None => false,
     }
 }
 
 fn core_left(ended: Option<Ended>) -> Option<Core> {
     match ended {
-        Some(ended) => Some(ended.core),
+        Some(ended) => {
+            drop((ended.told, ended.said));
+            Some(ended.core)
+        }
         None => None,
     }
 }

@@ -94,7 +94,11 @@ fn does<L: Ledger, B: Ledger, N: DeskName, R: Wait>(
             notes.says(text)
         }
         Step::Entries(from, most) => match front.entries(rt, desk, pass, alloc, from, most) {
-            Ok(entries) => notes.lists(alloc, entries.as_slice()),
+            Ok(entries) => {
+                let is_listed = notes.lists(alloc, entries.as_slice());
+                drop(entries);
+                is_listed
+            }
             Err(_) => false,
         },
     }
@@ -112,7 +116,10 @@ fn tells<L: Ledger, B: Ledger, N: DeskName, R: Wait>(
     match twice(event) {
         Some((event, copy)) => match front.submit(rt, desk, pass, copy) {
             Ok(receipt) => notes.takes(alloc, event, receipt),
-            Err(_) => false,
+            Err(_) => {
+                drop(event);
+                false
+            }
         },
         None => false,
     }
@@ -123,7 +130,10 @@ fn twice(event: Option<Event>) -> Option<(Event, Event)> {
     match event {
         Some(event) => match event.copy() {
             Ok(copy) => Some((event, copy)),
-            Err(_) => None,
+            Err(_) => {
+                drop(event);
+                None
+            }
         },
         None => None,
     }
@@ -139,7 +149,11 @@ fn mixed_event<L: Ledger, B: Ledger, N: DeskName, R: Wait>(
 ) -> Option<Event> {
     if number % 50 == 49 {
         match front.instance(rt, desk, pass) {
-            Ok(instance) => installs(alloc, &instance),
+            Ok(instance) => {
+                let event = installs(alloc, &instance);
+                drop(instance);
+                event
+            }
             Err(_) => None,
         }
     } else {
