@@ -18,7 +18,6 @@ use sd_routes::{Ask, JobRow, RequestError, Said, SourceRow, WhichCollector, job_
 use service_pages::{
     MOST_ROWS, Rows, ShownCollector, ShownJob, collector_document, found_document, job_document,
 };
-use service_state::Notes;
 use std::alloc::AllocError;
 use std::sync::Wait;
 use std::sync::ledger::Ledger;
@@ -76,64 +75,32 @@ impl<R: Wait + Clock + Copy, L: Ledger, B: Ledger, N: DeskName> Handler<R, L, B,
         ensures { IfOk result (IsJobRowText job.now) }
     {
         let row = self.job_row(job, place)?;
-        let page = job_row_page(self.alloc, &row);
-        drop(row);
-        page
+        job_row_page(self.alloc, &row)
     }
 
     fn job_row(&self, job: &str, place: usize) -> Result<JobRow, AllocError>
         ensures { IfOk result (λ row. row.name ≡ job.now) }
     {
         let state = self.job_state(place, 0)?;
-        let row = self.job_row_of(job, place, &state);
-        drop(state);
-        row
-    }
-
-    fn job_row_of(&self, job: &str, place: usize, state: &JobState) -> Result<JobRow, AllocError>
-        ensures { IfOk result (λ row. row.name ≡ job.now) }
-    {
-        let name = Text::from_str(self.alloc, job)?;
-        match self.held_and_sources(job, place, state) {
-            Ok((held, sources)) => Ok(JobRow {
-                name,
-                live: state.live,
-                covered: state.covered(),
-                uncovered: state.uncovered(),
-                unreached: state.unreached(),
-                handing_over: state.handing_over(),
-                held,
-                sources,
-            }),
-            Err(error) => {
-                drop(name);
-                Err(error)
-            }
-        }
-    }
-
-    fn held_and_sources(
-        &self,
-        job: &str,
-        place: usize,
-        state: &JobState,
-    ) -> Result<(List<(Text, u32)>, List<SourceRow>), AllocError> {
         let held = held_by_name(self.alloc, state.shares.as_slice())?;
-        match self.sources_of(job, place) {
-            Ok(sources) => Ok((held, sources)),
-            Err(error) => {
-                drop(held);
-                Err(error)
-            }
-        }
+        let sources = self.sources_of(job, place)?;
+        let name = Text::from_str(self.alloc, job)?;
+        Ok(JobRow {
+            name,
+            live: state.live,
+            covered: state.covered(),
+            uncovered: state.uncovered(),
+            unreached: state.unreached(),
+            handing_over: state.handing_over(),
+            held,
+            sources,
+        })
     }
 
     fn sources_of(&self, job: &str, place: usize) -> Result<List<SourceRow>, AllocError> {
         let notes = self.state.notes(&self.rt, self.alloc)?;
         let urls = self.pages.urls_at(place);
-        let rows = source_rows(self.alloc, job, urls, notes.sources.as_slice());
-        drop(notes);
-        rows
+        source_rows(self.alloc, job, urls, notes.sources.as_slice())
     }
 
     fn job_state(&self, place: usize, most_rows: usize) -> Result<JobState, AllocError> {
@@ -159,25 +126,7 @@ impl<R: Wait + Clock + Copy, L: Ledger, B: Ledger, N: DeskName> Handler<R, L, B,
 
     fn job_document_text(&self, job: &str, place: usize) -> Result<Text, AllocError> {
         let state = self.job_state(place, MOST_ROWS)?;
-        let text = match self.state.notes(&self.rt, self.alloc) {
-            Ok(notes) => {
-                let text = self.job_document_of(job, place, &state, &notes);
-                drop(notes);
-                text
-            }
-            Err(error) => Err(error),
-        };
-        drop(state);
-        text
-    }
-
-    fn job_document_of(
-        &self,
-        job: &str,
-        place: usize,
-        state: &JobState,
-        notes: &Notes,
-    ) -> Result<Text, AllocError> {
+        let notes = self.state.notes(&self.rt, self.alloc)?;
         let standing = self.state.standing(&self.rt, self.kept.is_some());
         let shown = ShownJob {
             name: job,
@@ -203,11 +152,7 @@ impl<R: Wait + Clock + Copy, L: Ledger, B: Ledger, N: DeskName> Handler<R, L, B,
         ensures { SaysCollectorPage N.opening which.now result }
     {
         match self.collector_state(which) {
-            Ok(Some(state)) => {
-                let said = self.collector_told(&state);
-                drop(state);
-                said
-            }
+            Ok(Some(state)) => self.collector_told(&state),
             Ok(None) => Said::Answer(Answer::Not(Refusal::UnknownCollector)),
             Err(_) => Said::Refused(RequestError::Memory),
         }
@@ -268,12 +213,9 @@ impl<R: Wait + Clock + Copy, L: Ledger, B: Ledger, N: DeskName> Handler<R, L, B,
 
     fn found_document_text(&self, text: &str) -> Result<Text, AllocError> {
         let numbers = self.matching(text)?;
-        let state = self.found_state(numbers.as_slice());
-        drop(numbers);
-        let state = state?;
-        let page = found_document(self.alloc, &state.shown(text));
-        drop(state);
-        page
+        let state = self.found_state(numbers.as_slice())?;
+        let shown = state.shown(text);
+        found_document(self.alloc, &shown)
     }
 
     fn found_state(&self, numbers: &[TargetId]) -> Result<FoundState, AllocError> {
