@@ -30,7 +30,11 @@ fn asking(alloc: Global) -> Result<Config, AllocError> {
 pub(crate) fn discovery(alloc: Global, bytes: &[u8]) -> Result<String, AllocError> {
     let (line, body) = first_line(bytes);
     match reply_of(alloc, line, body) {
-        Ok(reply) => listed(alloc, &reply),
+        Ok(reply) => {
+            let line = listed(alloc, &reply);
+            drop(reply);
+            line
+        }
         Err(error) => Err(error),
     }
 }
@@ -48,21 +52,45 @@ fn reply_of(alloc: Global, media: &str, body: &[u8]) -> Result<Reply, AllocError
 
 fn listed(alloc: Global, reply: &Reply) -> Result<String, AllocError> {
     match asking(alloc) {
-        Ok(config) => match config.jobs.as_slice().first() {
-            Some(job) => listed_by(alloc, job, reply),
-            None => Err(AllocError),
-        },
+        Ok(config) => {
+            let line = listed_in(alloc, &config, reply);
+            drop(config);
+            line
+        }
         Err(error) => Err(error),
+    }
+}
+
+fn listed_in(alloc: Global, config: &Config, reply: &Reply) -> Result<String, AllocError> {
+    match config.jobs.as_slice().first() {
+        Some(job) => listed_by(alloc, job, reply),
+        None => Err(AllocError),
     }
 }
 
 fn listed_by(alloc: Global, job: &Job, reply: &Reply) -> Result<String, AllocError> {
     match Rules::read(alloc, &[]) {
-        Ok(rules) => match found_in(alloc, job, &rules, 0, reply) {
-            Ok(_) => String::from_str(alloc, READ),
-            Err(error) => String::from_str(alloc, error.name()),
-        },
+        Ok(rules) => {
+            let line = listed_under(alloc, job, &rules, reply);
+            drop(rules);
+            line
+        }
         Err(_) => Err(AllocError),
+    }
+}
+
+fn listed_under(
+    alloc: Global,
+    job: &Job,
+    rules: &Rules,
+    reply: &Reply,
+) -> Result<String, AllocError> {
+    match found_in(alloc, job, rules, 0, reply) {
+        Ok(found) => {
+            drop(found);
+            String::from_str(alloc, READ)
+        }
+        Err(error) => String::from_str(alloc, error.name()),
     }
 }
 
@@ -80,16 +108,23 @@ fn first_line(bytes: &[u8]) -> (&str, &[u8]) {
 pub(crate) fn first_labels(alloc: Global, text: &str) -> Result<String, AllocError> {
     let (source, groups) = text.split_once(' ').unwrap_or((text, ""));
     match read_groups(alloc, groups.as_bytes()) {
-        Ok(groups) => labels_by(alloc, source.parse().unwrap_or(0), groups.as_slice()),
+        Ok(groups) => {
+            let line = labels_by(alloc, source.parse().unwrap_or(0), groups.as_slice());
+            drop(groups);
+            line
+        }
         Err(error) => refused_by(alloc, &error),
     }
 }
 
 fn labels_by(alloc: Global, source: u32, groups: &[Group]) -> Result<String, AllocError> {
-    match (asking(alloc), groups.first()) {
-        (Ok(config), Some(group)) => labels_in(alloc, source, &config, group),
-        (Ok(_), None) => String::from_str(alloc, NONE),
-        (Err(error), _) => Err(error),
+    match asking(alloc) {
+        Ok(config) => {
+            let line = labels_in(alloc, source, &config, groups.first());
+            drop(config);
+            line
+        }
+        Err(error) => Err(error),
     }
 }
 
@@ -97,10 +132,10 @@ fn labels_in(
     alloc: Global,
     source: u32,
     config: &Config,
-    group: &Group,
+    group: Option<&Group>,
 ) -> Result<String, AllocError> {
-    match config.jobs.as_slice().first() {
-        Some(job) if source as usize <= job.http_urls.len() => {
+    match (config.jobs.as_slice().first(), group) {
+        (Some(job), Some(group)) if source as usize <= job.http_urls.len() => {
             labels_of(alloc, source, job, group)
         }
         _ => String::from_str(alloc, NONE),
@@ -111,7 +146,11 @@ fn labels_of(alloc: Global, source: u32, job: &Job, group: &Group) -> Result<Str
     requires { source ≤ length job.now.http_urls }
 {
     match first_labels_of(alloc, job, group, "h:1", source) {
-        Ok(labels) => Ok(labels.to_json()?.into_string()),
+        Ok(labels) => {
+            let json = labels.to_json();
+            drop(labels);
+            Ok(json?.into_string())
+        }
         Err(error) => Err(error),
     }
 }
@@ -120,32 +159,60 @@ fn labels_of(alloc: Global, source: u32, job: &Job, group: &Group) -> Result<Str
 pub(crate) fn found(alloc: Global, text: &str) -> Result<String, AllocError> {
     let (rules, groups) = text.split_once(' ').unwrap_or((text, ""));
     match parse(alloc, rules.as_bytes())? {
-        Some(Value::Array(values)) => found_by(alloc, values.as_slice(), groups),
-        _ => String::from_str(alloc, NONE),
+        Some(Value::Array(values)) => {
+            let line = found_by(alloc, values.as_slice(), groups);
+            drop(values);
+            line
+        }
+        other => {
+            drop(other);
+            String::from_str(alloc, NONE)
+        }
     }
 }
 
 fn found_by(alloc: Global, values: &[Value], groups: &str) -> Result<String, AllocError> {
     match rules_of(alloc, values)? {
-        Ok(rules) => found_of(alloc, &rules, groups),
+        Ok(rules) => {
+            let line = found_of(alloc, &rules, groups);
+            drop(rules);
+            line
+        }
         Err(error) => format!(in alloc; "{error}"),
     }
 }
 
 fn found_of(alloc: Global, rules: &Rules, groups: &str) -> Result<String, AllocError> {
     match read_groups(alloc, groups.as_bytes()) {
-        Ok(groups) => found_among(alloc, rules, groups.as_slice()),
+        Ok(groups) => {
+            let line = found_among(alloc, rules, groups.as_slice());
+            drop(groups);
+            line
+        }
         Err(error) => refused_by(alloc, &error),
     }
 }
 
 fn found_among(alloc: Global, rules: &Rules, groups: &[Group]) -> Result<String, AllocError> {
     match asking(alloc) {
-        Ok(config) => match config.jobs.as_slice().first() {
-            Some(job) => discovered(alloc, rules, job, groups),
-            None => String::from_str(alloc, NONE),
-        },
+        Ok(config) => {
+            let line = found_under(alloc, rules, &config, groups);
+            drop(config);
+            line
+        }
         Err(error) => Err(error),
+    }
+}
+
+fn found_under(
+    alloc: Global,
+    rules: &Rules,
+    config: &Config,
+    groups: &[Group],
+) -> Result<String, AllocError> {
+    match config.jobs.as_slice().first() {
+        Some(job) => discovered(alloc, rules, job, groups),
+        None => String::from_str(alloc, NONE),
     }
 }
 
@@ -159,7 +226,11 @@ fn discovered(
         return String::from_str(alloc, NONE);
     }
     match rules.discover(alloc, job, 1, groups) {
-        Ok(found) => shown(alloc, &found),
+        Ok(found) => {
+            let line = shown(alloc, &found);
+            drop(found);
+            line
+        }
         Err(error) => Err(error),
     }
 }

@@ -9,7 +9,11 @@ use std::alloc::{AllocError, Global};
 /// A certificate document, which is checked where it is read.
 pub(crate) fn certificate(alloc: Global, bytes: &[u8]) -> Result<String, AllocError> {
     match read_document(alloc, bytes) {
-        Ok((instance, plan)) => judged(alloc, &instance, &plan),
+        Ok((instance, plan)) => {
+            let line = judged(alloc, &instance, &plan);
+            drop((instance, plan));
+            line
+        }
         Err(error) => not_read(alloc, &error),
     }
 }
@@ -28,7 +32,11 @@ fn judged(alloc: Global, instance: &Instance, plan: &Plan) -> Result<String, All
 /// An instance: how many items it has.
 pub(crate) fn instance(alloc: Global, bytes: &[u8]) -> Result<String, AllocError> {
     match read_instance(alloc, bytes) {
-        Ok(instance) => format!(in alloc; "{READ} {}", instance.items()),
+        Ok(instance) => {
+            let items = instance.items();
+            drop(instance);
+            format!(in alloc; "{READ} {items}")
+        }
         Err(error) => not_read(alloc, &error),
     }
 }
@@ -43,7 +51,11 @@ fn not_read(alloc: Global, error: &DocumentError) -> Result<String, AllocError> 
 /// A configuration: the outlines of its jobs, and the text of its scrape configurations.
 pub(crate) fn config(alloc: Global, bytes: &[u8]) -> Result<String, AllocError> {
     match read_config(alloc, bytes) {
-        Ok(config) => outline(alloc, &config),
+        Ok(config) => {
+            let line = outline(alloc, &config);
+            drop(config);
+            line
+        }
         Err(error) => refused_by(alloc, &error),
     }
 }
@@ -51,7 +63,11 @@ pub(crate) fn config(alloc: Global, bytes: &[u8]) -> Result<String, AllocError> 
 /// The outlines of a configuration's jobs alone.
 pub(crate) fn config_jobs(alloc: Global, bytes: &[u8]) -> Result<String, AllocError> {
     match read_config(alloc, bytes) {
-        Ok(config) => jobs_outline(alloc, config.jobs.as_slice()),
+        Ok(config) => {
+            let line = jobs_outline(alloc, config.jobs.as_slice());
+            drop(config);
+            line
+        }
         Err(error) => refused_by(alloc, &error),
     }
 }
@@ -101,7 +117,10 @@ fn with_kept(alloc: Global, jobs: String, config: &Config) -> Result<String, All
 /// A list of target groups.
 pub(crate) fn groups(alloc: Global, bytes: &[u8]) -> Result<String, AllocError> {
     match read_groups(alloc, bytes) {
-        Ok(_) => String::from_str(alloc, READ),
+        Ok(groups) => {
+            drop(groups);
+            String::from_str(alloc, READ)
+        }
         Err(error) => refused_by(alloc, &error),
     }
 }

@@ -16,16 +16,29 @@ pub(crate) fn label_name(alloc: Global, text: &str) -> Result<String, AllocError
 /// A list of pairs to set and of names to remove, one after the other: after each the label set, and what it has of the name.
 pub(crate) fn label_steps(alloc: Global, text: &str) -> Result<String, AllocError> {
     match parse(alloc, text.as_bytes())? {
-        Some(Value::Array(steps)) => all_steps(alloc, steps.as_slice()),
-        _ => String::from_str(alloc, NONE),
+        Some(Value::Array(steps)) => {
+            let line = all_steps(alloc, steps.as_slice());
+            drop(steps);
+            line
+        }
+        other => {
+            drop(other);
+            String::from_str(alloc, NONE)
+        }
     }
 }
 
 fn all_steps(alloc: Global, steps: &[Value]) -> Result<String, AllocError> {
-    let mut all = String::new(alloc);
     let mut labels = Labels::new(alloc);
+    let all = said_of(alloc, &mut labels, steps);
+    drop(labels);
+    all
+}
+
+fn said_of(alloc: Global, labels: &mut Labels, steps: &[Value]) -> Result<String, AllocError> {
+    let mut all = String::new(alloc);
     for step in steps {
-        add_step(alloc, &mut all, &mut labels, step)?;
+        add_step(alloc, &mut all, labels, step)?;
     }
     Ok(all)
 }
@@ -73,28 +86,54 @@ fn shown(alloc: Global, labels: &Labels, name: &str) -> Result<String, AllocErro
 /// An object as a label set, finished: the group of its target, and its `__address__`, `__meta_z` and `zone`.
 pub(crate) fn finished(alloc: Global, text: &str) -> Result<String, AllocError> {
     match parse(alloc, text.as_bytes())? {
-        Some(value) => match labels_in(alloc, &value) {
-            Ok(labels) => target_of(alloc, &labels),
-            Err(error) => said_by(alloc, error),
-        },
+        Some(value) => {
+            let line = finished_of(alloc, &value);
+            drop(value);
+            line
+        }
         None => String::from_str(alloc, NONE),
+    }
+}
+
+fn finished_of(alloc: Global, value: &Value) -> Result<String, AllocError> {
+    match labels_in(alloc, value) {
+        Ok(labels) => {
+            let line = target_of(alloc, &labels);
+            drop(labels);
+            line
+        }
+        Err(error) => said_by(alloc, error),
     }
 }
 
 /// The labels of an object's texts.
 pub(crate) fn labels_in(alloc: Global, value: &Value) -> Result<Labels, LabelError> {
     let mut labels = Labels::new(alloc);
+    match set_members(&mut labels, value) {
+        Ok(()) => Ok(labels),
+        Err(error) => {
+            drop(labels);
+            Err(error)
+        }
+    }
+}
+
+fn set_members(labels: &mut Labels, value: &Value) -> Result<(), LabelError> {
     if let Some(members) = value.as_object() {
         for (name, text) in members.iter() {
             labels.set(name.as_str(), text.as_str().unwrap_or(""))?;
         }
     }
-    Ok(labels)
+    Ok(())
 }
 
 fn target_of(alloc: Global, labels: &Labels) -> Result<String, AllocError> {
     match finish(alloc, labels)? {
-        Finished::Target(target) => shown_target(alloc, &target),
+        Finished::Target(target) => {
+            let line = shown_target(alloc, &target);
+            drop(target);
+            line
+        }
         Finished::NoAddress => String::from_str(alloc, "no address"),
     }
 }

@@ -1,6 +1,6 @@
 //! The limits that a collector has of its own.
 use crate::reach::refused_by;
-use crate::values::{NONE, json_of, number_at, text_at};
+use crate::values::{NONE, json_in, number_at, text_at};
 use json_values::{Spelled, parse};
 use lists::{List, Plain, Text};
 use reach_rules::OwnLimits;
@@ -10,41 +10,80 @@ use std::alloc::{AllocError, Global};
 /// An object of limits, written.
 pub(crate) fn own_limits(alloc: Global, text: &str) -> Result<String, AllocError> {
     match parse(alloc, text.as_bytes())? {
-        Some(value) => match OwnLimits::read(alloc, &value) {
-            Ok(limits) => written(alloc, &limits),
-            Err(error) => refused_by(alloc, error),
-        },
+        Some(value) => {
+            let line = own_limits_of(alloc, &value);
+            drop(value);
+            line
+        }
         None => String::from_str(alloc, NONE),
     }
 }
 
-fn written(alloc: Global, limits: &OwnLimits) -> Result<String, AllocError> {
-    match limits.write(alloc) {
-        Ok(value) => json_of(alloc, &value),
-        Err(error) => Err(error),
+fn own_limits_of(alloc: Global, value: &Value) -> Result<String, AllocError> {
+    match OwnLimits::read(alloc, value) {
+        Ok(limits) => {
+            let line = written(alloc, &limits);
+            drop(limits);
+            line
+        }
+        Err(error) => refused_by(alloc, error),
     }
+}
+
+fn written(alloc: Global, limits: &OwnLimits) -> Result<String, AllocError> {
+    json_in(alloc, limits.write(alloc))
 }
 
 /// A list of entries: the limits, how many there are, and those of the jobs `a` to `d`.
 pub(crate) fn limits(alloc: Global, text: &str) -> Result<String, AllocError> {
     match parse(alloc, text.as_bytes())? {
-        Some(value) => match limits_of(alloc, &value) {
-            Ok(limits) => shown(alloc, &limits),
-            Err(error) => Err(error),
-        },
+        Some(value) => {
+            let line = shown_of(alloc, &value);
+            drop(value);
+            line
+        }
         None => String::from_str(alloc, NONE),
+    }
+}
+
+fn shown_of(alloc: Global, value: &Value) -> Result<String, AllocError> {
+    match limits_of(alloc, value) {
+        Ok(limits) => {
+            let line = shown(alloc, &limits);
+            drop(limits);
+            line
+        }
+        Err(error) => Err(error),
     }
 }
 
 fn limits_of(alloc: Global, value: &Value) -> Result<OwnLimits, AllocError> {
     match entries_of(alloc, value) {
-        Ok(entries) => OwnLimits::of(alloc, entries.as_slice()),
+        Ok(entries) => {
+            let limits = OwnLimits::of(alloc, entries.as_slice());
+            drop(entries);
+            limits
+        }
         Err(error) => Err(error),
     }
 }
 
 fn entries_of(alloc: Global, value: &Value) -> Result<List<(Text, u32)>, AllocError> {
     let mut entries = List::new(alloc);
+    match push_entries(alloc, &mut entries, value) {
+        Ok(()) => Ok(entries),
+        Err(error) => {
+            drop(entries);
+            Err(error)
+        }
+    }
+}
+
+fn push_entries(
+    alloc: Global,
+    entries: &mut List<(Text, u32)>,
+    value: &Value,
+) -> Result<(), AllocError> {
     if let Some(items) = value.as_array() {
         for item in items.as_slice() {
             entries.push((
@@ -53,7 +92,7 @@ fn entries_of(alloc: Global, value: &Value) -> Result<List<(Text, u32)>, AllocEr
             ))?;
         }
     }
-    Ok(entries)
+    Ok(())
 }
 
 /// The limit of an entry, 0 where it has none.
@@ -73,18 +112,31 @@ fn shown(alloc: Global, limits: &OwnLimits) -> Result<String, AllocError> {
 /// Limits that are set one after the other, beginning with none: before the first and after each whether there is none, and the limits.
 pub(crate) fn limit_steps(alloc: Global, text: &str) -> Result<String, AllocError> {
     match parse(alloc, text.as_bytes())? {
-        Some(Value::Array(steps)) => all_steps(alloc, steps.as_slice()),
-        _ => String::from_str(alloc, NONE),
+        Some(Value::Array(steps)) => {
+            let line = all_steps(alloc, steps.as_slice());
+            drop(steps);
+            line
+        }
+        other => {
+            drop(other);
+            String::from_str(alloc, NONE)
+        }
     }
 }
 
 fn all_steps(alloc: Global, steps: &[Value]) -> Result<String, AllocError> {
     let mut limits = OwnLimits::none(alloc);
+    let all = said_of(alloc, &mut limits, steps);
+    drop(limits);
+    all
+}
+
+fn said_of(alloc: Global, limits: &mut OwnLimits, steps: &[Value]) -> Result<String, AllocError> {
     let mut all = String::new(alloc);
-    add_limits(alloc, &mut all, &limits)?;
+    add_limits(alloc, &mut all, limits)?;
     for step in steps {
         limits.set(text_at(step, 0).unwrap_or(""), limit_at(step))?;
-        add_limits(alloc, &mut all, &limits)?;
+        add_limits(alloc, &mut all, limits)?;
     }
     Ok(all)
 }
@@ -108,17 +160,32 @@ fn stepped(alloc: Global, limits: &OwnLimits) -> Result<String, AllocError> {
 /// A list of two lists of entries: whether they are the same limits.
 pub(crate) fn same_limits(alloc: Global, text: &str) -> Result<String, AllocError> {
     match parse(alloc, text.as_bytes())? {
-        Some(Value::Array(both)) => match both.as_slice() {
-            [one, other] => compared(alloc, one, other),
-            _ => String::from_str(alloc, NONE),
-        },
+        Some(Value::Array(both)) => {
+            let line = compared_in(alloc, both.as_slice());
+            drop(both);
+            line
+        }
+        other => {
+            drop(other);
+            String::from_str(alloc, NONE)
+        }
+    }
+}
+
+fn compared_in(alloc: Global, both: &[Value]) -> Result<String, AllocError> {
+    match both {
+        [one, other] => compared(alloc, one, other),
         _ => String::from_str(alloc, NONE),
     }
 }
 
 fn compared(alloc: Global, one: &Value, other: &Value) -> Result<String, AllocError> {
     match limits_of(alloc, one) {
-        Ok(limits) => compared_with(alloc, &limits, other),
+        Ok(limits) => {
+            let line = compared_with(alloc, &limits, other);
+            drop(limits);
+            line
+        }
         Err(error) => Err(error),
     }
 }
@@ -127,6 +194,7 @@ fn compared_with(alloc: Global, limits: &OwnLimits, other: &Value) -> Result<Str
     match limits_of(alloc, other) {
         Ok(other) => {
             let same = limits.same(&other);
+            drop(other);
             format!(in alloc; "{same}")
         }
         Err(error) => Err(error),

@@ -1,5 +1,5 @@
 //! What is told of a configuration.
-use crate::values::{NONE, json_of};
+use crate::values::{NONE, json_in};
 use json_values::parse;
 use scrape_pages::collectors_configs as configs_of;
 use std::alloc::{AllocError, Global};
@@ -7,7 +7,11 @@ use std::alloc::{AllocError, Global};
 /// The scrape configs of a document as its collectors are to use them.
 pub(crate) fn collectors_configs(alloc: Global, text: &str) -> Result<String, AllocError> {
     match parse(alloc, text.as_bytes())? {
-        Some(document) => json_of(alloc, &configs_of(alloc, &document)?),
+        Some(document) => {
+            let configs = configs_of(alloc, &document);
+            drop(document);
+            json_in(alloc, configs)
+        }
         None => String::from_str(alloc, NONE),
     }
 }

@@ -8,11 +8,25 @@ use std::alloc::{AllocError, Global};
 /// A list of relabelling rules.
 pub(crate) fn rules(alloc: Global, bytes: &[u8]) -> Result<String, AllocError> {
     match parse(alloc, bytes)? {
-        Some(Value::Array(values)) => match rules_of(alloc, values.as_slice())? {
-            Ok(_) => String::from_str(alloc, READ),
-            Err(error) => format!(in alloc; "{error}"),
-        },
-        _ => String::from_str(alloc, "no list"),
+        Some(Value::Array(values)) => {
+            let line = said_of(alloc, values.as_slice());
+            drop(values);
+            line
+        }
+        other => {
+            drop(other);
+            String::from_str(alloc, "no list")
+        }
+    }
+}
+
+fn said_of(alloc: Global, values: &[Value]) -> Result<String, AllocError> {
+    match rules_of(alloc, values)? {
+        Ok(rules) => {
+            drop(rules);
+            String::from_str(alloc, READ)
+        }
+        Err(error) => format!(in alloc; "{error}"),
     }
 }
 

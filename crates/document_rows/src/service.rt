@@ -34,18 +34,42 @@ pub(crate) fn duration(alloc: Global, text: &str) -> Result<String, AllocError> 
 /// A list of the words of a command line: what they ask for, or the first line of what is told of them.
 pub(crate) fn arguments(alloc: Global, text: &str) -> Result<String, AllocError> {
     match parse(alloc, text.as_bytes())? {
-        Some(Value::Array(values)) => asked_by(alloc, values.as_slice()),
-        _ => String::from_str(alloc, NONE),
+        Some(Value::Array(values)) => {
+            let line = asked_by(alloc, values.as_slice());
+            drop(values);
+            line
+        }
+        other => {
+            drop(other);
+            String::from_str(alloc, NONE)
+        }
     }
 }
 
 fn asked_by(alloc: Global, values: &[Value]) -> Result<String, AllocError> {
     let mut words = Vec::new(alloc);
+    let line = match push_words(alloc, &mut words, values) {
+        Ok(()) => asked_with(alloc, words.as_slice()),
+        Err(error) => Err(error),
+    };
+    drop(words);
+    line
+}
+
+fn push_words(alloc: Global, words: &mut Vec<String>, values: &[Value]) -> Result<(), AllocError> {
     for value in values {
         words.push(String::from_str(alloc, value.as_str().unwrap_or(""))?)?;
     }
-    match read_words(alloc, words.as_slice()) {
-        Ok(asked) => asked_for(alloc, &asked),
+    Ok(())
+}
+
+fn asked_with(alloc: Global, words: &[String]) -> Result<String, AllocError> {
+    match read_words(alloc, words) {
+        Ok(asked) => {
+            let line = asked_for(alloc, &asked);
+            drop(asked);
+            line
+        }
         Err(error) => Err(error),
     }
 }
@@ -79,7 +103,11 @@ fn first_line(text: &String) -> &str {
 /// The settings that a document says, or why it is refused.
 pub(crate) fn settings(alloc: Global, bytes: &[u8]) -> Result<String, AllocError> {
     match read_settings(alloc, bytes) {
-        Ok(settings) => outline(alloc, &settings),
+        Ok(settings) => {
+            let line = outline(alloc, &settings);
+            drop(settings);
+            line
+        }
         Err(SettingsError::Memory) => Err(AllocError),
         Err(fault) => fault.line(alloc),
     }
@@ -232,10 +260,21 @@ fn add_patterns(
 /// A list of a pattern and a name: whether the name matches the pattern, and a copy of it.
 pub(crate) fn joins(alloc: Global, text: &str) -> Result<String, AllocError> {
     match parse(alloc, text.as_bytes())? {
-        Some(Value::Array(values)) => match values.as_slice() {
-            [pattern, name] => joins_by(alloc, pattern.as_str(), name.as_str()),
-            _ => String::from_str(alloc, NONE),
-        },
+        Some(Value::Array(values)) => {
+            let line = joins_in(alloc, values.as_slice());
+            drop(values);
+            line
+        }
+        other => {
+            drop(other);
+            String::from_str(alloc, NONE)
+        }
+    }
+}
+
+fn joins_in(alloc: Global, values: &[Value]) -> Result<String, AllocError> {
+    match values {
+        [pattern, name] => joins_by(alloc, pattern.as_str(), name.as_str()),
         _ => String::from_str(alloc, NONE),
     }
 }
@@ -245,15 +284,39 @@ fn joins_by(
     pattern: Option<&str>,
     name: Option<&str>,
 ) -> Result<String, AllocError> {
-    let (pattern, name) = (pattern.unwrap_or(""), name.unwrap_or(""));
-    let Ok(reach) = Reach::read(alloc, &Value::Array(Vec::new(alloc))) else {
-        return Err(AllocError);
-    };
-    let pattern = JoiningPattern {
-        pattern: Text::from_str(alloc, pattern)?,
-        reach,
-        limits: OwnLimits::none(alloc),
-    };
-    let (first, second) = (pattern.matches(name), pattern.copy()?.matches(name));
-    format!(in alloc; "{first} {second}")
+    match pattern_of(alloc, pattern.unwrap_or("")) {
+        Ok(pattern) => {
+            let line = both_match(alloc, &pattern, name.unwrap_or(""));
+            drop(pattern);
+            line
+        }
+        Err(error) => Err(error),
+    }
+}
+
+/// The pattern of those that reach nothing and have no limits.
+fn pattern_of(alloc: Global, pattern: &str) -> Result<JoiningPattern, AllocError> {
+    let pattern = Text::from_str(alloc, pattern)?;
+    let rules = Value::Array(Vec::new(alloc));
+    let reach = Reach::read(alloc, &rules);
+    drop(rules);
+    match reach {
+        Ok(reach) => Ok(JoiningPattern {
+            pattern,
+            reach,
+            limits: OwnLimits::none(alloc),
+        }),
+        Err(_) => Err(AllocError),
+    }
+}
+
+fn both_match(alloc: Global, pattern: &JoiningPattern, name: &str) -> Result<String, AllocError> {
+    match pattern.copy() {
+        Ok(copy) => {
+            let (first, second) = (pattern.matches(name), copy.matches(name));
+            drop(copy);
+            format!(in alloc; "{first} {second}")
+        }
+        Err(error) => Err(error),
+    }
 }

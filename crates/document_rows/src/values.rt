@@ -10,27 +10,39 @@ pub(crate) const NONE: &str = "none";
 /// The pairs of the member `pairs`.
 pub(crate) fn pairs(alloc: Global, text: &str) -> Result<String, AllocError> {
     match parse(alloc, text.as_bytes())? {
-        Some(value) => written_pairs(alloc, &value),
+        Some(value) => {
+            let line = written_pairs(alloc, &value);
+            drop(value);
+            line
+        }
         None => String::from_str(alloc, NONE),
     }
 }
 
 fn written_pairs(alloc: Global, value: &Value) -> Result<String, AllocError> {
     let found: Option<List<(u32, u32)>> = member(alloc, value, "pairs")?;
-    written(alloc, &found)
+    let line = written(alloc, &found);
+    drop(found);
+    line
 }
 
 /// A list of texts.
 pub(crate) fn texts(alloc: Global, text: &str) -> Result<String, AllocError> {
     match parse(alloc, text.as_bytes())? {
-        Some(value) => written_texts(alloc, &value),
+        Some(value) => {
+            let line = written_texts(alloc, &value);
+            drop(value);
+            line
+        }
         None => String::from_str(alloc, NONE),
     }
 }
 
 fn written_texts(alloc: Global, value: &Value) -> Result<String, AllocError> {
     let found: Option<List<Text>> = Spelled::read(alloc, value)?;
-    written(alloc, &found)
+    let line = written(alloc, &found);
+    drop(found);
+    line
 }
 
 /// A list that was read, as JSON.
@@ -39,7 +51,7 @@ fn written<T: Spelled + Drop>(
     found: &Option<List<T>>,
 ) -> Result<String, AllocError> {
     match found {
-        Some(list) => json_of(alloc, &array_of(alloc, list.as_slice())?),
+        Some(list) => json_in(alloc, array_of(alloc, list.as_slice())),
         None => String::from_str(alloc, NONE),
     }
 }
@@ -47,7 +59,11 @@ fn written<T: Spelled + Drop>(
 /// A text of JSON in its compact form.
 pub(crate) fn compact(alloc: Global, text: &str) -> Result<String, AllocError> {
     match parse(alloc, text.as_bytes())? {
-        Some(value) => json_of(alloc, &value),
+        Some(value) => {
+            let line = json_of(alloc, &value);
+            drop(value);
+            line
+        }
         None => String::from_str(alloc, NONE),
     }
 }
@@ -56,11 +72,33 @@ pub(crate) fn json_of(alloc: Global, value: &Value) -> Result<String, AllocError
     Ok(text_of(alloc, value)?.into_string())
 }
 
+/// The same of a value that was written.
+pub(crate) fn json_in(
+    alloc: Global,
+    value: Result<Value, AllocError>,
+) -> Result<String, AllocError> {
+    match value {
+        Ok(value) => {
+            let json = json_of(alloc, &value);
+            drop(value);
+            json
+        }
+        Err(error) => Err(error),
+    }
+}
+
 /// The texts of a JSON list, one behind the other. A pair of a number and a text stands for so many copies, with commas between them.
 pub(crate) fn spelled_out(alloc: Global, text: &str) -> Result<Option<String>, AllocError> {
     match parse(alloc, text.as_bytes())? {
-        Some(Value::Array(parts)) => Ok(Some(joined(alloc, parts.as_slice())?)),
-        _ => Ok(None),
+        Some(Value::Array(parts)) => {
+            let all = joined(alloc, parts.as_slice());
+            drop(parts);
+            Ok(Some(all?))
+        }
+        other => {
+            drop(other);
+            Ok(None)
+        }
     }
 }
 

@@ -23,7 +23,11 @@ pub(crate) fn media(alloc: Global, text: &str) -> Result<String, AllocError> {
 /// A source's URL: how it is asked.
 pub(crate) fn url(alloc: Global, text: &str) -> Result<String, AllocError> {
     match get_of_url(alloc, text) {
-        Ok(get) => format!(in alloc; "{READ} {}", get.path.as_str()),
+        Ok(get) => {
+            let line = format!(in alloc; "{READ} {}", get.path.as_str());
+            drop(get);
+            line
+        }
         Err(error) => Err(error),
     }
 }
@@ -31,8 +35,15 @@ pub(crate) fn url(alloc: Global, text: &str) -> Result<String, AllocError> {
 /// The texts of groups: the list of them.
 pub(crate) fn written_groups(alloc: Global, text: &str) -> Result<String, AllocError> {
     match parse(alloc, text.as_bytes())? {
-        Some(Value::Array(values)) => written(alloc, values.as_slice()),
-        _ => String::from_str(alloc, NONE),
+        Some(Value::Array(values)) => {
+            let line = written(alloc, values.as_slice());
+            drop(values);
+            line
+        }
+        other => {
+            drop(other);
+            String::from_str(alloc, NONE)
+        }
     }
 }
 

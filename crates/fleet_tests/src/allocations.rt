@@ -41,7 +41,10 @@ fn jobs(alloc: Global, name: Result<Text, AllocError>) -> Result<Vec<JobSpec>, A
 pub(crate) fn event_in(alloc: Global, line: &str) -> Result<Event, AllocError> {
     match read_event(alloc, line.as_bytes()) {
         Ok(Some(event)) => Ok(event),
-        _ => Err(AllocError),
+        other => {
+            drop(other);
+            Err(AllocError)
+        }
     }
 }
 
@@ -59,7 +62,11 @@ fn laws_are_called(rt: HostRuntime) -> Result<(), Fail> {
 
 fn knows_nothing(alloc: Global) -> Result<bool, AllocError> {
     match core(alloc) {
-        Ok(core) => is_new(&core),
+        Ok(core) => {
+            let is_new = is_new(&core);
+            drop(core);
+            is_new
+        }
         Err(error) => Err(error),
     }
 }
@@ -78,7 +85,11 @@ fn is_first(core: &Core) -> bool {
 /// How many items the next plan is for.
 pub(crate) fn items(core: &Core) -> Result<usize, AllocError> {
     match core.instance() {
-        Ok(instance) => Ok(instance.items()),
+        Ok(instance) => {
+            let items = instance.items();
+            drop(instance);
+            Ok(items)
+        }
         Err(error) => Err(error),
     }
 }
@@ -86,7 +97,11 @@ pub(crate) fn items(core: &Core) -> Result<usize, AllocError> {
 /// How many targets the first collector holds.
 pub(crate) fn held(core: &Core) -> Result<usize, AllocError> {
     match core.held(1) {
-        Ok(held) => Ok(held.len()),
+        Ok(held) => {
+            let count = held.len();
+            drop(held);
+            Ok(count)
+        }
         Err(error) => Err(error),
     }
 }
@@ -94,7 +109,11 @@ pub(crate) fn held(core: &Core) -> Result<usize, AllocError> {
 /// How many items the last plan was for.
 fn certified_items(core: &Core) -> Result<usize, AllocError> {
     match core.certificate() {
-        Ok((instance, _)) => Ok(instance.items()),
+        Ok((instance, plan)) => {
+            let items = instance.items();
+            drop((instance, plan));
+            Ok(items)
+        }
         Err(error) => Err(error),
     }
 }

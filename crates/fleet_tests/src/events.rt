@@ -9,7 +9,11 @@ use std::test::Fail;
 /// Whether the event of a text is the same as its copy, and whether it is that of another text.
 fn compared(alloc: Global, text: &str, other: &str) -> Result<(bool, bool), AllocError> {
     match event_in(alloc, text) {
-        Ok(event) => compared_with(&event, event_in(alloc, other)),
+        Ok(event) => {
+            let compared = compared_with(&event, event_in(alloc, other));
+            drop(event);
+            compared
+        }
         Err(error) => Err(error),
     }
 }
@@ -19,7 +23,11 @@ fn compared_with(
     other: Result<Event, AllocError>,
 ) -> Result<(bool, bool), AllocError> {
     match other {
-        Ok(other) => with_copy(event, event.same(&other)),
+        Ok(other) => {
+            let compared = with_copy(event, event.same(&other));
+            drop(other);
+            compared
+        }
         Err(error) => Err(error),
     }
 }
@@ -30,7 +38,11 @@ fn with_copy(event: &Event, is_other: bool) -> Result<(bool, bool), AllocError> 
 
 fn is_copied<T: Plain + Drop>(value: &T) -> Result<bool, AllocError> {
     match value.copy() {
-        Ok(copy) => Ok(copy.same(value)),
+        Ok(copy) => {
+            let is_same = copy.same(value);
+            drop(copy);
+            Ok(is_same)
+        }
         Err(error) => Err(error),
     }
 }
@@ -88,16 +100,36 @@ fn is_the_same(alloc: Global, event: Event) -> Result<bool, AllocError> {
     let line =
         r#"{"event":"report","collector":1,"number":2,"target":3,"round":4,"up":true,"samples":5}"#;
     match event_in(alloc, line) {
-        Ok(read) => Ok(event.same(&read) && !event.same(&Event::Take(1))),
-        Err(error) => Err(error),
+        Ok(read) => {
+            let is_same = event.same(&read) && differs(&event, Event::Take(1));
+            drop((event, read));
+            Ok(is_same)
+        }
+        Err(error) => {
+            drop(event);
+            Err(error)
+        }
     }
+}
+
+fn differs(event: &Event, other: Event) -> bool {
+    let is_same = event.same(&other);
+    drop(other);
+    !is_same
 }
 
 /// Whether an answer and its copy are told by this line.
 fn says(alloc: Global, answer: Answer, line: &str) -> Result<bool, AllocError> {
     match answer.copy() {
-        Ok(copy) => have_line(alloc, &copy, &answer, line),
-        Err(error) => Err(error),
+        Ok(copy) => {
+            let is_said = have_line(alloc, &copy, &answer, line);
+            drop((copy, answer));
+            is_said
+        }
+        Err(error) => {
+            drop(answer);
+            Err(error)
+        }
     }
 }
 

@@ -81,7 +81,11 @@ fn as_many_targets_are_listed_as_may_live(rt: HostRuntime) -> Result<(), Fail> {
 
 fn lists_most(alloc: Global) -> Result<bool, AllocError> {
     match core(alloc) {
-        Ok(mut core) => is_filled(alloc, &mut core),
+        Ok(mut core) => {
+            let is_filled = is_filled(alloc, &mut core);
+            drop(core);
+            is_filled
+        }
         Err(error) => Err(error),
     }
 }
@@ -104,7 +108,11 @@ fn refused_targets_are_not_reached(rt: HostRuntime) -> Result<(), Fail> {
 
 fn refuses_most(alloc: Global) -> Result<bool, AllocError> {
     match core(alloc) {
-        Ok(mut core) => reaches_the_others(alloc, &mut core),
+        Ok(mut core) => {
+            let reaches_them = reaches_the_others(alloc, &mut core);
+            drop(core);
+            reaches_them
+        }
         Err(error) => Err(error),
     }
 }

@@ -39,7 +39,11 @@ pub(crate) fn apply_line(
 ) -> Result<Applied, AllocError> {
     match event_in(alloc, line) {
         Ok(event) => match core.apply(event) {
-            Ok(answered) => said(answered.line(alloc), answer),
+            Ok(answered) => {
+                let applied = said(answered.line(alloc), answer);
+                drop(answered);
+                applied
+            }
             Err(_) => Ok(Applied::NotApplied),
         },
         Err(error) => Err(error),
@@ -109,7 +113,11 @@ fn want_of_memory_changes_nothing(rt: HostRuntime) -> Result<(), Fail> {
 
 fn changes_nothing(alloc: Global) -> Result<bool, AllocError> {
     match core(alloc) {
-        Ok(mut core) => are_answered(alloc, &mut core),
+        Ok(mut core) => {
+            let are_answered = are_answered(alloc, &mut core);
+            drop(core);
+            are_answered
+        }
         Err(error) => Err(error),
     }
 }
