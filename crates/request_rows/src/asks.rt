@@ -42,8 +42,28 @@ fn at_target(
     body: &[u8],
 ) -> Result<String, AllocError> {
     match Uri::from_str(alloc, target) {
-        Ok(target) => by_routes(alloc, &Routes::open(alloc)?, method, &target, body),
+        Ok(target) => {
+            let line = with_routes(alloc, method, &target, body);
+            drop(target);
+            line
+        }
         Err(_) => String::from_str(alloc, "no target"),
+    }
+}
+
+fn with_routes(
+    alloc: Global,
+    method: &Method,
+    target: &Uri,
+    body: &[u8],
+) -> Result<String, AllocError> {
+    match Routes::open(alloc) {
+        Ok(routes) => {
+            let line = by_routes(alloc, &routes, method, target, body);
+            drop(routes);
+            line
+        }
+        Err(error) => Err(error),
     }
 }
 
@@ -55,7 +75,11 @@ fn by_routes(
     body: &[u8],
 ) -> Result<String, AllocError> {
     match route(routes, alloc, method, target) {
-        Ok(ask) => told(alloc, &ask, body),
+        Ok(ask) => {
+            let line = told(alloc, &ask, body);
+            drop(ask);
+            line
+        }
         Err(error) => refused(alloc, error),
     }
 }
@@ -86,10 +110,24 @@ fn misshapen(alloc: Global, ask: &Ask, body: &[u8]) -> Result<String, AllocError
 
 fn spelled_wanted(alloc: Global, wanted: Wanted) -> Result<String, AllocError> {
     match wanted {
-        Wanted::Event(event) => spelled_event(alloc, &event),
-        Wanted::OfNamed { name, change } => spelled_change(alloc, &name, change),
-        Wanted::Reports(events) => spelled_events(alloc, events.as_slice()),
+        Wanted::Event(event) => spelled_whole(alloc, event),
+        Wanted::OfNamed { name, change } => {
+            let line = spelled_change(alloc, &name, change);
+            drop(name);
+            line
+        }
+        Wanted::Reports(events) => {
+            let line = spelled_events(alloc, events.as_slice());
+            drop(events);
+            line
+        }
     }
+}
+
+fn spelled_whole(alloc: Global, event: Event) -> Result<String, AllocError> {
+    let line = spelled_event(alloc, &event);
+    drop(event);
+    line
 }
 
 /// Each event behind a blank.
@@ -108,7 +146,7 @@ fn spelled_change(
     name: &CollectorName,
     change: Change,
 ) -> Result<String, AllocError> {
-    match spelled_event(alloc, &change.event(NAMED)) {
+    match spelled_whole(alloc, change.event(NAMED)) {
         Ok(event) => format!(in alloc; "of <{}> {event}", name.as_str()),
         Err(error) => Err(error),
     }

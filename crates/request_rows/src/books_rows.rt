@@ -9,7 +9,9 @@ use std::alloc::{AllocError, Global};
 pub(crate) fn books(alloc: Global, text: &str) -> Result<String, AllocError> {
     let (head, job) = first_part(text);
     let row = row_in(alloc, head, job)?;
-    Ok(books_page(alloc, &row)?.into_string())
+    let page = books_page(alloc, &row);
+    drop(row);
+    Ok(page?.into_string())
 }
 
 fn row_in(alloc: Global, head: &str, job: &str) -> Result<BooksRow, AllocError> {
@@ -30,10 +32,20 @@ fn round_in(text: &str) -> Option<u32> {
 
 fn jobs_in(alloc: Global, job: &str) -> Result<List<JobBooks>, AllocError> {
     let mut jobs = List::new(alloc);
-    if !job.is_empty() {
-        jobs.push(job_in(alloc, job)?)?;
+    match push_job(alloc, &mut jobs, job) {
+        Ok(()) => Ok(jobs),
+        Err(error) => {
+            drop(jobs);
+            Err(error)
+        }
     }
-    Ok(jobs)
+}
+
+fn push_job(alloc: Global, jobs: &mut List<JobBooks>, job: &str) -> Result<(), AllocError> {
+    if job.is_empty() {
+        return Ok(());
+    }
+    jobs.push(job_in(alloc, job)?)
 }
 
 fn job_in(alloc: Global, text: &str) -> Result<JobBooks, AllocError> {
@@ -50,12 +62,26 @@ fn job_in(alloc: Global, text: &str) -> Result<JobBooks, AllocError> {
 
 fn collectors_in(alloc: Global, text: &str) -> Result<List<CollectorBooks>, AllocError> {
     let mut collectors = List::new(alloc);
+    match push_collectors(alloc, &mut collectors, text) {
+        Ok(()) => Ok(collectors),
+        Err(error) => {
+            drop(collectors);
+            Err(error)
+        }
+    }
+}
+
+fn push_collectors(
+    alloc: Global,
+    collectors: &mut List<CollectorBooks>,
+    text: &str,
+) -> Result<(), AllocError> {
     for collector in text.split(" | ") {
         if !collector.is_empty() {
             collectors.push(collector_in(alloc, collector)?)?;
         }
     }
-    Ok(collectors)
+    Ok(())
 }
 
 fn collector_in(alloc: Global, text: &str) -> Result<CollectorBooks, AllocError> {

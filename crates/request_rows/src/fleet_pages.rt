@@ -12,7 +12,11 @@ use target_shares::NumberedTarget;
 /// take, or 0; JOIN is the line of a join, and its limits are what the collector holds too.
 pub(crate) fn collector(alloc: Global, text: &str) -> Result<String, AllocError> {
     match row_in(alloc, text)? {
-        Some(row) => Ok(collector_page(alloc, &row)?.into_string()),
+        Some(row) => {
+            let page = collector_page(alloc, &row);
+            drop(row);
+            Ok(page?.into_string())
+        }
         None => String::from_str(alloc, "no collector"),
     }
 }
@@ -20,12 +24,21 @@ pub(crate) fn collector(alloc: Global, text: &str) -> Result<String, AllocError>
 /// The page of collectors, with ` | ` between them.
 pub(crate) fn collectors(alloc: Global, text: &str) -> Result<String, AllocError> {
     let mut rows = Vec::new(alloc);
+    let page = match push_rows(alloc, &mut rows, text) {
+        Ok(()) => collectors_page(alloc, rows.as_slice()),
+        Err(error) => Err(error),
+    };
+    drop(rows);
+    Ok(page?.into_string())
+}
+
+fn push_rows(alloc: Global, rows: &mut Vec<CollectorRow>, text: &str) -> Result<(), AllocError> {
     for part in text.split(" | ") {
         if let Some(row) = row_in(alloc, part)? {
             rows.push(row)?;
         }
     }
-    Ok(collectors_page(alloc, rows.as_slice())?.into_string())
+    Ok(())
 }
 
 fn row_in(alloc: Global, text: &str) -> Result<Option<CollectorRow>, AllocError> {
@@ -48,7 +61,10 @@ fn row_in(alloc: Global, text: &str) -> Result<Option<CollectorRow>, AllocError>
             row.last_take = Some(large(take)).filter(|number| *number > 0);
             Ok(Some(row))
         }
-        _ => Ok(None),
+        other => {
+            drop(other);
+            Ok(None)
+        }
     }
 }
 
@@ -58,20 +74,30 @@ fn joined(
     reach: Reach,
     limits: OwnLimits,
 ) -> Result<CollectorRow, AllocError> {
+    match held_of(alloc, limits.entries()) {
+        Ok(held) => Ok(CollectorRow {
+            id: 0,
+            name,
+            draining: false,
+            reach,
+            limits,
+            held,
+            taken: None,
+            last_take: None,
+        }),
+        Err(error) => {
+            drop((name, reach, limits));
+            Err(error)
+        }
+    }
+}
+
+fn held_of(alloc: Global, entries: &[(Text, u32)]) -> Result<List<(Text, u32)>, AllocError> {
     let mut held = List::new(alloc);
-    for share in limits.entries() {
+    for share in entries {
         held.push(share.copy()?)?;
     }
-    Ok(CollectorRow {
-        id: 0,
-        name,
-        draining: false,
-        reach,
-        limits,
-        held,
-        taken: None,
-        last_take: None,
-    })
+    Ok(held)
 }
 
 /// The page of targets of a job that were searched for, numbered from 7 on, as `ALL JOB HOLDER GROUPS`. Without a holder, which is `-`, none is
@@ -81,12 +107,31 @@ pub(crate) fn found(alloc: Global, text: &str) -> Result<String, AllocError> {
     let (job, rest) = first_word(rest);
     let (holder, groups) = first_word(rest);
     let mut found = Vec::new(alloc);
-    if let Some(targets) = numbered(alloc, groups)? {
-        for target in targets.into_vec() {
-            found.push(found_target(alloc, job, holder, target)?)?;
+    let page = match push_found(alloc, &mut found, job, holder, numbered(alloc, groups)) {
+        Ok(()) => found_page(alloc, number(all), found.as_slice()),
+        Err(error) => Err(error),
+    };
+    drop(found);
+    Ok(page?.into_string())
+}
+
+fn push_found(
+    alloc: Global,
+    found: &mut Vec<FoundTarget>,
+    job: &str,
+    holder: &str,
+    targets: Result<Option<List<NumberedTarget>>, AllocError>,
+) -> Result<(), AllocError> {
+    match targets {
+        Ok(Some(targets)) => {
+            for target in targets.into_vec() {
+                found.push(found_target(alloc, job, holder, target)?)?;
+            }
+            Ok(())
         }
+        Ok(None) => Ok(()),
+        Err(error) => Err(error),
     }
-    Ok(found_page(alloc, number(all), found.as_slice())?.into_string())
 }
 
 fn found_target(
@@ -95,7 +140,13 @@ fn found_target(
     holder: &str,
     target: NumberedTarget,
 ) -> Result<FoundTarget, AllocError> {
-    let job = Text::from_str(alloc, job)?;
+    let job = match Text::from_str(alloc, job) {
+        Ok(job) => job,
+        Err(error) => {
+            drop(target);
+            return Err(error);
+        }
+    };
     let collector = if holder == "-" {
         None
     } else {

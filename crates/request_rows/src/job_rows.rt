@@ -9,7 +9,9 @@ use std::alloc::{AllocError, Global};
 pub(crate) fn job_row(alloc: Global, text: &str) -> Result<String, AllocError> {
     let (job, sources) = first_part(text);
     let row = row_in(alloc, job, sources)?;
-    Ok(job_row_page(alloc, &row)?.into_string())
+    let page = job_row_page(alloc, &row);
+    drop(row);
+    Ok(page?.into_string())
 }
 
 fn row_in(alloc: Global, text: &str, sources: &str) -> Result<JobRow, AllocError> {
@@ -21,17 +23,22 @@ fn row_in(alloc: Global, text: &str, sources: &str) -> Result<JobRow, AllocError
     let (handing_over, rest) = first_word(rest);
     let name = Text::from_str(alloc, name)?;
     let held = held_in(alloc, rest)?;
-    let sources = sources_in(alloc, sources)?;
-    Ok(JobRow {
-        name,
-        live: number(live),
-        covered: number(covered),
-        uncovered: number(uncovered),
-        unreached: number(unreached),
-        handing_over: number(handing_over),
-        held,
-        sources,
-    })
+    match sources_in(alloc, sources) {
+        Ok(sources) => Ok(JobRow {
+            name,
+            live: number(live),
+            covered: number(covered),
+            uncovered: number(uncovered),
+            unreached: number(unreached),
+            handing_over: number(handing_over),
+            held,
+            sources,
+        }),
+        Err(error) => {
+            drop((name, held));
+            Err(error)
+        }
+    }
 }
 
 /// What one collector holds, if one is named.
@@ -46,12 +53,26 @@ fn held_in(alloc: Global, text: &str) -> Result<List<(Text, u32)>, AllocError> {
 
 fn sources_in(alloc: Global, text: &str) -> Result<List<SourceRow>, AllocError> {
     let mut sources = List::new(alloc);
+    match push_sources(alloc, &mut sources, text) {
+        Ok(()) => Ok(sources),
+        Err(error) => {
+            drop(sources);
+            Err(error)
+        }
+    }
+}
+
+fn push_sources(
+    alloc: Global,
+    sources: &mut List<SourceRow>,
+    text: &str,
+) -> Result<(), AllocError> {
     for source in text.split(" | ") {
         if !source.is_empty() {
             sources.push(source_in(alloc, source)?)?;
         }
     }
-    Ok(sources)
+    Ok(())
 }
 
 fn source_in(alloc: Global, text: &str) -> Result<SourceRow, AllocError> {

@@ -15,7 +15,11 @@ const FIRST: u32 = 7;
 /// The page of the jobs of a configuration.
 pub(crate) fn jobs(alloc: Global, text: &str) -> Result<String, AllocError> {
     match read_config(alloc, text.as_bytes()) {
-        Ok(config) => Ok(jobs_page(alloc, config.jobs.as_slice())?.into_string()),
+        Ok(config) => {
+            let page = jobs_page(alloc, config.jobs.as_slice());
+            drop(config);
+            Ok(page?.into_string())
+        }
         Err(error) => format!(in alloc; "{error}"),
     }
 }
@@ -23,7 +27,11 @@ pub(crate) fn jobs(alloc: Global, text: &str) -> Result<String, AllocError> {
 /// The page of targets, numbered from 7 on: a list as in a discover line.
 pub(crate) fn targets(alloc: Global, text: &str) -> Result<String, AllocError> {
     match numbered(alloc, text)? {
-        Some(targets) => Ok(targets_page(alloc, targets.as_slice())?.into_string()),
+        Some(targets) => {
+            let page = targets_page(alloc, targets.as_slice());
+            drop(targets);
+            Ok(page?.into_string())
+        }
         None => String::from_str(alloc, "no targets"),
     }
 }
@@ -36,8 +44,20 @@ pub(crate) fn numbered(
         "{{\"event\":\"discover\",\"job\":\"j\",\"source\":0,\"targets\":{groups}}}"
     )?;
     match read_event(alloc, line.as_bytes())? {
-        Some(Event::Discover { targets, .. }) => Ok(Some(with_numbers(alloc, targets)?)),
-        _ => Ok(None),
+        Some(
+            Event::Discover {
+                job,
+                source: _,
+                targets,
+            },
+        ) => {
+            drop(job);
+            Ok(Some(with_numbers(alloc, targets)?))
+        }
+        other => {
+            drop(other);
+            Ok(None)
+        }
     }
 }
 
@@ -55,17 +75,31 @@ fn with_numbers(alloc: Global, targets: List<Target>) -> Result<List<NumberedTar
 pub(crate) fn job(alloc: Global, text: &str) -> Result<String, AllocError> {
     let (job, shares) = first_part(text);
     match shares_of(alloc, shares) {
-        Ok(shares) => Ok(job_page(alloc, job, shares.as_slice())?.into_string()),
+        Ok(shares) => {
+            let page = job_page(alloc, job, shares.as_slice());
+            drop(shares);
+            Ok(page?.into_string())
+        }
         Err(error) => Err(error),
     }
 }
 
 fn shares_of(alloc: Global, text: &str) -> Result<List<Share>, AllocError> {
     let mut shares = List::new(alloc);
-    for part in text.split(" | ") {
-        push_share(alloc, &mut shares, part)?;
+    match push_shares(alloc, &mut shares, text) {
+        Ok(()) => Ok(shares),
+        Err(error) => {
+            drop(shares);
+            Err(error)
+        }
     }
-    Ok(shares)
+}
+
+fn push_shares(alloc: Global, shares: &mut List<Share>, text: &str) -> Result<(), AllocError> {
+    for part in text.split(" | ") {
+        push_share(alloc, shares, part)?;
+    }
+    Ok(())
 }
 
 fn push_share(alloc: Global, shares: &mut List<Share>, text: &str) -> Result<(), AllocError> {
@@ -91,7 +125,13 @@ fn with_targets(
 ) -> Result<Option<Share>, AllocError> {
     match targets {
         Ok(Some(targets)) => Ok(Some(Share { collector, targets })),
-        Ok(None) => Ok(None),
-        Err(error) => Err(error),
+        Ok(None) => {
+            drop(collector);
+            Ok(None)
+        }
+        Err(error) => {
+            drop(collector);
+            Err(error)
+        }
     }
 }

@@ -16,7 +16,11 @@ pub(crate) fn response(alloc: Global, text: &str) -> Result<String, AllocError> 
 
 fn told(alloc: Global, said: Said) -> Result<String, AllocError> {
     match answer(alloc, said, false) {
-        Ok(response) => outline(alloc, &response),
+        Ok(response) => {
+            let line = outline(alloc, &response);
+            drop(response);
+            line
+        }
         Err(error) => Err(error),
     }
 }

@@ -47,27 +47,61 @@ pub(crate) fn get_in_job(alloc: Global, text: &str) -> Result<String, AllocError
 
 fn by_config(alloc: Global, config: &str, job: usize, labels: &str) -> Result<String, AllocError> {
     match read_config(alloc, config.as_bytes()) {
-        Ok(config) => by_jobs(alloc, config.jobs.as_slice(), job, labels),
+        Ok(config) => {
+            let line = by_jobs(alloc, config.jobs.as_slice(), job, labels);
+            drop(config);
+            line
+        }
         Err(error) => format!(in alloc; "{error}"),
     }
 }
 
 fn by_jobs(alloc: Global, jobs: &[Job], job: usize, labels: &str) -> Result<String, AllocError> {
     match parse(alloc, labels.as_bytes())? {
-        Some(Value::Object(members)) => match labels_of(alloc, &members) {
-            Ok(labels) => of_labels(alloc, jobs, job, &labels),
-            Err(error) => refused(alloc, error),
-        },
-        _ => String::from_str(alloc, "no labels"),
+        Some(Value::Object(members)) => {
+            let labels = labels_of(alloc, &members);
+            drop(members);
+            by_labels(alloc, jobs, job, labels)
+        }
+        other => {
+            drop(other);
+            String::from_str(alloc, "no labels")
+        }
+    }
+}
+
+fn by_labels(
+    alloc: Global,
+    jobs: &[Job],
+    job: usize,
+    labels: Result<Labels, LabelError>,
+) -> Result<String, AllocError> {
+    match labels {
+        Ok(labels) => {
+            let line = of_labels(alloc, jobs, job, &labels);
+            drop(labels);
+            line
+        }
+        Err(error) => refused(alloc, error),
     }
 }
 
 fn labels_of(alloc: Global, members: &Map<String, Value>) -> Result<Labels, LabelError> {
     let mut labels = Labels::new(alloc);
+    match set_all(&mut labels, members) {
+        Ok(()) => Ok(labels),
+        Err(error) => {
+            drop(labels);
+            Err(error)
+        }
+    }
+}
+
+fn set_all(labels: &mut Labels, members: &Map<String, Value>) -> Result<(), LabelError> {
     for (name, value) in members.iter() {
         labels.set(name.as_str(), value.as_str().unwrap_or(""))?;
     }
-    Ok(labels)
+    Ok(())
 }
 
 fn refused(alloc: Global, error: LabelError) -> Result<String, AllocError> {
@@ -84,7 +118,11 @@ fn of_labels(
     labels: &Labels,
 ) -> Result<String, AllocError> {
     match finish(alloc, labels)? {
-        Finished::Target(target) => of_target(alloc, jobs, job, &target),
+        Finished::Target(target) => {
+            let line = of_target(alloc, jobs, job, &target);
+            drop(target);
+            line
+        }
         Finished::NoAddress => String::from_str(alloc, "no address"),
     }
 }

@@ -10,7 +10,11 @@ use std::alloc::{AllocError, Global};
 /// The document of a session: what it says in a few words.
 pub(crate) fn session(alloc: Global, bytes: &[u8]) -> Result<String, AllocError> {
     match read_session(alloc, bytes) {
-        Ok(session) => outline(alloc, &session),
+        Ok(session) => {
+            let line = outline(alloc, &session);
+            drop(session);
+            line
+        }
         Err(SessionError::Memory) => Err(AllocError),
         Err(error) => format!(in alloc; "{error:?}"),
     }

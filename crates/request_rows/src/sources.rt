@@ -33,7 +33,11 @@ pub(crate) fn reply(alloc: Global, text: &str) -> Result<String, AllocError> {
     let (status, media) = first_word(head);
     let body = body.strip_prefix(' ').unwrap_or(body);
     match reply_of(alloc, small(status), media, body) {
-        Ok(reply) => of_config(alloc, &reply),
+        Ok(reply) => {
+            let line = of_config(alloc, &reply);
+            drop(reply);
+            line
+        }
         Err(error) => Err(error),
     }
 }
@@ -51,17 +55,29 @@ fn reply_of(alloc: Global, status: u16, media: &str, body: &str) -> Result<Reply
 
 fn of_config(alloc: Global, reply: &Reply) -> Result<String, AllocError> {
     match asking(alloc) {
-        Ok(config) => match config.jobs.as_slice().first() {
-            Some(job) => of_job(alloc, job, reply),
-            None => Err(AllocError),
-        },
+        Ok(config) => {
+            let line = of_first(alloc, config.jobs.as_slice(), reply);
+            drop(config);
+            line
+        }
         Err(error) => Err(error),
+    }
+}
+
+fn of_first(alloc: Global, jobs: &[Job], reply: &Reply) -> Result<String, AllocError> {
+    match jobs.first() {
+        Some(job) => of_job(alloc, job, reply),
+        None => Err(AllocError),
     }
 }
 
 fn of_job(alloc: Global, job: &Job, reply: &Reply) -> Result<String, AllocError> {
     match rules_of(alloc, job) {
-        Ok(rules) => by_rules(alloc, job, &rules, reply),
+        Ok(rules) => {
+            let line = by_rules(alloc, job, &rules, reply);
+            drop(rules);
+            line
+        }
         Err(error) => Err(error),
     }
 }
@@ -80,7 +96,11 @@ fn told(
     refreshed: Result<Event, RefreshError>,
 ) -> Result<String, AllocError> {
     match refreshed {
-        Ok(event) => discovered(alloc, job, &event),
+        Ok(event) => {
+            let line = discovered(alloc, job, &event);
+            drop(event);
+            line
+        }
         Err(RefreshError::Memory) => Err(AllocError),
         Err(refusal) => refused(alloc, &refusal),
     }
@@ -140,17 +160,31 @@ fn push(text: &mut String, part: Result<String, AllocError>) -> Result<(), Alloc
 pub(crate) fn refreshes(alloc: Global, text: &str) -> Result<String, AllocError> {
     let (sources, answers) = first_part(text);
     match script_of(alloc, answers) {
-        Ok(mut script) => with_script(alloc, sources, &mut script),
+        Ok(mut script) => {
+            let line = with_script(alloc, sources, &mut script);
+            drop(script);
+            line
+        }
         Err(error) => Err(error),
     }
 }
 
 fn script_of(alloc: Global, answers: &str) -> Result<Script, AllocError> {
     let mut script = Script::new(alloc);
+    match push_answers(alloc, &mut script, answers) {
+        Ok(()) => Ok(script),
+        Err(error) => {
+            drop(script);
+            Err(error)
+        }
+    }
+}
+
+fn push_answers(alloc: Global, script: &mut Script, answers: &str) -> Result<(), AllocError> {
     for answer in answers.split(" | ") {
         script.push(fetched(alloc, answer)?)?;
     }
-    Ok(script)
+    Ok(())
 }
 
 fn fetched(alloc: Global, answer: &str) -> Result<Result<Reply, FetchFault>, AllocError> {
@@ -166,11 +200,24 @@ fn fetched(alloc: Global, answer: &str) -> Result<Result<Reply, FetchFault>, All
 
 fn with_script(alloc: Global, sources: &str, script: &mut Script) -> Result<String, AllocError> {
     match asking(alloc) {
-        Ok(config) => match config.jobs.as_slice().first() {
-            Some(job) => refresh_all(alloc, job, sources, script),
-            None => Err(AllocError),
-        },
+        Ok(config) => {
+            let line = refresh_first(alloc, config.jobs.as_slice(), sources, script);
+            drop(config);
+            line
+        }
         Err(error) => Err(error),
+    }
+}
+
+fn refresh_first(
+    alloc: Global,
+    jobs: &[Job],
+    sources: &str,
+    script: &mut Script,
+) -> Result<String, AllocError> {
+    match jobs.first() {
+        Some(job) => refresh_all(alloc, job, sources, script),
+        None => Err(AllocError),
     }
 }
 
@@ -181,7 +228,11 @@ fn refresh_all(
     script: &mut Script,
 ) -> Result<String, AllocError> {
     match rules_of(alloc, job) {
-        Ok(rules) => refresh_by(alloc, job, &rules, sources, script),
+        Ok(rules) => {
+            let line = refresh_by(alloc, job, &rules, sources, script);
+            drop(rules);
+            line
+        }
         Err(error) => Err(error),
     }
 }
