@@ -531,6 +531,8 @@ def process(folder):
     tell("it counts the writes, and how long they took", count == counts[-1] > 0 and 0 < total < 60, (counts, total))
     service.ask("POST", "/collectors", {"name": "c", "reach": ANY})
     tell("one more where something is entered", comes(lambda: written()[3] > count, 5))
+    # a service that does next to nothing has taken less than a tick by then
+    comes(lambda: service.ask("GET", "/metrics")[0] == 200 and kernel_says(service.it.pid)[2] > 0, 30)
     time.sleep(6)
     told = [re.search(rf"^process_{name} (\S+)$", service.ask("GET", "/metrics")[1], re.M) for name in PROCESS]
     told, says = [one and float(one[1]) for one in told], kernel_says(service.it.pid)
