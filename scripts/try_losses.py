@@ -216,8 +216,16 @@ def torn_last(folder):
 @row("a journal of an older form, without a mark, is read")
 def older(folder):
     write(f"{folder}/journal", OLDER)
-    with served(folder) as it:
+    with served(folder, settings(report_rounds=1)) as it:
         return "older" in it.collectors() and lines_of(it.journal).startswith(OLDER), it.collectors()
+
+
+@row("one that books reports of another number of rounds is renewed, and who was in it stays")
+def other_rounds(folder):
+    write(f"{folder}/journal", OLDER)
+    with served(folder) as it:
+        first = lines_of(it.journal).split(b"\n")[0]
+        return "older" in it.collectors() and b'"report_rounds":3' in first, (it.collectors(), first[:300])
 
 
 @row("a line that is damaged: refused with its number, and nothing is touched")
