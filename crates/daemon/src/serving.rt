@@ -61,14 +61,9 @@ where
     ) {
         Ok(mut office) => {
             let mut service = service;
-            let core = serve_desks(rt, alloc, &mut service, &mut office, archive, core);
-            drop((service, office));
-            core
+            serve_desks(rt, alloc, &mut service, &mut office, archive, core)
         }
-        Err(error) => {
-            drop((service, core));
-            Err(error)
-        }
+        Err(error) => Err(error),
     }
 }
 
@@ -149,10 +144,7 @@ where
         Log::new(),
     );
     match ended {
-        Ok((core, Ending::Broken)) => {
-            drop(core);
-            Err(io::Error::other("the journal cannot be written"))
-        }
+        Ok((_, Ending::Broken)) => Err(io::Error::other("the journal cannot be written")),
         other => other,
     }
 }

@@ -45,7 +45,7 @@ where
         Ok((opened, mut journals)) => {
             tell_what_is_kept(rt, &journal);
             tell_who_is_missed(rt, &service);
-            let served = serve_opened(
+            let core = serve_opened(
                 rt,
                 alloc,
                 service,
@@ -54,22 +54,11 @@ where
                 device,
                 &mut journals,
                 opened,
-            );
-            let ended = match served {
-                Ok(core) => {
-                    log_end(rt, core.total());
-                    drop(core);
-                    Ok(())
-                }
-                Err(error) => Err(error.into()),
-            };
-            drop((journals, journal));
-            ended
+            )?;
+            log_end(rt, core.total());
+            Ok(())
         }
-        Err(fault) => {
-            drop((service, configuration, listener, device, journal));
-            Err(fault)
-        }
+        Err(fault) => Err(fault),
     }
 }
 
@@ -121,10 +110,7 @@ fn journals_at<R: Files<File = File> + AllocGlobal + Clock + Eprint + Copy + Dro
     let round = service.scrape_interval();
     match open_allocator(&journals, service.line(), service.jobs(), round) {
         Ok(opened) => Ok((opened, journals)),
-        Err(fault) => {
-            drop(journals);
-            Err(fault)
-        }
+        Err(fault) => Err(fault),
     }
 }
 

@@ -47,12 +47,9 @@ where
     let here = listener.local_addr()?;
     let address = format!(in alloc; "{here}")?;
     let document = with_here(alloc, document, address.as_str())?;
-    let read = read_session(alloc, document.as_slice());
-    drop((address, document));
-    match read {
+    match read_session(alloc, document.as_slice()) {
         Ok(mut session) => {
             let halted = serve_session(rt, alloc, &mut session, &listener, here, text);
-            drop(session);
             ended(alloc, halted, text)
         }
         Err(error) => unread(error),
@@ -64,9 +61,7 @@ fn ended(alloc: Global, halted: Result<(), Halt>, text: &mut Vec<u8>) -> Result<
     match halted {
         Ok(()) => Ok(Ended::Done),
         Err(Halt::Stopped(stop)) => {
-            let line = stop_line(alloc, &stop);
-            drop(stop);
-            let line = line?;
+            let line = stop_line(alloc, &stop)?;
             text.extend_from_slice(line.as_bytes())?;
             Ok(Ended::Refused)
         }
@@ -102,7 +97,6 @@ where
         || serve_pages(alloc, listener, &mut pages, &stop),
         || run_then_stop(rt, alloc, session, here, &stop, text),
     );
-    drop(pages);
     halted
 }
 
