@@ -1,0 +1,4 @@
+pub mod Laws
+pub mod Readings
+pub mod Runs
+pub mod Seats
