@@ -16,7 +16,7 @@ from marked import write_part
 ROOT = pathlib.Path(__file__).resolve().parent.parent / "crates"
 CLAIMS = [
     ("An optimal plan", "what *best* of `allocd check` and `allocd plan` says", ["IsOptimal"]),
-    ("The verdict of `check`", "when it is best, and else which fault it names with which numbers", ["verdict_of", "IsCertified"]),
+    ("The verdict of `check`", "when it is best, and else which fault it names with which numbers", ["price_certificate.verdict_of", "IsCertified"]),
     ("A spread", "what *capped* and *even* of `allocd check` say of a plan", ["spread_certificate.IsBestWithin", "IsEvenWithin"]),
     ("A best allocation", "what *best of its moment* says of a published allocation", ["IsBest"]),
     ("The whole headline", "all steps of the machine, every published allocation and every booked report", ["AlwaysBest", "AlwaysMost", "AlwaysBooked"]),
