@@ -1,17 +1,18 @@
 //! Histories as JSON.
-ghost use Rattle.std.specs.Prelude.{◌≡◌, ◌==◌, ℕ, Some, IfOk, false};
+ghost use Rattle.std.specs.Prelude.{◌≡◌, ◌==◌, ℕ, Some, IfOk, OnOk, false};
 ghost use Rattle.std.specs.List.{list_all, list_any};
-ghost use Rattle.serde_json.specs.View.{view};
+ghost use Rattle.serde_json.specs.Data.{no_members, object};
+ghost use Rattle.serde_json.specs.View.{members_view, view};
 ghost use Rattle.json_values.specs.Texts.{is_line_feed};
 ghost use Rattle.price_certificate.specs.Document.{document_data};
-ghost use Rattle.core_history.specs.History.{ReadsBack, certificate_in, certificate_of, history_data, history_in, history_object, history_said, history_text, kept_of, parts_in, served_object};
+ghost use Rattle.core_history.specs.History.{ReadsBack, certificate_in, certificate_of, history_data, history_in, history_said, history_text, kept_of, parts_in};
 
 use crate::fleet_parts::fleet_value;
 use allocation_core::Core;
 use json_values::{Spelled, array_of, text_of};
 use lists::Text;
 use price_certificate::document_value;
-use serde_json::{Value, json};
+use serde_json::{Map, Value, put};
 use std::alloc::{AllocError, Global};
 
 /// What a renewed core has, as one line of JSON without a line feed, which reads back as the core. Of any other core it has what
@@ -39,15 +40,36 @@ fn parts_value(alloc: Global, core: &Core) -> Result<Value, AllocError>
     ensures form { IfOk result (λ v. view v ≡ history_data core.now) }
     ensures parts { IfOk result (λ v. parts_in (view v) ≡ Some (kept_of core.now)) }
 {
+    let mut members = Map::new(alloc);
+    match put_parts(alloc, core, &mut members) {
+        Ok(()) => Ok(Value::Object(members)),
+        Err(error) => {
+            drop(members);
+            Err(error)
+        }
+    }
+}
+
+/// Puts the members of a history into an empty object.
+fn put_parts(alloc: Global, core: &Core, members: &mut Map<String, Value>) -> Result<(), AllocError>
+    requires { members_view members.old.entries ≡ no_members }
+    ensures form { OnOk result (object (members_view members.new.entries) ≡ history_data core.now) }
+    ensures parts { OnOk result (parts_in (object (members_view members.new.entries)) ≡ Some (kept_of core.now)) }
+{
     let allocation = array_of(alloc, core.allocation())?;
+    put(members, alloc, "allocation", allocation)?;
     let certificate = certificate_value(alloc, core)?;
+    put(members, alloc, "certificate", certificate)?;
     let fleet = fleet_value(alloc, core.fleet())?;
+    put(members, alloc, "fleet", fleet)?;
     let round = core.round().write(alloc)?;
+    put(members, alloc, "round", round)?;
     if is_nothing_served(core.slots()) {
-        return object_of(alloc, allocation, certificate, fleet, round);
+        return Ok(());
     }
     let served = array_of(alloc, core.slots())?;
-    served_object_of(alloc, allocation, certificate, fleet, round, served)
+    put(members, alloc, "served", served)?;
+    Ok(())
 }
 
 /// Whether no list has a target.
@@ -55,42 +77,6 @@ fn is_nothing_served(slots: &[u32]) -> bool
     ensures { result ≡ list_all (λ (collector : ℕ). collector == 0) slots.now }
 {
     slots.iter().all(|collector| *collector == 0)
-}
-
-fn served_object_of(
-    alloc: Global,
-    allocation: Value,
-    certificate: Value,
-    fleet: Value,
-    round: Value,
-    served: Value,
-) -> Result<Value, AllocError>
-    ensures { IfOk result (λ v. view v ≡ served_object (view allocation) (view certificate) (view fleet) (view round) (view served)) }
-{
-    json!(in alloc; {
-        "allocation": allocation,
-        "certificate": certificate,
-        "fleet": fleet,
-        "round": round,
-        "served": served
-    })
-}
-
-fn object_of(
-    alloc: Global,
-    allocation: Value,
-    certificate: Value,
-    fleet: Value,
-    round: Value,
-) -> Result<Value, AllocError>
-    ensures { IfOk result (λ v. view v ≡ history_object (view allocation) (view certificate) (view fleet) (view round)) }
-{
-    json!(in alloc; {
-        "allocation": allocation,
-        "certificate": certificate,
-        "fleet": fleet,
-        "round": round
-    })
 }
 
 #[tactic(auto, unfolding(crate::specs::History::certificate_in))]

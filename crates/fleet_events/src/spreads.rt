@@ -8,8 +8,8 @@ ghost use Rattle.fleet_events.specs.Reading.{event_in, spread_event_in};
 ghost use Rattle.fleet_events.specs.Writing.{spread_event_data};
 
 use crate::event::Event;
-use crate::members::{put_event, put_written};
-use json_values::{Spelled, member};
+use crate::members::put_event;
+use json_values::{Spelled, member, put_written};
 use price_certificate::Plan;
 use serde_json::{Map, Value};
 use spread_certificate::{Even, Spread};

@@ -12,10 +12,10 @@ ghost use Rattle.fleet_events.specs.Writing.{discover_data, unlimited_join_data,
 
 use crate::event::Event;
 use crate::ids::CollectorId;
-use crate::members::{put_event, put_written};
+use crate::members::put_event;
 use crate::report::Report;
 use crate::spreads::spread_value;
-use json_values::{Spelled, text_of};
+use json_values::{Spelled, put_written, text_of};
 use label_sets::{Target, finishes_again, map_laws};
 use lists::Text;
 use price_certificate::Plan;

@@ -10,5 +10,5 @@ mod spelled;
 mod written;
 
 pub use parsing::parse;
-pub use spelled::{Spelled, array_of, member, number};
+pub use spelled::{Spelled, array_of, member, number, put_written};
 pub use written::text_of;

@@ -1,12 +1,12 @@
 //! What JSON values spell: whole numbers, pairs of them, and lists of what can be spelled.
-ghost use Rattle.std.specs.Prelude.{◌≡◌, Option, Some, IfOk};
-ghost use Rattle.serde_json.specs.Data.{Data, string};
+ghost use Rattle.std.specs.Prelude.{◌≡◌, Option, Some, IfOk, OnOk};
+ghost use Rattle.serde_json.specs.Data.{Data, string, put as with_member};
 ghost use Rattle.serde_json.specs.Find.{as_str};
-ghost use Rattle.serde_json.specs.View.{view, items_view};
+ghost use Rattle.serde_json.specs.View.{view, items_view, members_view};
 ghost use Rattle.json_values.specs.Spelling.{number_in, pair_in, list_in, all_in, member_in, number_data, pair_data, items_data, list_data};
 
 use lists::{List, Text};
-use serde_json::Value;
+use serde_json::{Map, Value, put};
 use std::alloc::{AllocError, Global};
 
 /// What a JSON value can spell.
@@ -132,6 +132,20 @@ fn all<T: Spelled + Drop>(alloc: Global, values: &[Value]) -> Result<Option<List
         }
     }
     Ok(Some(List::from_vec(items)))
+}
+
+/// Puts the value that spells this into an object, under a key; what stood there goes.
+pub fn put_written<A: Spelled>(
+    members: &mut Map<String, Value>,
+    alloc: Global,
+    key: &str,
+    what: &A,
+) -> Result<(), AllocError>
+    ensures form { OnOk result (members_view members.new.entries ≡ with_member key.now (A.spelling what.now) (members_view members.old.entries)) }
+    ensures reads_back { OnOk result (A.spelled (A.spelling what.now) ≡ Some what.now) }
+{
+    let value = what.write(alloc)?;
+    put(members, alloc, key, value)
 }
 
 /// The array that spells all of these.

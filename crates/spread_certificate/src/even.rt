@@ -1,10 +1,13 @@
 //! How even the loads of collectors can be, with the levels and prices that are to prove it.
+ghost use Rattle.std.specs.Prelude.{◌≡◌, Some, OnOk};
+ghost use Rattle.serde_json.specs.Data.{object, no_members};
+ghost use Rattle.serde_json.specs.View.{members_view};
 ghost use Rattle.spread_certificate.specs.Document.{even_in, even_data};
 
 use crate::document::optional;
-use json_values::{Spelled, member};
+use json_values::{Spelled, member, put_written};
 use lists::{List, Plain};
-use serde_json::{Value, json};
+use serde_json::{Map, Value};
 use std::alloc::{AllocError, Global};
 
 /// The most percent that a slack may be.
@@ -98,34 +101,32 @@ impl Spelled for Even {
 
     ghost spelling = { even_data };
 
-    #[tactic(auto, unfolding(crate::specs::Document::even_in))]
     fn write(&self, alloc: Global) -> Result<Value, AllocError> {
-        let levels = self.levels.write(alloc)?;
-        let item_prices = self.item_prices.write(alloc)?;
-        let bin_prices = self.bin_prices.write(alloc)?;
-        match &self.witness {
-            Some(pairs) => {
-                let pairs = pairs.write(alloc)?;
-                json!(in alloc; {
-                    "bin_prices": bin_prices,
-                    "item_prices": item_prices,
-                    "jobs": self.jobs,
-                    "keep": self.keep,
-                    "levels": levels,
-                    "pairs": pairs,
-                    "slack": self.slack
-                })
-            }
-            None => {
-                json!(in alloc; {
-                    "bin_prices": bin_prices,
-                    "item_prices": item_prices,
-                    "jobs": self.jobs,
-                    "keep": self.keep,
-                    "levels": levels,
-                    "slack": self.slack
-                })
+        let mut members = Map::new(alloc);
+        match put_even(&mut members, alloc, self) {
+            Ok(()) => Ok(Value::Object(members)),
+            Err(refused) => {
+                drop(members);
+                Err(refused)
             }
         }
     }
+}
+
+/// Puts the members of how even a plan is into an empty object.
+#[tactic(auto, unfolding(crate::specs::Document::even_in))]
+fn put_even(members: &mut Map<String, Value>, alloc: Global, even: &Even) -> Result<(), AllocError>
+    requires { members_view members.old.entries ≡ no_members }
+    ensures form { OnOk result (object (members_view members.new.entries) ≡ even_data even.now) }
+    ensures reads_back { OnOk result (even_in (object (members_view members.new.entries)) ≡ Some even.now) }
+{
+    put_written(members, alloc, "bin_prices", &even.bin_prices)?;
+    put_written(members, alloc, "item_prices", &even.item_prices)?;
+    put_written(members, alloc, "jobs", &even.jobs)?;
+    put_written(members, alloc, "keep", &even.keep)?;
+    put_written(members, alloc, "levels", &even.levels)?;
+    if let Some(witness) = &even.witness {
+        put_written(members, alloc, "pairs", witness)?;
+    }
+    put_written(members, alloc, "slack", &even.slack)
 }
