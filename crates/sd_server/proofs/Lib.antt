@@ -1,4 +1,4 @@
+pub mod SpanLemmas
 pub mod TextLemmas
 pub mod Weaker
 pub mod ReportLemmas
-pub mod BookLemmas

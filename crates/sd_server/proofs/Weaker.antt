@@ -8,6 +8,6 @@ use Rattle.sd_server.specs.Replies.{Gives, MaySay}
 
 pub gives_weaker :
     {R L B N I : Type 0} {l : Ledger.Ghosts L} {b : Ledger.Ghosts B} {n : DeskName.Ghosts N} (before after : Reply R L B N I l b n)
-    → after.manner ≡ before.manner → ((said : Said) → MaySay before.stage said → MaySay after.stage said) → (x : _) → Gives before x → Gives after x
+    → after.manner ≡ before.manner → ((said : Said) → MaySay before.seen before.stage said → MaySay after.seen after.stage said) → (x : _) → Gives before x → Gives after x
 gives_weaker before after manner weaker (Ok response) given = rw manner (given.0, weaker given.0 given.1, given.2)
 gives_weaker before after manner weaker (Err error) given = given

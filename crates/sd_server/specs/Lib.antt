@@ -2,6 +2,7 @@ pub mod Allocations
 pub mod Replies
 pub mod Entries
 pub mod Says
+pub mod Spans
 pub mod Listing
 pub mod Texts
 pub mod Looks

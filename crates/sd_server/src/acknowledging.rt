@@ -3,11 +3,13 @@ ghost use Rattle.std.specs.Prelude.{IfOk, IfSome, IsSome};
 ghost use Rattle.std.specs.Arc.{arc_value};
 ghost use Rattle.sd_server.specs.Entries.{Leads};
 ghost use Rattle.sd_server.specs.Keeping.{FindsKept};
-ghost use Rattle.sd_server.specs.Says.{OfSome, SaysAcknowledged, SaysServed};
+ghost use Rattle.sd_server.specs.Says.{SaysAcknowledged, SaysServed};
+ghost use Rattle.sd_server.specs.Spans.{Moves, now_of};
 
 use crate::entry::Entry;
 use crate::handler::Handler;
 use crate::keeping::{Keeping, kept_at};
+use crate::seen::Seen;
 use alloc_desk::DeskName;
 use fleet_events::{AllocationNumber, CollectorId};
 use lists::Text;
@@ -21,37 +23,52 @@ use std::time::Clock;
 impl<R: Wait + Clock + Copy, L: Ledger, B: Ledger, N: DeskName> Handler<R, L, B, N> {
     /// What a collector is served of a job. Where its last list has targets that another collector holds, and it did not tell that it
     /// follows a list without them, what that list keeps.
-    pub(crate) fn acknowledged_list(&self, place: usize, job: &Text, id: CollectorId) -> Entry
+    #[tactic(auto, using(crate::proofs::SpanLemmas::moves_trans))]
+    pub(crate) fn acknowledged_list(
+        &self,
+        seen: &mut Seen<N>,
+        place: usize,
+        job: &Text,
+        id: CollectorId,
+    ) -> Entry
         requires { IsSome (arc_value self.now.pages).acknowledge }
-        ensures { Leads (SaysServed N.opening (arc_value self.now.pages).acknowledge job.now place id) result }
+        ensures says { Leads (SaysServed seen.new (arc_value self.now.pages).acknowledge job.now place id) result }
+        ensures moves { Moves seen.old seen.new }
     {
-        match self.kept(place, id) {
-            Ok(Some(kept)) => self.kept_list(place, job, id, &kept),
-            Ok(None) => self.served(place, job, id),
+        match self.kept(seen, place, id) {
+            Ok(Some(kept)) => self.kept_list(seen, place, job, id, &kept),
+            Ok(None) => self.served(seen, place, job, id),
             Err(_) => Entry::Now(Said::Refused(RequestError::Memory)),
         }
     }
 
     /// What its last list keeps, where that has targets which another collector holds and no list without them is acknowledged.
-    fn kept(&self, place: usize, id: CollectorId) -> Result<Option<Keeping>, AllocError>
-        ensures { IfOk result (λ found. IfSome found (λ k. OfSome N.opening (λ h. FindsKept h.state place id k.look))) }
+    fn kept(
+        &self,
+        seen: &mut Seen<N>,
+        place: usize,
+        id: CollectorId,
+    ) -> Result<Option<Keeping>, AllocError>
+        ensures read { IfOk result (λ found. IfSome found (λ k. FindsKept (now_of seen.new).state place id k.look)) }
+        ensures moves { Moves seen.old seen.new }
     {
-        let found = self.kept_now(place, id)?;
+        let found = self.kept_now(seen, place, id)?;
         if self.may_go(place, id, &found) {
             return Ok(None);
         }
         Ok(found)
     }
 
-    fn kept_now(&self, place: usize, id: CollectorId) -> Result<Option<Keeping>, AllocError>
-        ensures { IfOk result (λ found. IfSome found (λ k. OfSome N.opening (λ h. FindsKept h.state place id k.look))) }
+    fn kept_now(
+        &self,
+        seen: &mut Seen<N>,
+        place: usize,
+        id: CollectorId,
+    ) -> Result<Option<Keeping>, AllocError>
+        ensures read { IfOk result (λ found. IfSome found (λ k. FindsKept (now_of seen.new).state place id k.look)) }
+        ensures moves { Moves seen.old seen.new }
     {
-        let mut pass = self.pass.lock(&self.rt);
-        self.desk.read(
-            &self.rt,
-            &mut *pass,
-            |record| kept_at(self.alloc, record, place, id),
-        )
+        self.read(seen, |record| kept_at(self.alloc, record, place, id))
     }
 
     /// Whether what its last list has may be let go: nobody holds it, or the collector told that it follows a list without it.
@@ -87,15 +104,24 @@ impl<R: Wait + Clock + Copy, L: Ledger, B: Ledger, N: DeskName> Handler<R, L, B,
     }
 
     /// What its last list keeps, once so many entries of the journal are kept.
-    fn kept_list(&self, place: usize, job: &Text, id: CollectorId, kept: &Keeping) -> Entry
+    fn kept_list(
+        &self,
+        seen: &mut Seen<N>,
+        place: usize,
+        job: &Text,
+        id: CollectorId,
+        kept: &Keeping,
+    ) -> Entry
         requires at { IsSome (arc_value self.now.pages).acknowledge }
-        requires look { OfSome N.opening (λ h. FindsKept h.state place id kept.now.look) }
-        ensures { Leads (SaysServed N.opening (arc_value self.now.pages).acknowledge job.now place id) result }
+        requires look { FindsKept (now_of seen.old).state place id kept.now.look }
+        ensures says { Leads (SaysServed seen.new (arc_value self.now.pages).acknowledge job.now place id) result }
+        ensures moves { Moves seen.old seen.new }
     {
         if self.is_broken() {
+            seen.now();
             return Entry::Now(Said::Refused(RequestError::NotKept));
         }
-        let said = self.look_told(&self.pages.acknowledge, place, job, id, &kept.look);
+        let said = self.look_told(seen, &self.pages.acknowledge, place, job, id, &kept.look);
         self.once_kept(kept.entries, said)
     }
 

@@ -1,9 +1,11 @@
 //! What is told of a round that was booked.
 ghost use Rattle.std.specs.Prelude.{IfOk, Some};
 ghost use Rattle.service_state.specs.Booked.{IsBooks};
-ghost use Rattle.sd_server.specs.Says.{OfSome, SaysBooks};
+ghost use Rattle.sd_server.specs.Says.{SaysBooks};
+ghost use Rattle.sd_server.specs.Spans.{Moves, now_of};
 
 use crate::handler::Handler;
+use crate::seen::Seen;
 use alloc_desk::DeskName;
 use fleet_events::Round;
 use lists::Text;
@@ -17,46 +19,57 @@ use std::time::Clock;
 
 impl<R: Wait + Clock + Copy, L: Ledger, B: Ledger, N: DeskName> Handler<R, L, B, N> {
     /// What was booked in the round that is asked for, or in the last one that is over.
-    pub(crate) fn books(&self, asked: Option<Round>) -> Said
-        ensures { SaysBooks N.opening asked result }
+    pub(crate) fn books(&self, seen: &mut Seen<N>, asked: Option<Round>) -> Said
+        ensures says { SaysBooks seen.new asked result }
+        ensures moves { Moves seen.old seen.new }
     {
-        match self.books_asked(asked) {
-            Ok(Some(row)) => self.books_told(asked, &row),
+        match self.books_asked(seen, asked) {
+            Ok(Some(row)) => {
+                let said = self.books_told(seen, asked, &row);
+                drop(row);
+                said
+            }
             Ok(None) => Said::Refused(RequestError::UnknownRound),
             Err(_) => Said::Refused(RequestError::Memory),
         }
     }
 
-    fn books_told(&self, asked: Option<Round>, row: &BooksRow) -> Said
-        requires { OfSome N.opening (λ h. IsBooks h.state asked (Some row.now)) }
-        ensures { SaysBooks N.opening asked result }
+    fn books_told(&self, seen: &Seen<N>, asked: Option<Round>, row: &BooksRow) -> Said
+        requires { IsBooks (now_of seen.now).state asked (Some row.now) }
+        ensures { SaysBooks seen.now asked result }
     {
+        seen.now();
         match books_page(self.alloc, row) {
             Ok(text) => Said::Page(text),
             Err(_) => Said::Refused(RequestError::Memory),
         }
     }
 
-    fn books_asked(&self, asked: Option<Round>) -> Result<Option<BooksRow>, AllocError>
-        ensures { IfOk result (λ found. OfSome N.opening (λ h. IsBooks h.state asked found)) }
+    fn books_asked(
+        &self,
+        seen: &mut Seen<N>,
+        asked: Option<Round>,
+    ) -> Result<Option<BooksRow>, AllocError>
+        ensures read { IfOk result (IsBooks (now_of seen.new).state asked) }
+        ensures moves { Moves seen.old seen.new }
     {
-        let mut pass = self.pass.lock(&self.rt);
-        self.desk.read(
-            &self.rt,
-            &mut *pass,
-            |record| books_asked(self.alloc, record.core(), asked),
-        )
+        self.read(seen, |record| books_asked(self.alloc, record.core(), asked))
     }
 
     /// The page of it for people.
-    pub(crate) fn books_document(&self, asked: Option<Round>) -> Said
-        ensures { SaysBooks N.opening asked result }
+    pub(crate) fn books_document(&self, seen: &mut Seen<N>, asked: Option<Round>) -> Said
+        ensures says { SaysBooks seen.new asked result }
+        ensures moves { Moves seen.old seen.new }
     {
-        match self.books_asked(asked) {
-            Ok(Some(row)) => match self.books_document_text(&row) {
-                Ok(text) => Said::Document(text),
-                Err(_) => Said::Refused(RequestError::Memory),
-            },
+        match self.books_asked(seen, asked) {
+            Ok(Some(row)) => {
+                let text = self.books_document_text(&row);
+                drop(row);
+                match text {
+                    Ok(text) => Said::Document(text),
+                    Err(_) => Said::Refused(RequestError::Memory),
+                }
+            }
             Ok(None) => Said::Refused(RequestError::UnknownRound),
             Err(_) => Said::Refused(RequestError::Memory),
         }

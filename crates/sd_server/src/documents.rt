@@ -3,12 +3,14 @@ ghost use Rattle.std.specs.Prelude.{◌≡◌, [], IfOk, IfSome};
 ghost use Rattle.std.specs.Arc.{arc_value};
 ghost use Rattle.service_state.specs.Jobs.{place_of};
 ghost use Rattle.sd_server.specs.Says.{IsJobRowText, Says, SaysCollectorPage, SaysFound, SaysOneJob};
+ghost use Rattle.sd_server.specs.Spans.{Moves, Span};
 ghost use Rattle.sd_routes.specs.declared.which_collector.WhichCollector.{WhichCollector};
 
 use crate::collector_state::{CollectorState, collector_state};
 use crate::found_state::{FoundState, found_state};
 use crate::handler::Handler;
 use crate::job_state::{JobState, held_by_name, job_state, source_rows};
+use crate::seen::Seen;
 use alloc_desk::DeskName;
 use allocation_core::{Answer, Refusal};
 use fleet_events::TargetId;
@@ -18,6 +20,7 @@ use sd_routes::{Ask, JobRow, RequestError, Said, SourceRow, WhichCollector, job_
 use service_pages::{
     MOST_ROWS, Rows, ShownCollector, ShownJob, collector_document, found_document, job_document,
 };
+use service_state::Notes;
 use std::alloc::AllocError;
 use std::sync::Wait;
 use std::sync::ledger::Ledger;
@@ -25,15 +28,29 @@ use std::time::Clock;
 
 impl<R: Wait + Clock + Copy, L: Ledger, B: Ledger, N: DeskName> Handler<R, L, B, N> {
     /// The page for people of what is asked for, where it has one.
-    pub(crate) fn document(&self, ask: &Ask) -> Option<Said>
-        ensures { IfSome result (λ said. Says N.opening (arc_value self.now.pages) ask.now [] said) }
+    pub(crate) fn document(&self, seen: &mut Seen<N>, ask: &Ask) -> Option<Said>
+        ensures says { IfSome result (λ said. Says seen.new (arc_value self.now.pages) ask.now [] said) }
+        ensures moves { Moves seen.old seen.new }
+    {
+        match ask {
+            Ask::Books(round) => Some(self.books_document(seen, *round)),
+            _ => {
+                seen.now();
+                self.plain_document(ask)
+            }
+        }
+    }
+
+    /// That which is not of what a contract tells of a desk.
+    fn plain_document(&self, ask: &Ask) -> Option<Said>
+        ensures { IfSome result (λ said. (span : Span) → Says span (arc_value self.now.pages) ask.now [] said) }
     {
         match ask {
             Ask::Job(job) => Some(self.job_document(job.as_str())),
             Ask::Collector(which) => Some(self.collector_document(which)),
             Ask::FindTargets(text) => Some(self.found_document(text.as_str())),
-            Ask::Books(round) => Some(self.books_document(*round)),
-            Ask::Status
+            Ask::Books(_)
+            | Ask::Status
             | Ask::ScrapeConfigs { rules: _ }
             | Ask::Jobs
             | Ask::JobTargets(_)
@@ -75,32 +92,64 @@ impl<R: Wait + Clock + Copy, L: Ledger, B: Ledger, N: DeskName> Handler<R, L, B,
         ensures { IfOk result (IsJobRowText job.now) }
     {
         let row = self.job_row(job, place)?;
-        job_row_page(self.alloc, &row)
+        let page = job_row_page(self.alloc, &row);
+        drop(row);
+        page
     }
 
     fn job_row(&self, job: &str, place: usize) -> Result<JobRow, AllocError>
         ensures { IfOk result (λ row. row.name ≡ job.now) }
     {
         let state = self.job_state(place, 0)?;
-        let held = held_by_name(self.alloc, state.shares.as_slice())?;
-        let sources = self.sources_of(job, place)?;
+        let row = self.job_row_of(job, place, &state);
+        drop(state);
+        row
+    }
+
+    fn job_row_of(&self, job: &str, place: usize, state: &JobState) -> Result<JobRow, AllocError>
+        ensures { IfOk result (λ row. row.name ≡ job.now) }
+    {
         let name = Text::from_str(self.alloc, job)?;
-        Ok(JobRow {
-            name,
-            live: state.live,
-            covered: state.covered(),
-            uncovered: state.uncovered(),
-            unreached: state.unreached(),
-            handing_over: state.handing_over(),
-            held,
-            sources,
-        })
+        match self.held_and_sources(job, place, state) {
+            Ok((held, sources)) => Ok(JobRow {
+                name,
+                live: state.live,
+                covered: state.covered(),
+                uncovered: state.uncovered(),
+                unreached: state.unreached(),
+                handing_over: state.handing_over(),
+                held,
+                sources,
+            }),
+            Err(error) => {
+                drop(name);
+                Err(error)
+            }
+        }
+    }
+
+    fn held_and_sources(
+        &self,
+        job: &str,
+        place: usize,
+        state: &JobState,
+    ) -> Result<(List<(Text, u32)>, List<SourceRow>), AllocError> {
+        let held = held_by_name(self.alloc, state.shares.as_slice())?;
+        match self.sources_of(job, place) {
+            Ok(sources) => Ok((held, sources)),
+            Err(error) => {
+                drop(held);
+                Err(error)
+            }
+        }
     }
 
     fn sources_of(&self, job: &str, place: usize) -> Result<List<SourceRow>, AllocError> {
         let notes = self.state.notes(&self.rt, self.alloc)?;
         let urls = self.pages.urls_at(place);
-        source_rows(self.alloc, job, urls, notes.sources.as_slice())
+        let rows = source_rows(self.alloc, job, urls, notes.sources.as_slice());
+        drop(notes);
+        rows
     }
 
     fn job_state(&self, place: usize, most_rows: usize) -> Result<JobState, AllocError> {
@@ -126,7 +175,25 @@ impl<R: Wait + Clock + Copy, L: Ledger, B: Ledger, N: DeskName> Handler<R, L, B,
 
     fn job_document_text(&self, job: &str, place: usize) -> Result<Text, AllocError> {
         let state = self.job_state(place, MOST_ROWS)?;
-        let notes = self.state.notes(&self.rt, self.alloc)?;
+        let text = match self.state.notes(&self.rt, self.alloc) {
+            Ok(notes) => {
+                let text = self.job_document_of(job, place, &state, &notes);
+                drop(notes);
+                text
+            }
+            Err(error) => Err(error),
+        };
+        drop(state);
+        text
+    }
+
+    fn job_document_of(
+        &self,
+        job: &str,
+        place: usize,
+        state: &JobState,
+        notes: &Notes,
+    ) -> Result<Text, AllocError> {
         let standing = self.state.standing(&self.rt, self.kept.is_some());
         let shown = ShownJob {
             name: job,
@@ -149,7 +216,7 @@ impl<R: Wait + Clock + Copy, L: Ledger, B: Ledger, N: DeskName> Handler<R, L, B,
     }
 
     fn collector_document(&self, which: &WhichCollector) -> Said
-        ensures { SaysCollectorPage N.opening which.now result }
+        ensures { (span : Span) → SaysCollectorPage span which.now result }
     {
         match self.collector_state(which) {
             Ok(Some(state)) => self.collector_told(&state),
@@ -159,7 +226,7 @@ impl<R: Wait + Clock + Copy, L: Ledger, B: Ledger, N: DeskName> Handler<R, L, B,
     }
 
     fn collector_told(&self, state: &CollectorState) -> Said
-        ensures { (which : WhichCollector) → SaysCollectorPage N.opening which result }
+        ensures { (span : Span) (which : WhichCollector) → SaysCollectorPage span which result }
     {
         match self.collector_document_text(state) {
             Ok(text) => Said::Document(text),
@@ -213,9 +280,12 @@ impl<R: Wait + Clock + Copy, L: Ledger, B: Ledger, N: DeskName> Handler<R, L, B,
 
     fn found_document_text(&self, text: &str) -> Result<Text, AllocError> {
         let numbers = self.matching(text)?;
-        let state = self.found_state(numbers.as_slice())?;
-        let shown = state.shown(text);
-        found_document(self.alloc, &shown)
+        let state = self.found_state(numbers.as_slice());
+        drop(numbers);
+        let state = state?;
+        let page = found_document(self.alloc, &state.shown(text));
+        drop(state);
+        page
     }
 
     fn found_state(&self, numbers: &[TargetId]) -> Result<FoundState, AllocError> {

@@ -1,5 +1,6 @@
 //! What a request is handled with.
 ghost use Rattle.std.specs.Prelude.{◌≡◌, Some, IfOk, IfErr};
+ghost use Rattle.std.specs.Fn.{FnOnceReturnsAt};
 ghost use Rattle.std.specs.Arc.{arc_value};
 ghost use Rattle.alloc_desk.specs.Views.{shares_of};
 ghost use Rattle.fleet_events.specs.declared.answer.Answer.TheVariants.{Not};
@@ -7,21 +8,23 @@ ghost use Rattle.fleet_events.specs.declared.refusal.Refusal.TheVariants.{Unknow
 ghost use Rattle.sd_routes.specs.declared.change.Change.TheVariants.{Release};
 ghost use Rattle.sd_routes.specs.declared.responding.Said.TheVariants.{Answer as Answered};
 ghost use Rattle.service_state.specs.Jobs.{place_of};
+ghost use Rattle.sd_server.specs.Spans.{IsEntered, Moves, Span, between, now_of};
 ghost use Rattle.sd_server.specs.Texts.{certificate_text, job_text};
 ghost use Rattle.sd_server.specs.Entries.{Leads, OnceKept};
-ghost use Rattle.sd_server.specs.Says.{IsAtOnce, IsEntered, IsUncoveredText, OfSome, Says, SaysCopy, SaysDocument, SaysEvent, SaysChange, SaysIn, SaysJob, SaysLive, SaysMetrics, SaysNot, SaysOfLeft, SaysPage, SaysQuit, SaysReady, SaysRefused, SaysReload, SaysText, SaysUncovered};
+ghost use Rattle.sd_server.specs.Says.{IsAtOnce, IsPlain, IsUncoveredText, Says, SaysCopy, SaysDocument, SaysEvent, SaysChange, SaysIn, SaysJob, SaysLive, SaysMetrics, SaysNot, SaysOfLeft, SaysPage, SaysQuit, SaysReady, SaysRefused, SaysReload, SaysText, SaysUncovered};
 
 use crate::certificate_page::certificate_page;
 use crate::counter::Counter;
 use crate::entry::{Entry, Later, Reload};
 use crate::list_texts::ListTexts;
+use crate::seen::Seen;
 use crate::tags::Tags;
 use crate::uncovered::{Uncovered, uncovered_of};
 use admission::Admission;
-use alloc_desk::{Desk, DeskName, EnterError, Pass, Receipt};
+use alloc_desk::{Desk, DeskName, EnterError, Pass, Receipt, Record};
 use allocation_core::{Answer, Event, Refusal};
 use event_loops::Gate;
-use fleet_events::CollectorId;
+use fleet_events::{CollectorId, TargetId};
 use lists::{List, Plain, Text};
 use price_certificate::{Instance, Plan};
 use reach_rules::CollectorName;
@@ -39,7 +42,7 @@ use std::net::SocketAddr;
 use std::sync::ledger::Ledger;
 use std::sync::{Arc, Mutex, Wait};
 use std::time::{Clock, Duration, Instant};
-use target_shares::Share;
+use target_shares::{NumberedTarget, Share};
 use tokio::sync::oneshot::Receiver;
 use tokio::time::{Handle, Timeout};
 
@@ -73,21 +76,103 @@ impl<R: Wait + Clock + Copy, L: Ledger, B: Ledger, N: DeskName> Handler<R, L, B,
     pub fn another(&self) -> Result<Handler<R, L, B, N>, AllocError>
         ensures { IfOk result (λ h. arc_value h.pages ≡ arc_value self.now.pages) }
     {
-        Ok(Handler {
-            rt: self.rt,
-            alloc: self.alloc,
-            desk: Arc::try_clone(&self.desk)?,
-            pass: Arc::try_clone(&self.pass)?,
-            pages: Arc::try_clone(&self.pages)?,
-            state: Arc::try_clone(&self.state)?,
-            kept: Kept::shared(&self.kept)?,
-            epoch: self.epoch,
-            texts: Arc::try_clone(&self.texts)?,
-            doors: Arc::try_clone(&self.doors)?,
-            peer: self.peer,
-            time: self.timers()?,
-            gate: self.same_gate()?,
-        })
+        let time = self.timers()?;
+        match self.same_gate() {
+            Ok(gate) => self.with(time, gate),
+            Err(error) => {
+                drop(time);
+                Err(error)
+            }
+        }
+    }
+
+    /// Another for the same desk and the same pass, with these timers and this gate.
+    fn with(
+        &self,
+        time: Option<Handle>,
+        gate: Option<Arc<Gate>>,
+    ) -> Result<Handler<R, L, B, N>, AllocError>
+        ensures { IfOk result (λ h. arc_value h.pages ≡ arc_value self.now.pages) }
+    {
+        let (desk, pass) = match self.same_desk() {
+            Ok(same) => same,
+            Err(error) => {
+                drop((time, gate));
+                return Err(error);
+            }
+        };
+        let (pages, state) = match self.same_pages() {
+            Ok(same) => same,
+            Err(error) => {
+                drop((time, gate, desk, pass));
+                return Err(error);
+            }
+        };
+        match self.same_texts() {
+            Ok((kept, texts, doors)) => Ok(Handler {
+                rt: self.rt,
+                alloc: self.alloc,
+                desk,
+                pass,
+                pages,
+                state,
+                kept,
+                epoch: self.epoch,
+                texts,
+                doors,
+                peer: self.peer,
+                time,
+                gate,
+            }),
+            Err(error) => {
+                drop((time, gate, desk, pass, pages, state));
+                Err(error)
+            }
+        }
+    }
+
+    fn same_desk(&self) -> Result<(Arc<Desk<L, B, N>>, Arc<Mutex<Pass<L, B, N>>>), AllocError> {
+        let desk = Arc::try_clone(&self.desk)?;
+        match Arc::try_clone(&self.pass) {
+            Ok(pass) => Ok((desk, pass)),
+            Err(error) => {
+                drop(desk);
+                Err(error)
+            }
+        }
+    }
+
+    fn same_pages(&self) -> Result<(Arc<ConfigPages>, Arc<ServiceState>), AllocError>
+        ensures { IfOk result (λ r. arc_value r.0 ≡ arc_value self.now.pages) }
+    {
+        let pages = Arc::try_clone(&self.pages)?;
+        match Arc::try_clone(&self.state) {
+            Ok(state) => Ok((pages, state)),
+            Err(error) => {
+                drop(pages);
+                Err(error)
+            }
+        }
+    }
+
+    fn same_texts(
+        &self,
+    ) -> Result<(Option<Arc<Kept>>, Arc<ListTexts<N>>, Arc<Admission>), AllocError> {
+        let kept = Kept::shared(&self.kept)?;
+        let texts = match Arc::try_clone(&self.texts) {
+            Ok(texts) => texts,
+            Err(error) => {
+                drop(kept);
+                return Err(error);
+            }
+        };
+        match Arc::try_clone(&self.doors) {
+            Ok(doors) => Ok((kept, texts, doors)),
+            Err(error) => {
+                drop((kept, texts));
+                Err(error)
+            }
+        }
     }
 
     /// Another for the same desk and the same pass, with the timers and the gate of a loop.
@@ -96,10 +181,14 @@ impl<R: Wait + Clock + Copy, L: Ledger, B: Ledger, N: DeskName> Handler<R, L, B,
         time: &Handle,
         gate: &Arc<Gate>,
     ) -> Result<Handler<R, L, B, N>, AllocError> {
-        let mut handler = self.another()?;
-        handler.time = Some(time.clone()?);
-        handler.gate = Some(Arc::try_clone(gate)?);
-        Ok(handler)
+        let time = time.clone()?;
+        match Arc::try_clone(gate) {
+            Ok(gate) => self.with(Some(time), Some(gate)),
+            Err(error) => {
+                drop(time);
+                Err(error)
+            }
+        }
     }
 
     /// The gate once more, where there is one.
@@ -140,23 +229,45 @@ impl<R: Wait + Clock + Copy, L: Ledger, B: Ledger, N: DeskName> Handler<R, L, B,
         Some(Tags { rt: self.rt, texts })
     }
 
-    /// What a request with this body is told, or what that waits for.
-    pub fn entry(&self, ask: &Ask, body: &[u8]) -> Entry
-        ensures { Leads (Says N.opening (arc_value self.now.pages) ask.now body.now) result }
+    /// What the journal has when a request comes.
+    pub fn seen(&self) -> Seen<N>
+        ensures opening { result.opening ≡ N.opening }
+        ensures same { result.before ≡ result.after }
     {
-        self.entry_now(ask, body)
+        Seen::of(self.desk.front(&self.rt))
+    }
+
+    /// What a request with this body is told, or what that waits for. It is told of the one journal that comes out of the desk, of which
+    /// both had been seen: what is new when the request comes, and what has been seen then.
+    pub fn entry(&self, seen: &mut Seen<N>, ask: &Ask, body: &[u8]) -> Entry
+        ensures says { Leads (Says seen.new (arc_value self.now.pages) ask.now body.now) result }
+        ensures moves { Moves seen.old seen.new }
+    {
+        self.entry_now(seen, ask, body)
     }
 
     #[tactic(auto, unfolding(crate::specs::Says::SaysIn))]
-    fn entry_now(&self, ask: &Ask, body: &[u8]) -> Entry
-        ensures { Leads (SaysIn N.opening (arc_value self.now.pages) ask.now self.now.epoch body.now) result }
+    fn entry_now(&self, seen: &mut Seen<N>, ask: &Ask, body: &[u8]) -> Entry
+        ensures says { Leads (SaysIn seen.new (arc_value self.now.pages) ask.now self.now.epoch body.now) result }
+        ensures moves { Moves seen.old seen.new }
     {
         match event_of(self.alloc, ask, body, self.epoch) {
-            Ok(Some(Wanted::Event(event))) => self.entered(event),
-            Ok(Some(Wanted::OfNamed { name, change })) => self.changed(&name, change),
-            Ok(Some(Wanted::Reports(events))) => self.reported(events.as_slice()),
-            Ok(None) => self.shown(ask),
-            Err(error) => Entry::Now(self.refused(ask, body, error)),
+            Ok(Some(Wanted::Event(event))) => self.entered(seen, event),
+            Ok(Some(Wanted::OfNamed { name, change })) => {
+                let entry = self.changed(seen, &name, change);
+                drop(name);
+                entry
+            }
+            Ok(Some(Wanted::Reports(events))) => {
+                let entry = self.reported(seen, events.as_slice());
+                drop(events);
+                entry
+            }
+            Ok(None) => self.shown(seen, ask),
+            Err(error) => {
+                seen.now();
+                Entry::Now(self.refused(ask, body, error))
+            }
         }
     }
 
@@ -175,31 +286,40 @@ impl<R: Wait + Clock + Copy, L: Ledger, B: Ledger, N: DeskName> Handler<R, L, B,
 
     /// It happens to the collector that has the name. Its number is never another's, so where it leaves before, it happens to none.
     #[tactic(auto, unfolding(crate::specs::Says::SaysChange))]
-    fn changed(&self, name: &CollectorName, change: Change) -> Entry
-        ensures { Leads (SaysChange N.opening name.now change) result }
+    fn changed(&self, seen: &mut Seen<N>, name: &CollectorName, change: Change) -> Entry
+        ensures says { Leads (SaysChange seen.new name.now change) result }
+        ensures moves { Moves seen.old seen.new }
     {
-        match self.named(name.as_str()) {
-            Some(id) => self.entered(change.event(id)),
-            None => self.changed_of_left(name.as_str(), change),
+        match self.named(seen, name.as_str()) {
+            Some(id) => self.entered(seen, change.event(id)),
+            None => self.changed_of_left(seen, name.as_str(), change),
         }
     }
 
     /// Of a collector that left, the lists can be let go.
-    fn changed_of_left(&self, name: &str, change: Change) -> Entry
-        ensures { Leads (SaysOfLeft N.opening change) result }
+    fn changed_of_left(&self, seen: &mut Seen<N>, name: &str, change: Change) -> Entry
+        ensures says { Leads (SaysOfLeft seen.new change) result }
+        ensures moves { Moves seen.old seen.new }
     {
         match change {
-            Change::Release => self.released_of_left(name),
-            Change::Leave | Change::Drain | Change::SetLimits(_) => unknown_collector(),
+            Change::Release => self.released_of_left(seen, name),
+            Change::Leave | Change::Drain | Change::SetLimits(_) => {
+                seen.now();
+                unknown_collector()
+            }
         }
     }
 
-    fn released_of_left(&self, name: &str) -> Entry
-        ensures { Leads (SaysOfLeft N.opening Release) result }
+    fn released_of_left(&self, seen: &mut Seen<N>, name: &str) -> Entry
+        ensures says { Leads (SaysOfLeft seen.new Release) result }
+        ensures moves { Moves seen.old seen.new }
     {
         match self.left_number(name) {
-            Some(id) => self.entered(Change::Release.event(id)),
-            None => unknown_collector(),
+            Some(id) => self.entered(seen, Change::Release.event(id)),
+            None => {
+                seen.now();
+                unknown_collector()
+            }
         }
     }
 
@@ -210,11 +330,12 @@ impl<R: Wait + Clock + Copy, L: Ledger, B: Ledger, N: DeskName> Handler<R, L, B,
         Some(known.1)
     }
 
-    fn entered(&self, event: Event) -> Entry
-        ensures { Leads (SaysEvent N.opening event) result }
+    fn entered(&self, seen: &mut Seen<N>, event: Event) -> Entry
+        ensures says { Leads (SaysEvent seen.new event) result }
+        ensures moves { Moves seen.old seen.new }
     {
         let change = self.change_of(&event);
-        match self.submitted(event) {
+        match self.submitted(seen, event) {
             Ok(receipt) => {
                 self.note_change(change, &receipt.answer);
                 let rests = receipt.position.saturating_add(1);
@@ -260,41 +381,63 @@ impl<R: Wait + Clock + Copy, L: Ledger, B: Ledger, N: DeskName> Handler<R, L, B,
         }
     }
 
-    fn shown(&self, ask: &Ask) -> Entry
-        ensures { Leads (SaysPage N.opening (arc_value self.now.pages) ask.now) result }
+    fn shown(&self, seen: &mut Seen<N>, ask: &Ask) -> Entry
+        ensures says { Leads (SaysPage seen.new (arc_value self.now.pages) ask.now) result }
+        ensures moves { Moves seen.old seen.new }
     {
         match ask {
-            Ask::Reload => self.reload(),
-            Ask::CollectorTargets { job, name, takes } => self.collector(job, name, *takes),
-            _ => Entry::Now(self.page(ask)),
+            Ask::Reload => {
+                seen.now();
+                self.reload()
+            }
+            Ask::CollectorTargets { job, name, takes } => self.collector(seen, job, name, *takes),
+            _ => Entry::Now(self.page(seen, ask)),
         }
     }
 
     /// What is told at once.
-    fn page(&self, ask: &Ask) -> Said
-        ensures { IsAtOnce ask.now → SaysPage N.opening (arc_value self.now.pages) ask.now result }
+    fn page(&self, seen: &mut Seen<N>, ask: &Ask) -> Said
+        ensures says { IsAtOnce ask.now → SaysPage seen.new (arc_value self.now.pages) ask.now result }
+        ensures moves { Moves seen.old seen.new }
+    {
+        match ask {
+            Ask::Books(round) => self.books(seen, *round),
+            Ask::Certificate => self.certificate(seen),
+            Ask::Uncovered(job) => self.uncovered(seen, job.as_str()),
+            Ask::JobTargets(job) => self.job(seen, job.as_str()),
+            Ask::Collector(which) => self.one_collector(seen, which),
+            _ => {
+                seen.now();
+                self.plain_page(ask)
+            }
+        }
+    }
+
+    /// What is told at once, and not of what the desk has.
+    fn plain_page(&self, ask: &Ask) -> Said
+        ensures { IsPlain ask.now → (span : Span) → SaysPage span (arc_value self.now.pages) ask.now result }
     {
         match ask {
             Ask::ScrapeConfigs { rules: true } => copied(&self.pages.as_read),
             Ask::ScrapeConfigs { rules: false } => copied(&self.pages.scrape_configs),
             Ask::Jobs => copied(&self.pages.jobs),
             Ask::Allocations => self.allocations(),
-            Ask::Books(round) => self.books(*round),
-            Ask::Certificate => self.certificate(),
             Ask::Healthy => Said::Notice(Notice::Healthy),
             Ask::Live => self.live(),
             Ask::Ready => self.ready(),
             Ask::Metrics => self.metrics(),
             Ask::Quit => self.quit(),
             Ask::Status => self.status(),
-            Ask::Uncovered(job) => self.uncovered(job.as_str()),
             Ask::FindTargets(text) => self.found(text.as_str()),
             Ask::Job(job) => self.one_job(job.as_str()),
-            Ask::JobTargets(job) => self.job(job.as_str()),
             Ask::Acknowledged { told, counts } => self.acknowledged(told, *counts),
             Ask::Collectors => self.collectors(),
-            Ask::Collector(which) => self.one_collector(which),
-            Ask::Reload
+            Ask::Books(_)
+            | Ask::Certificate
+            | Ask::Uncovered(_)
+            | Ask::JobTargets(_)
+            | Ask::Collector(_)
+            | Ask::Reload
             | Ask::CollectorTargets { .. }
             | Ask::Join
             | Ask::Leave(_)
@@ -358,9 +501,21 @@ impl<R: Wait + Clock + Copy, L: Ledger, B: Ledger, N: DeskName> Handler<R, L, B,
 
     fn metrics_text(&self) -> Result<Text, AllocError> {
         self.count_connections();
+        let (figures, notes) = self.figures_and_notes()?;
+        let page = metrics_page(self.alloc, &figures, &notes, &self.state);
+        drop((figures, notes));
+        page
+    }
+
+    fn figures_and_notes(&self) -> Result<(Figures, Notes), AllocError> {
         let figures = self.figures()?;
-        let notes = self.state.notes(&self.rt, self.alloc)?;
-        metrics_page(self.alloc, &figures, &notes, &self.state)
+        match self.state.notes(&self.rt, self.alloc) {
+            Ok(notes) => Ok((figures, notes)),
+            Err(error) => {
+                drop(figures);
+                Err(error)
+            }
+        }
     }
 
     fn status(&self) -> Said
@@ -374,9 +529,10 @@ impl<R: Wait + Clock + Copy, L: Ledger, B: Ledger, N: DeskName> Handler<R, L, B,
 
     fn status_text(&self) -> Result<Text, AllocError> {
         self.count_connections();
-        let figures = self.figures()?;
-        let notes = self.state.notes(&self.rt, self.alloc)?;
-        self.status_page_of(&figures, &notes)
+        let (figures, notes) = self.figures_and_notes()?;
+        let page = self.status_page_of(&figures, &notes);
+        drop((figures, notes));
+        page
     }
 
     fn status_page_of(&self, figures: &Figures, notes: &Notes) -> Result<Text, AllocError> {
@@ -408,103 +564,183 @@ impl<R: Wait + Clock + Copy, L: Ledger, B: Ledger, N: DeskName> Handler<R, L, B,
         )
     }
 
-    fn certificate(&self) -> Said
-        ensures { SaysText N.opening certificate_text result }
+    /// Reads one state and its journal.
+    pub(crate) fn read<T, F: FnOnce(&Record) -> T>(&self, seen: &mut Seen<N>, reader: F) -> T
+        requires { F.IsAlwaysCallable reader }
+        ensures read { FnOnceReturnsAt F.FnOnce reader (now_of seen.new) result }
+        ensures moves { Moves seen.old seen.new }
     {
-        match self.certificate_text() {
+        let mut pass = self.pass.lock(&self.rt);
+        seen.now.read(&self.rt, &self.desk, &mut *pass, reader)
+    }
+
+    fn certificate(&self, seen: &mut Seen<N>) -> Said
+        ensures says { SaysText seen.new certificate_text result }
+        ensures moves { Moves seen.old seen.new }
+    {
+        match self.certificate_text(seen) {
             Ok(text) => Said::Page(text),
             Err(_) => Said::Refused(RequestError::Memory),
         }
     }
 
-    fn certificate_text(&self) -> Result<Text, AllocError>
-        ensures { IfOk result (λ t. OfSome N.opening (λ h. t ≡ certificate_text h)) }
+    fn certificate_text(&self, seen: &mut Seen<N>) -> Result<Text, AllocError>
+        ensures text { IfOk result (λ t. t ≡ certificate_text (now_of seen.new)) }
+        ensures moves { Moves seen.old seen.new }
     {
-        let (instance, plan) = self.published()?;
+        let (instance, plan) = self.published(seen)?;
         certificate_page(self.alloc, &instance, &plan)
     }
 
-    fn published(&self) -> Result<(Instance, Plan), AllocError>
-        ensures { IfOk result (λ c. OfSome N.opening (λ h. (c.0 ≡ h.state.problem) × (c.1 ≡ h.state.plan))) }
+    fn published(&self, seen: &mut Seen<N>) -> Result<(Instance, Plan), AllocError>
+        ensures read { IfOk result (λ c. (c.0 ≡ (now_of seen.new).state.problem) × (c.1 ≡ (now_of seen.new).state.plan)) }
+        ensures moves { Moves seen.old seen.new }
     {
         let mut pass = self.pass.lock(&self.rt);
-        self.desk.certificate(&self.rt, &mut *pass)
+        seen.now.certificate(&self.rt, &self.desk, &mut *pass)
     }
 
-    fn job(&self, job: &str) -> Said
-        ensures { SaysJob N.opening job.now (place_of job.now (arc_value self.now.pages).names) result }
+    fn job(&self, seen: &mut Seen<N>, job: &str) -> Said
+        ensures says { SaysJob seen.new job.now (place_of job.now (arc_value self.now.pages).names) result }
+        ensures moves { Moves seen.old seen.new }
     {
         let Some(place) = self.pages.place(job) else {
+            seen.now();
             return Said::Answer(Answer::Not(Refusal::UnknownJob));
         };
-        match self.job_text(job, place) {
+        match self.job_text(seen, job, place) {
             Ok(text) => Said::Page(text),
             Err(_) => Said::Refused(RequestError::Memory),
         }
     }
 
-    fn job_text(&self, job: &str, place: usize) -> Result<Text, AllocError>
-        ensures { IfOk result (λ t. OfSome N.opening (λ h. t ≡ job_text job.now place h)) }
+    fn job_text(&self, seen: &mut Seen<N>, job: &str, place: usize) -> Result<Text, AllocError>
+        ensures text { IfOk result (λ t. t ≡ job_text job.now place (now_of seen.new)) }
+        ensures moves { Moves seen.old seen.new }
     {
-        let shares = self.shares(place)?;
+        let shares = self.shares(seen, place)?;
         job_page(self.alloc, job, shares.as_slice())
     }
 
-    fn shares(&self, place: usize) -> Result<List<Share>, AllocError>
-        ensures { IfOk result (λ l. OfSome N.opening (λ h. l ≡ shares_of h.state place)) }
+    fn shares(&self, seen: &mut Seen<N>, place: usize) -> Result<List<Share>, AllocError>
+        ensures read { IfOk result (λ l. l ≡ shares_of (now_of seen.new).state place) }
+        ensures moves { Moves seen.old seen.new }
     {
         let mut pass = self.pass.lock(&self.rt);
-        self.desk.shares(&self.rt, self.alloc, &mut *pass, place)
+        seen.now
+            .shares(&self.rt, &self.desk, &mut *pass, self.alloc, place)
     }
 
-    fn uncovered(&self, job: &str) -> Said
-        ensures { SaysUncovered (place_of job.now (arc_value self.now.pages).names) result }
+    fn uncovered(&self, seen: &mut Seen<N>, job: &str) -> Said
+        ensures says { SaysUncovered (place_of job.now (arc_value self.now.pages).names) result }
+        ensures moves { Moves seen.old seen.new }
     {
         let Some(place) = self.pages.place(job) else {
+            seen.now();
             return Said::Answer(Answer::Not(Refusal::UnknownJob));
         };
-        match self.uncovered_text(place) {
+        match self.uncovered_text(seen, place) {
             Ok(text) => Said::Page(text),
             Err(_) => Said::Refused(RequestError::Memory),
         }
     }
 
-    fn uncovered_text(&self, place: usize) -> Result<Text, AllocError>
-        ensures { IfOk result IsUncoveredText }
+    #[tactic(auto, using(crate::proofs::SpanLemmas::moves_trans))]
+    fn uncovered_text(&self, seen: &mut Seen<N>, place: usize) -> Result<Text, AllocError>
+        ensures text { IfOk result IsUncoveredText }
+        ensures moves { Moves seen.old seen.new }
     {
-        let uncovered = self.uncovered_at(place)?;
-        let full = self.numbered(place, uncovered.full.as_slice())?;
-        let waiting = self.numbered(place, uncovered.handing_over.as_slice())?;
-        let unreached = self.numbered(place, uncovered.unreached.as_slice())?;
-        uncovered_page(
+        let uncovered = self.uncovered_at(seen, place)?;
+        let text = self.uncovered_text_of(seen, place, &uncovered);
+        drop(uncovered);
+        text
+    }
+
+    #[tactic(auto, using(crate::proofs::SpanLemmas::moves_trans))]
+    fn uncovered_text_of(
+        &self,
+        seen: &mut Seen<N>,
+        place: usize,
+        uncovered: &Uncovered,
+    ) -> Result<Text, AllocError>
+        ensures text { IfOk result IsUncoveredText }
+        ensures moves { Moves seen.old seen.new }
+    {
+        let full = self.numbered(seen, place, uncovered.full.as_slice())?;
+        let (waiting, unreached) = match self.numbered_both(
+            seen,
+            place,
+            uncovered.handing_over.as_slice(),
+            uncovered.unreached.as_slice(),
+        ) {
+            Ok(both) => both,
+            Err(error) => {
+                drop(full);
+                return Err(error);
+            }
+        };
+        let text = uncovered_page(
             self.alloc,
             full.as_slice(),
             waiting.as_slice(),
             unreached.as_slice(),
-        )
+        );
+        drop((full, waiting, unreached));
+        text
     }
 
-    fn uncovered_at(&self, place: usize) -> Result<Uncovered, AllocError> {
-        let mut pass = self.pass.lock(&self.rt);
-        self.desk.read(
-            &self.rt,
-            &mut *pass,
+    #[tactic(auto, using(crate::proofs::SpanLemmas::moves_trans))]
+    fn numbered_both(
+        &self,
+        seen: &mut Seen<N>,
+        place: usize,
+        some: &[TargetId],
+        others: &[TargetId],
+    ) -> Result<(List<NumberedTarget>, List<NumberedTarget>), AllocError>
+        ensures moves { Moves seen.old seen.new }
+    {
+        let some = self.numbered(seen, place, some)?;
+        match self.numbered(seen, place, others) {
+            Ok(others) => Ok((some, others)),
+            Err(error) => {
+                drop(some);
+                Err(error)
+            }
+        }
+    }
+
+    fn uncovered_at(&self, seen: &mut Seen<N>, place: usize) -> Result<Uncovered, AllocError>
+        ensures moves { Moves seen.old seen.new }
+    {
+        self.read(
+            seen,
             |record| uncovered_of(self.alloc, record.core(), place),
         )
     }
 
     /// The receipt of an event that was entered.
-    pub(crate) fn submitted(&self, event: Event) -> Result<Receipt, RequestError>
-        ensures receipt { IfOk result (IsEntered N.opening event) }
-        ensures not { IfErr result (SaysNot N.opening) }
+    pub(crate) fn submitted(
+        &self,
+        seen: &mut Seen<N>,
+        event: Event,
+    ) -> Result<Receipt, RequestError>
+        ensures receipt { IfOk result (IsEntered (between seen.old seen.new) event) }
+        ensures not { IfErr result (SaysNot seen.new) }
+        ensures moves { Moves seen.old seen.new }
     {
         if self.is_broken() {
+            drop(event);
+            seen.now();
             return Err(RequestError::NotKept);
         }
         let kind = EventKind::of(&event);
-        let receipt = self.entered_now(event)?;
-        self.state.count_event(&self.rt, kind, &receipt.answer);
-        Ok(receipt)
+        match self.entered_now(seen, event) {
+            Ok(receipt) => {
+                self.state.count_event(&self.rt, kind, &receipt.answer);
+                Ok(receipt)
+            }
+            Err(error) => Err(error),
+        }
     }
 
     /// Whether what is submitted cannot be kept.
@@ -550,12 +786,13 @@ impl<R: Wait + Clock + Copy, L: Ledger, B: Ledger, N: DeskName> Handler<R, L, B,
         }
     }
 
-    fn entered_now(&self, event: Event) -> Result<Receipt, RequestError>
-        ensures receipt { IfOk result (IsEntered N.opening event) }
-        ensures not { IfErr result (SaysNot N.opening) }
+    fn entered_now(&self, seen: &mut Seen<N>, event: Event) -> Result<Receipt, RequestError>
+        ensures receipt { IfOk result (IsEntered (between seen.old seen.new) event) }
+        ensures not { IfErr result (SaysNot seen.new) }
+        ensures moves { Moves seen.old seen.new }
     {
         let mut pass = self.pass.lock(&self.rt);
-        match self.desk.submit(&self.rt, &mut *pass, event) {
+        match seen.now.submit(&self.rt, &self.desk, &mut *pass, event) {
             Ok(receipt) => Ok(receipt),
             Err(EnterError::JournalFull) => Err(RequestError::JournalFull),
             Err(EnterError::Memory) => Err(RequestError::Memory),

@@ -1,8 +1,8 @@
 //! The HTTP server of a desk: it reads a request, asks the desk and writes the answer. `sd_routes` says what requests ask for and
 //! how answers are written.
 //!
-//! Contracts say of a reply that what it writes is the written form of what the desk told, of some history that is legal from its
-//! opening state. Of connections, time and order they say nothing.
+//! Contracts say of a reply that what it writes is the written form of what the desk told, of the one journal that comes out of it. Of
+//! connections and time they say nothing.
 #![tactic(auto)]
 
 mod accept;
@@ -29,6 +29,7 @@ mod manner;
 mod one_by_one;
 mod reply;
 mod reported;
+mod seen;
 mod service;
 mod shown;
 mod spoken;
@@ -43,4 +44,5 @@ pub use handler::Handler;
 pub use list_texts::ListTexts;
 pub use one_by_one::serve_one_by_one;
 pub use reply::Reply;
+pub use seen::Seen;
 pub use service::AllocatorService;

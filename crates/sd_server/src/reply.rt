@@ -2,16 +2,18 @@
 ghost use Rattle.std.specs.Prelude.{◌≡◌, ◌⊎◌, IfOk};
 ghost use Rattle.std.specs.Arc.{arc_value};
 ghost use Rattle.sd_routes.specs.declared.request_error.RequestError.TheVariants.{Shape, Memory};
-ghost use Rattle.sd_routes.specs.declared.responding.Said.{Said};
 ghost use Rattle.sd_routes.specs.declared.responding.Said.TheVariants.{Refused};
-ghost use Rattle.sd_server.specs.Entries.{Leads, MaySayEntry};
-ghost use Rattle.sd_server.specs.Replies.{CanRead, Gives, MaySay, SaysRead};
+ghost use Rattle.sd_server.specs.Entries.{Leads};
+ghost use Rattle.sd_server.specs.Replies.{CanRead, Gives, Reads, SaysRead};
+ghost use Rattle.sd_server.specs.Spans.{Moves};
+ghost use Rattle.sd_server.specs.declared.reply.Stage.TheVariants as stage;
 ghost use Rattle.sd_server.specs.Writing.{Writes};
 
 use crate::counter::Counter;
 use crate::entry::Entry;
 use crate::handler::Handler;
 use crate::manner::Manner;
+use crate::seen::Seen;
 use crate::tags::Tags;
 use admission::LONGEST_BODY;
 use alloc_desk::DeskName;
@@ -33,6 +35,8 @@ use std::time::Clock;
 #[derive(Drop)]
 pub struct Reply<R, L: Ledger, B: Ledger, N: DeskName, I> {
     alloc: Global,
+    /// What has been seen of the journal. What is said is of it.
+    seen: Seen<N>,
     stage: Stage<R, L, B, N, I>,
     manner: Manner,
     /// What counts the request once it is answered.
@@ -61,14 +65,17 @@ impl<R, L: Ledger, B: Ledger, N: DeskName, I: Drop> Reply<R, L, B, N, I> {
         alloc: Global,
         counter: Option<Counter<R>>,
         tags: Option<Tags<R, N>>,
+        seen: Seen<N>,
         entry: Entry,
         manner: Manner,
     ) -> Reply<R, L, B, N, I>
         ensures can_read { CanRead result }
-        ensures says { (said : Said) → MaySay result.stage said → MaySayEntry entry said }
+        ensures stage { result.stage ≡ stage.Told entry }
+        ensures seen { result.seen ≡ seen }
     {
         Reply {
             alloc,
+            seen,
             stage: Stage::Told(entry),
             manner,
             counter,
@@ -81,17 +88,20 @@ impl<R: Wait + Clock + Copy, L: Ledger, B: Ledger, N: DeskName, I: Drop> Reply<R
     /// A reply to a request with this body.
     pub(crate) fn to(
         handler: Handler<R, L, B, N>,
+        seen: Seen<N>,
         ask: Ask,
         body: Incoming<I>,
     ) -> Reply<R, L, B, N, I>
         ensures can_read { CanRead result }
-        ensures says { (said : Said) → MaySay result.stage said → SaysRead N.opening (arc_value handler.pages) ask said }
+        ensures stage { Reads (arc_value handler.pages) ask result.stage }
+        ensures seen { result.seen ≡ seen }
     {
         let alloc = handler.alloc;
         let counter = handler.counter(Route::of(Some(&ask)), handler.now());
         let body = Limited::new(body, LONGEST_BODY as usize).collect(alloc);
         Reply {
             alloc,
+            seen,
             stage: Stage::Reading(Reading { handler, ask, body }),
             manner: Manner::plain(false),
             counter,
@@ -118,17 +128,37 @@ impl<R: Wait + Clock + Copy, L: Ledger, B: Ledger, N: DeskName, I: Drop> Reply<R
 
 impl<R: Wait + Clock + Copy, L: Ledger, B: Ledger, N: DeskName, I: Drop> Reading<R, L, B, N, I> {
     /// What is said once the body has come, or what that waits for.
-    fn entry(&self, read: Result<Collected, LimitedError<hyper::Error>>) -> Entry
-        ensures { Leads (SaysRead N.opening (arc_value self.now.handler.pages) self.now.ask) result }
+    fn entry(
+        &self,
+        seen: &mut Seen<N>,
+        read: Result<Collected, LimitedError<hyper::Error>>,
+    ) -> Entry
+        ensures says { Leads (SaysRead seen.new (arc_value self.now.handler.pages) self.now.ask) result }
+        ensures moves { Moves seen.old seen.new }
     {
-        let collected = match read {
-            Ok(collected) => collected,
-            Err(LimitedError::LengthLimit) => return refused(RequestError::TooLong),
-            Err(LimitedError::Body(error)) => return refused(unread(&error)),
-        };
+        match read {
+            Ok(collected) => self.entry_of(seen, collected),
+            Err(LimitedError::LengthLimit) => {
+                seen.now();
+                refused(RequestError::TooLong)
+            }
+            Err(LimitedError::Body(error)) => {
+                seen.now();
+                refused(unread(&error))
+            }
+        }
+    }
+
+    fn entry_of(&self, seen: &mut Seen<N>, collected: Collected) -> Entry
+        ensures says { Leads (SaysRead seen.new (arc_value self.now.handler.pages) self.now.ask) result }
+        ensures moves { Moves seen.old seen.new }
+    {
         match collected.to_bytes() {
-            Ok(bytes) => self.handler.entry(&self.ask, bytes.as_slice()),
-            Err(_) => refused(RequestError::Memory),
+            Ok(bytes) => self.handler.entry(seen, &self.ask, bytes.as_slice()),
+            Err(_) => {
+                seen.now();
+                refused(RequestError::Memory)
+            }
         }
     }
 }
@@ -166,8 +196,8 @@ impl<R: Wait + Clock + Copy + Drop, L: Ledger, B: Ledger, N: DeskName, I: Drop> 
             }
             Stage::Reading(reading) => {
                 let read = ready!(reading.body.poll(cx));
-                let entry = reading.entry(read);
-                self.stage = Stage::Told(entry);
+                let entry = reading.entry(&mut self.seen, read);
+                drop(std::mem::replace(&mut self.stage, Stage::Told(entry)));
                 cx.yield_now()
             }
         }

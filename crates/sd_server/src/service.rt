@@ -8,9 +8,11 @@ ghost use Rattle.admission.specs.Admission.{let_in};
 ghost use Rattle.sd_routes.specs.Gives.{Gives};
 ghost use Rattle.sd_server.specs.Entries.{Leads};
 ghost use Rattle.sd_server.specs.Says.{Says};
-ghost use Rattle.sd_server.specs.Replies.{Begins, BeginsWith, CanRead, IsReplyTo, MaySay};
+ghost use Rattle.sd_server.specs.Replies.{Begins, BeginsWith, CanRead, IsReplyTo};
+ghost use Rattle.sd_server.specs.Spans.{Moves};
 ghost use Rattle.sd_routes.specs.declared.request_error.RequestError.TheVariants.{Memory};
-ghost use Rattle.sd_routes.specs.declared.responding.Said.{Said};
+ghost use Rattle.sd_server.specs.declared.entry.Entry.TheVariants as entry;
+ghost use Rattle.sd_server.specs.declared.reply.Stage.TheVariants as stage;
 ghost use Rattle.sd_routes.specs.declared.responding.Said.TheVariants.{Refused};
 
 use crate::accept::wants_document;
@@ -18,6 +20,7 @@ use crate::entry::Entry;
 use crate::handler::Handler;
 use crate::manner::Manner;
 use crate::reply::Reply;
+use crate::seen::Seen;
 use alloc_desk::DeskName;
 use bytes::Bytes;
 use http::request::Parts;
@@ -56,17 +59,28 @@ impl<R: Wait + Clock + Copy, L: Ledger, B: Ledger, N: DeskName> AllocatorService
         peer: Option<SocketAddr>,
     ) -> Result<AllocatorService<R, L, B, N>, AllocError> {
         let routes = Arc::try_clone(routes)?;
-        let mut handler = handler.another()?;
-        handler.peer = peer;
-        Ok(AllocatorService { handler, routes })
+        match handler.another() {
+            Ok(mut handler) => {
+                handler.peer = peer;
+                Ok(AllocatorService { handler, routes })
+            }
+            Err(error) => {
+                drop(routes);
+                Err(error)
+            }
+        }
     }
 
-    fn begin(&self, head: &Parts) -> Begun
-        ensures { Begins N.opening (arc_value self.now.handler.pages) (let_in (arc_value self.now.handler.doors) head.now.headers (asked head.now.method (uri_path head.now.uri) (uri_query head.now.uri))) result }
+    fn begin(&self, seen: &mut Seen<N>, head: &Parts) -> Begun
+        ensures moves { Moves seen.old seen.new }
+        ensures begins { Begins seen.new (arc_value self.now.handler.pages) (let_in (arc_value self.now.handler.doors) head.now.headers (asked head.now.method (uri_path head.now.uri) (uri_query head.now.uri))) result }
     {
         match self.came(head) {
-            Ok(ask) => self.begin_with(ask, wants_document(&head.headers)),
-            Err(error) => Begun::Told(Entry::Now(Said::Refused(error)), Route::of(None)),
+            Ok(ask) => self.begin_with(seen, ask, wants_document(&head.headers)),
+            Err(error) => {
+                seen.now();
+                Begun::Told(Entry::Now(Said::Refused(error)), Route::of(None))
+            }
         }
     }
 
@@ -88,33 +102,47 @@ impl<R: Wait + Clock + Copy, L: Ledger, B: Ledger, N: DeskName> AllocatorService
     }
 
     /// Of a request whose body is not read.
-    fn without_memory<I: Drop>(&self) -> Reply<R, L, B, N, I>
+    fn without_memory<I: Drop>(&self, seen: Seen<N>) -> Reply<R, L, B, N, I>
         ensures can_read { CanRead result }
-        ensures says { (said : Said) → MaySay result.stage said → said ≡ Refused Memory }
+        ensures stage { result.stage ≡ stage.Told (entry.Now (Refused Memory)) }
+        ensures seen { result.seen ≡ seen }
     {
         let entry = Entry::Now(Said::Refused(RequestError::Memory));
-        Reply::of(self.handler.alloc, None, None, entry, Manner::plain(true))
+        Reply::of(
+            self.handler.alloc,
+            None,
+            None,
+            seen,
+            entry,
+            Manner::plain(true),
+        )
     }
 
-    fn begin_with(&self, ask: Ask, for_people: bool) -> Begun
-        ensures { BeginsWith N.opening (arc_value self.now.handler.pages) ask result }
+    fn begin_with(&self, seen: &mut Seen<N>, ask: Ask, for_people: bool) -> Begun
+        ensures begins { BeginsWith seen.new (arc_value self.now.handler.pages) ask result }
+        ensures moves { Moves seen.old seen.new }
     {
         match ask {
-            Ask::Join | Ask::Drain(_) | Ask::SetLimits(_) | Ask::Report => Begun::Reads(ask),
-            _ => Begun::Told(self.entry(&ask, for_people), Route::of(Some(&ask))),
+            Ask::Join | Ask::Drain(_) | Ask::SetLimits(_) | Ask::Report => {
+                seen.now();
+                Begun::Reads(ask)
+            }
+            _ => Begun::Told(self.entry(seen, &ask, for_people), Route::of(Some(&ask))),
         }
     }
 
     /// What a request without a body is told, or what that waits for: of what has a page for people, that page where it is asked for.
-    fn entry(&self, ask: &Ask, for_people: bool) -> Entry
-        ensures { Leads (Says N.opening (arc_value self.now.handler.pages) ask.now []) result }
+    #[tactic(auto, using(crate::proofs::SpanLemmas::moves_trans))]
+    fn entry(&self, seen: &mut Seen<N>, ask: &Ask, for_people: bool) -> Entry
+        ensures says { Leads (Says seen.new (arc_value self.now.handler.pages) ask.now []) result }
+        ensures moves { Moves seen.old seen.new }
     {
         if !for_people {
-            return self.handler.entry(ask, b"");
+            return self.handler.entry(seen, ask, b"");
         }
-        match self.handler.document(ask) {
+        match self.handler.document(seen, ask) {
             Some(said) => Entry::Now(said),
-            None => self.handler.entry(ask, b""),
+            None => self.handler.entry(seen, ask, b""),
         }
     }
 }
@@ -135,21 +163,31 @@ impl<R: Wait + Clock + Copy + Drop, L: Ledger, B: Ledger, N: DeskName, I: Drop> 
     fn call(&self, req: Request<Incoming<I>>) -> Reply<R, L, B, N, I> {
         let begun = self.handler.now();
         let (head, body) = req.into_parts();
-        match self.begin(&head) {
+        let mut seen = self.handler.seen();
+        match self.begin(&mut seen, &head) {
             Begun::Told(entry, route) => {
                 let counter = self.handler.counter(route, begun);
+                let manner = Manner::of(&head.headers);
+                drop((head, body));
                 Reply::of(
                     self.handler.alloc,
                     counter,
                     self.handler.tags(),
+                    seen,
                     entry,
-                    Manner::of(&head.headers),
+                    manner,
                 )
             }
-            Begun::Reads(ask) => match self.handler.another() {
-                Ok(handler) => Reply::to(handler, ask, body),
-                Err(_) => self.without_memory(),
-            },
+            Begun::Reads(ask) => {
+                drop(head);
+                match self.handler.another() {
+                    Ok(handler) => Reply::to(handler, seen, ask, body),
+                    Err(_) => {
+                        drop((ask, body));
+                        self.without_memory(seen)
+                    }
+                }
+            }
         }
     }
 }

@@ -9,5 +9,5 @@ pub returns-in-Ready-ready-read-clause-same : goal.returns-in-Ready-ready-read-c
 returns-in-Ready-ready-read-clause-same g c =
     let is : c.args.self.now.stage ≡ stage.Reading c.in-Reading.reading = search rules in
     rw c.yield_now.ensures.pending
-    (λ x given. gives_weaker (record c.args.self.now { stage = stage.Told c.entry-entry.result }) c.args.self.now
-    refl (λ said may. subst (λ s. MaySay s said) (sym is) (c.entry-entry.ensures said may)) x given)
+    (λ x given. gives_weaker (record c.args.self.now { stage = stage.Told c.entry-entry.result; seen = c.entry-entry.new.seen }) c.args.self.now
+    refl (λ said may. subst (λ s. MaySay c.args.self.now.seen s said) (sym is) (c.entry-entry.new.seen, c.entry-entry.ensures.moves, c.entry-entry.ensures.says said may)) x given)
