@@ -11,6 +11,6 @@ pub trait Archive<F: Device> {
     /// Begins a journal with this line in the place of the last one, which is put beside it, and gives its file. The line is on the device
     /// before the last journal is moved.
     fn begin(&mut self, first: &FirstLine) -> io::Result<Begun<F>>
-        ensures form { IfOk result (IsBegunAnew F.contents first.now) }
+        ensures form { IfOk result (IsBegunAnew F.tells F.contents first.now) }
         ensures kept { IfOk result (λ b. F.kept b.file ≡ F.contents b.file) };
 }

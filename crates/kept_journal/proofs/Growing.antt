@@ -1,44 +1,76 @@
 -- Files that grow by the lines of entries.
-use Rattle.std.proofs.Common.{◌≡◌, ℕ, List, [], ◌∷◌, ◌++◌, length, Option, Some, None, IfSome, refl, ap, sym, ◌∙◌, append_assoc, append-nil}
+use Rattle.std.proofs.Common.{◌≡◌, ℕ, List, [], ◌∷◌, ◌++◌, length, Bool, true, Option, Some, None, refl, ap, sym, subst, ◌∙◌, append_assoc, append-nil}
 use Rattle.std.specs.Io.KnownBytes.{Appends}
-use Rattle.durable_journal.specs.Events.{event_lines}
-use Rattle.durable_journal.specs.Files.{bytes_of, chain_past}
+use Rattle.allocation_core.specs.Runs.{state_of}
+use Rattle.allocation_core.specs.State.{State}
+use Rattle.allocation_core.proofs.RunLemmas.{state_of_append}
+use Rattle.durable_journal.specs.Events.{AreSaid, event_lines, events_text}
+use Rattle.durable_journal.specs.Files.{bytes_of, chain_past, IsFileOf}
+use Rattle.durable_journal.specs.Journals.{IsJournal}
 use Rattle.durable_journal.specs.Kept.{kept_in}
-use Rattle.durable_journal.proofs.Bytes.{bytes_more, chain_more}
-use Rattle.durable_journal.proofs.EventLines.{kept_parts, lines_more}
+use Rattle.durable_journal.proofs.EventLines.{kept_parts}
+use Rattle.durable_journal.proofs.FileTexts.{grows_file}
+use Rattle.durable_journal.proofs.Refused.{leave_out_refused}
 use Rattle.fleet_events.specs.declared.event.Event.{Event}
+use Rattle.journal_entries.specs.Legal.{IsLegal}
 use Rattle.journal_entries.specs.declared.entry.Entry.{Entry}
 use Rattle.sealed_lines.specs.declared.chain.Chain.{Chain}
-use Rattle.kept_journal.specs.Keeping.{IsPast, bytes_past}
+use Rattle.kept_journal.specs.Keeping.{HasEntries, HasJournal}
 
--- the lines of more entries
-lines_past : (entries more : List Entry) → event_lines (kept_in (entries ++ more)) ≡ event_lines (kept_in entries) ++ event_lines (kept_in more)
-lines_past entries more = ap (λ (es : List Event). event_lines es) (kept_parts entries more) ∙ lines_more (kept_in entries) (kept_in more)
+journal_grows : (opened : State) (entries more : List Entry) (bytes : List ℕ) (last : Option Chain) → HasJournal opened entries bytes last → AreSaid (kept_in more)
+    → HasJournal opened (entries ++ more) (bytes ++ bytes_of last (event_lines (kept_in more))) (chain_past last (event_lines (kept_in more)))
+journal_grows opened entries more bytes last h said =
+    let grown = grows_file bytes h.text last h.first (h.earlier ++ kept_in entries) (kept_in more) h.journal h.file said in
+    let same : (h.earlier ++ kept_in entries) ++ kept_in more ≡ h.earlier ++ kept_in (entries ++ more) =
+    append_assoc h.earlier (kept_in entries) (kept_in more) ∙ ap (λ (es : List Event). h.earlier ++ es) (sym (kept_parts entries more)) in
+    record {
+      text = h.text ++ events_text (kept_in more);
+      first = h.first;
+      earlier = h.earlier;
+      file = grown.0;
+      journal = subst (λ (es : List Event). IsJournal (h.text ++ events_text (kept_in more)) h.first es) same grown.1;
+      leads = h.leads;
+    }
 
-pub last_past : (first : Option Chain) (entries more : List Entry)
-    → chain_past first (event_lines (kept_in (entries ++ more))) ≡ chain_past (chain_past first (event_lines (kept_in entries))) (event_lines (kept_in more))
-last_past first entries more = ap (chain_past first) (lines_past entries more) ∙ chain_more first (event_lines (kept_in entries)) (event_lines (kept_in more))
+appended : (opened : State) (entries more : List Entry) (known : List ℕ) (new : Option (List ℕ)) (last : Option Chain)
+    → HasJournal opened entries known last → AreSaid (kept_in more) → Appends (Some known) new (bytes_of last (event_lines (kept_in more)))
+    → (longer : List ℕ) × (new ≡ Some longer) × HasJournal opened (entries ++ more) longer (chain_past last (event_lines (kept_in more)))
+appended opened entries more known None last h said a = absurd a
+appended opened entries more known (Some longer) last h said a =
+    (longer, refl, subst (λ (b : List ℕ). HasJournal opened (entries ++ more) b (chain_past last (event_lines (kept_in more)))) (sym a) (journal_grows opened entries more known last h said))
 
-bytes_grow : (begun : List ℕ) (first : Option Chain) (entries more : List Entry)
-    → bytes_past begun first entries ++ bytes_of (chain_past first (event_lines (kept_in entries))) (event_lines (kept_in more)) ≡ bytes_past begun first (entries ++ more)
-bytes_grow begun first entries more =
-    append_assoc begun (bytes_of first (event_lines (kept_in entries))) _
-    ∙ ap (λ (bytes : List ℕ). begun ++ bytes) (sym (bytes_more first (event_lines (kept_in entries)) (event_lines (kept_in more))) ∙ ap (bytes_of first) (sym (lines_past entries more)))
-
--- what was known to have the lines of some entries has those of more, once these are appended
-pub past_grows : (begun : Option (List ℕ)) (first : Option Chain) (entries more : List Entry) (old new : Option (List ℕ)) (last : Option Chain)
-    → last ≡ chain_past first (event_lines (kept_in entries)) → IsPast begun first entries old → Appends old new (bytes_of last (event_lines (kept_in more))) → IsPast begun first (entries ++ more) new
-past_grows None first entries more old new last l p a = tt
-past_grows (Some begun) first entries more None new last l p a = absurd (cc p)
-past_grows (Some begun) first entries more (Some old) None last l p a = absurd a
-past_grows (Some begun) first entries more (Some old) (Some new) last l p a =
-    let same : old ≡ bytes_past begun first entries = cc p in
-    ap (λ (b : List ℕ). Some b)
-    (a ∙ ap (λ (b : List ℕ). b ++ bytes_of last (event_lines (kept_in more))) same ∙ ap (λ (c : Option Chain). bytes_past begun first entries ++ bytes_of c (event_lines (kept_in more))) l ∙ bytes_grow begun first entries more)
+-- a file with the lines of some entries has those of more, once these are appended
+pub entries_grow : (tells : Bool) (opened : State) (entries more : List Entry) (old new : Option (List ℕ)) (last : Option Chain)
+    → HasEntries tells opened entries old last → AreSaid (kept_in more) → Appends old new (bytes_of last (event_lines (kept_in more)))
+    → HasEntries tells opened (entries ++ more) new (chain_past last (event_lines (kept_in more)))
+entries_grow tells opened entries more old new last h said a told =
+    let known = h told in
+    appended opened entries more known.0 new last known.1.1 said (subst (λ (bytes : Option (List ℕ)). Appends bytes new (bytes_of last (event_lines (kept_in more)))) known.1.0 a)
 
 -- where they have no line, it stays as it is
-pub past_stays : (begun : Option (List ℕ)) (first : Option Chain) (entries more : List Entry) (bytes : Option (List ℕ)) (last : Option Chain)
-    → last ≡ chain_past first (event_lines (kept_in entries)) → IsPast begun first entries bytes → bytes_of last (event_lines (kept_in more)) ≡ [] → IsPast begun first (entries ++ more) bytes
-past_stays None first entries more bytes last l p none = tt
-past_stays (Some begun) first entries more bytes last l p none =
-    p ∙ ap (λ (b : List ℕ). Some b) (sym (append-nil _) ∙ ap (λ (b : List ℕ). bytes_past begun first entries ++ b) (sym none) ∙ ap (λ (c : Option Chain). bytes_past begun first entries ++ bytes_of c (event_lines (kept_in more))) l ∙ bytes_grow begun first entries more)
+pub entries_stay : (tells : Bool) (opened : State) (entries more : List Entry) (bytes : Option (List ℕ)) (last : Option Chain)
+    → HasEntries tells opened entries bytes last → AreSaid (kept_in more) → bytes_of last (event_lines (kept_in more)) ≡ []
+    → HasEntries tells opened (entries ++ more) bytes (chain_past last (event_lines (kept_in more)))
+entries_stay tells opened entries more bytes last h said none told =
+    let known = h told in (
+      known.0,
+      known.1.0,
+      subst (λ (b : List ℕ). HasJournal opened (entries ++ more) b (chain_past last (event_lines (kept_in more)))) (ap (λ (b : List ℕ). known.0 ++ b) none ∙ append-nil known.0) (journal_grows opened entries more known.0 last known.1.1 said),
+    )
+
+journal_ends : (opened end : State) (entries : List Entry) (bytes : List ℕ) (last : Option Chain) → HasJournal opened entries bytes last → IsLegal opened entries end → HasJournal end [] bytes last
+journal_ends opened end entries bytes last h legal =
+    record {
+      text = h.text;
+      first = h.first;
+      earlier = h.earlier ++ kept_in entries;
+      file = h.file;
+      journal = subst (λ (es : List Event). IsJournal h.text h.first es) (sym (append-nil (h.earlier ++ kept_in entries))) h.journal;
+      leads = state_of_append h.first h.earlier (kept_in entries) ∙ ap (λ (m : State). state_of m (kept_in entries)) h.leads ∙ leave_out_refused opened end entries legal;
+    }
+
+-- a file that has a desk's whole journal leads to the state that the desk ends with
+pub entries_end : (tells : Bool) (opened end : State) (entries : List Entry) (bytes : Option (List ℕ)) (last : Option Chain)
+    → HasEntries tells opened entries bytes last → IsLegal opened entries end → HasEntries tells end [] bytes last
+entries_end tells opened end entries bytes last h legal told =
+    let known = h told in (known.0, known.1.0, journal_ends opened end entries known.0 last known.1.1 legal)

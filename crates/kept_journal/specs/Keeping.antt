@@ -1,38 +1,50 @@
 -- What a device keeps of a desk's journal.
-use Rattle.std.specs.Prelude.{◌≡◌, ℕ, List, ◌++◌, Option, None, Some, IfSome}
-use Rattle.durable_journal.specs.Events.{event_lines}
-use Rattle.durable_journal.specs.Files.{bytes_of, chain_past}
+use Rattle.std.specs.Prelude.{◌≡◌, ℕ, List, [], ◌++◌, Bool, false, true, Option, None, Some}
+use Rattle.allocation_core.specs.Runs.{state_of}
+use Rattle.allocation_core.specs.State.{State}
+use Rattle.durable_journal.specs.Files.{IsFileOf}
+use Rattle.durable_journal.specs.Journals.{IsJournal}
 use Rattle.durable_journal.specs.Kept.{kept_in}
+use Rattle.fleet_events.specs.declared.event.Event.{Event}
 use Rattle.journal_entries.specs.declared.entry.Entry.{Entry}
 use Rattle.sealed_lines.specs.declared.chain.Chain.{Chain}
 use Rattle.kept_journal.specs.declared.journal_file.JournalFile.{JournalFile}
 
--- the bytes of a file that began with these, whose last line had this digest, once the lines of entries stand behind them
-abbrev pub bytes_past : List ℕ → Option Chain → List Entry → List ℕ
-bytes_past begun chain entries = begun ++ bytes_of chain (event_lines (kept_in entries))
+-- The bytes are the file of a journal, behind whose last line further ones stand with this digest, if they have any. Its first events lead to the
+-- state that a desk was opened with. Behind these it has the desk's: of these entries those that were not refused.
+pub record HasJournal (opened : State) (entries : List Entry) (bytes : List ℕ) (last : Option Chain) : Type 0 where
+  pub text : List ℕ
+  pub first : State
+  pub earlier : List Event
+  pub file : IsFileOf bytes text last
+  pub journal : IsJournal text first (earlier ++ kept_in entries)
+  pub leads : state_of first earlier ≡ opened
 
--- where it is known what the file began with, these are its bytes
-abbrev pub IsPast : Option (List ℕ) → Option Chain → List Entry → Option (List ℕ) → Type 0
-IsPast begun chain entries bytes = IfSome begun (λ b. bytes ≡ Some (bytes_past b chain entries))
+-- a file has these bytes, where it tells them, and so the journal of a desk with these entries
+abbrev pub HasEntries : Bool → State → List Entry → Option (List ℕ) → Option Chain → Type 0
+HasEntries tells opened entries bytes last = tells ≡ true → (known : List ℕ) × (bytes ≡ Some known) × HasJournal opened entries known last
 
--- It means that these entries are kept, if a device keeps just what a file began with and their lines behind it.
-abbrev pub MeansKept : {F : Type 0} → (F → Option (List ℕ)) → (List Entry → Type 0) → Option (List ℕ) → Option Chain → Type 0
-MeansKept {F} kept keeps begun chain = (device : F) (entries : List Entry) → IsPast begun chain entries (kept device) → keeps entries
+-- a device of the kind keeps them
+abbrev pub AreKept : {F : Type 0} → Bool → (F → Option (List ℕ)) → State → List Entry → Type 0
+AreKept {F} tells kept opened entries = (device : F) × (last : Option Chain) × HasEntries tells opened entries (kept device) last
 
--- a file has what it began with, and the lines of these entries behind it
-pub record GoesOn {F : Type 0} (contents kept : F → Option (List ℕ)) (keeps : List Entry → Type 0) (entries : List Entry) (file : JournalFile F) : Type 0 where
-  pub begun : Option (List ℕ)
-  pub first : Option Chain
-  pub means : MeansKept kept keeps begun first
-  pub bytes : IsPast begun first entries (contents file.file)
-  pub last : file.chain ≡ chain_past first (event_lines (kept_in entries))
+-- that a device of the kind keeps them means that
+abbrev pub MeansKept : {F : Type 0} → Bool → (F → Option (List ℕ)) → State → (List Entry → Type 0) → Type 0
+MeansKept tells kept opened keeps = (entries : List Entry) → AreKept tells kept opened entries → keeps entries
 
--- where there is a file, what it means that entries are kept is that a device keeps it and their lines
-abbrev pub keeps_in : {F : Type 0} → (F → Option (List ℕ)) → (F → Option (List ℕ)) → Option (JournalFile F) → List Entry → Type 0
-keeps_in contents kept None entries = Unit {0}
-keeps_in {F} contents kept (Some file) entries = (device : F) × IsPast (contents file.file) file.chain entries (kept device)
+-- the file of a journal that leads to a state, unless nothing can be kept in it
+abbrev pub IsOf : {F : Type 0} → Bool → (F → Option (List ℕ)) → State → JournalFile F → Type 0
+IsOf tells contents m file = file.is_broken ≡ false → HasEntries tells m [] (contents file.file) file.chain
 
--- it means no more than that
-abbrev pub MeansKeptIn : {F : Type 0} → (F → Option (List ℕ)) → (F → Option (List ℕ)) → (List Entry → Type 0) → Option (JournalFile F) → Type 0
-MeansKeptIn contents kept keeps None = (entries : List Entry) → keeps entries
-MeansKeptIn contents kept keeps (Some file) = MeansKept kept keeps (contents file.file) file.chain
+-- that of a service, where there is one
+abbrev pub IsOfService : {F : Type 0} → Bool → (F → Option (List ℕ)) → State → Option (JournalFile F) → Type 0
+IsOfService tells contents m None = Unit {0}
+IsOfService tells contents m (Some file) = IsOf tells contents m file
+
+-- what it is for a desk that entries are kept, where there is a file for them and where there is none
+abbrev pub keeps_where : {F : Type 0} → Bool → (F → Option (List ℕ)) → State → Option (JournalFile F) → List Entry → Type 0
+keeps_where tells kept opened None entries = Unit {0}
+keeps_where tells kept opened (Some file) entries = AreKept tells kept opened entries
+
+abbrev pub MeansKeptWhere : {F : Type 0} → Bool → (F → Option (List ℕ)) → State → Option (JournalFile F) → (List Entry → Type 0) → Type 0
+MeansKeptWhere tells kept opened file keeps = (entries : List Entry) → keeps_where tells kept opened file entries → keeps entries

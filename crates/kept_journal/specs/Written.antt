@@ -1,7 +1,7 @@
 -- What of a desk's journal is written, and what is not yet.
 use Rattle.std.specs.Prelude.{◌≡◌, ℕ, List, ◌++◌, length, Option}
 use mathlib.Core.List.{IsPrefix}
-use Rattle.durable_journal.specs.Events.{event_lines}
+use Rattle.durable_journal.specs.Events.{AreSaid, event_lines}
 use Rattle.durable_journal.specs.Files.{bytes_of, chain_past}
 use Rattle.durable_journal.specs.Kept.{kept_in}
 use Rattle.journal_entries.specs.declared.entry.Entry.{Entry}
@@ -18,6 +18,7 @@ pub record Written : Type 0 where
 pub record AreNews (written : Written) (news : News) : Type 0 where
   pub these : List Entry
   pub next : IsPrefix (written.entries ++ these) written.seen
+  pub said : AreSaid (kept_in these)
   pub count : news.entries ≡ length these
   pub bytes : news.lines.bytes ≡ bytes_of written.chain (event_lines (kept_in these))
   pub chain : news.lines.chain ≡ chain_past written.chain (event_lines (kept_in these))

@@ -1,13 +1,13 @@
 //! The journal of a desk in a file.
 ghost use Rattle.std.specs.Prelude.{◌≡◌, ◌++◌, [], IfOk};
-ghost use Rattle.kept_journal.specs.Keeping.{MeansKept};
+ghost use Rattle.kept_journal.specs.Keeping.{IsOf, MeansKept};
 ghost use Rattle.kept_journal.specs.Written.{AreNews};
 
 use crate::durable::Durable;
 use crate::journal_file::JournalFile;
 use crate::journal_name::JournalName;
 use crate::news::News;
-use alloc_desk::{Desk, Front, Pass};
+use alloc_desk::{Closed, Desk, Front, Pass};
 use durable_journal::{Device, journal_lines};
 use std::alloc::{AllocError, Global};
 use std::io;
@@ -32,20 +32,21 @@ pub struct DeskJournal<F: Device, N: JournalName> {
 
 impl<F: Device, N: JournalName> Model for DeskJournal<F, N> {
     ghost use Rattle.std.specs.Prelude.{◌≡◌, ◌≤◌, length, take, true, false};
-    ghost use Rattle.kept_journal.specs.Keeping.{GoesOn};
+    ghost use Rattle.kept_journal.specs.Keeping.{HasEntries, MeansKept};
     ghost use Rattle.kept_journal.specs.Written.{Written};
 
     ghost Value = { Written };
 
     ghost view = { λ j. record { entries = take j.entries j.front; seen = j.front; chain = j.file.chain } };
 
-    ghost invariant = { λ j. (j.entries ≤ length j.front) × (j.file.is_broken ≡ false → GoesOn F.contents F.kept N.keeps (take j.entries j.front) j.file) × (j.is_kept ≡ true → F.kept j.file.file ≡ F.contents j.file.file) };
+    ghost invariant = { λ j. (j.entries ≤ length j.front) × (j.file.is_broken ≡ false → HasEntries F.tells N.opening (take j.entries j.front) (F.contents j.file.file) j.file.chain) × (j.is_kept ≡ true → F.kept j.file.file ≡ F.contents j.file.file) × MeansKept F.tells F.kept N.opening N.keeps };
 }
 
 impl<F: Device, N: JournalName> DeskJournal<F, N> {
     /// The journal of a desk in a file that has none of its lines yet. The front is of the desk.
     pub fn new(file: JournalFile<F>, front: Front<N>) -> DeskJournal<F, N>
-        requires { MeansKept F.kept N.keeps (F.contents file.file) file.chain }
+        requires file { IsOf F.tells F.contents N.opening file }
+        requires means { MeansKept F.tells F.kept N.opening N.keeps }
         ensures { result.entries ≡ [] }
     {
         DeskJournal {
@@ -61,9 +62,18 @@ impl<F: Device, N: JournalName> DeskJournal<F, N> {
         &self.file
     }
 
-    /// The file alone.
-    pub fn into_file(self) -> JournalFile<F> {
-        self.file
+    /// The file of the journal, which leads to the state that the desk was closed with. Where it has not all of the desk's journal,
+    /// nothing is kept in it any more.
+    pub fn end(self, closed: &Closed<N>) -> JournalFile<F>
+        ensures { IsOf F.tells F.contents closed.now.state result }
+    {
+        let is_whole = self.entries == closed.journal().len() as u64
+            && closed.begins_with(&self.front);
+        let mut file = self.file;
+        if !is_whole {
+            file.break_down();
+        }
+        file
     }
 
     /// Nothing is kept from now on.

@@ -59,7 +59,9 @@ impl<F> JournalFile<F> {
     }
 
     /// Nothing is kept from now on.
-    pub fn break_down(&mut self) {
+    pub fn break_down(&mut self)
+        ensures { self.new.is_broken ≡ true }
+    {
         self.is_broken = true;
     }
 }
