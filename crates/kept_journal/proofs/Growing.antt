@@ -45,7 +45,7 @@ pub entries_grow : (tells : Bool) (opened : State) (entries more : List Entry) (
     → HasEntries tells opened (entries ++ more) new (chain_past last (event_lines (kept_in more)))
 entries_grow tells opened entries more old new last h said a told =
     let known = h told in
-    appended opened entries more known.0 new last known.1.1 said (subst (λ (bytes : Option (List ℕ)). Appends bytes new (bytes_of last (event_lines (kept_in more)))) known.1.0 a)
+    appended opened entries more known.0 new last known.2 said (subst (λ (bytes : Option (List ℕ)). Appends bytes new (bytes_of last (event_lines (kept_in more)))) known.1 a)
 
 -- where they have no line, it stays as it is
 pub entries_stay : (tells : Bool) (opened : State) (entries more : List Entry) (bytes : Option (List ℕ)) (last : Option Chain)
@@ -54,8 +54,8 @@ pub entries_stay : (tells : Bool) (opened : State) (entries more : List Entry) (
 entries_stay tells opened entries more bytes last h said none told =
     let known = h told in (
       known.0,
-      known.1.0,
-      subst (λ (b : List ℕ). HasJournal opened (entries ++ more) b (chain_past last (event_lines (kept_in more)))) (ap (λ (b : List ℕ). known.0 ++ b) none ∙ append-nil known.0) (journal_grows opened entries more known.0 last known.1.1 said),
+      known.1,
+      subst (λ (b : List ℕ). HasJournal opened (entries ++ more) b (chain_past last (event_lines (kept_in more)))) (ap (λ (b : List ℕ). known.0 ++ b) none ∙ append-nil known.0) (journal_grows opened entries more known.0 last known.2 said),
     )
 
 journal_ends : (opened end : State) (entries : List Entry) (bytes : List ℕ) (last : Option Chain) → HasJournal opened entries bytes last → IsLegal opened entries end → HasJournal end [] bytes last
@@ -73,4 +73,4 @@ journal_ends opened end entries bytes last h legal =
 pub entries_end : (tells : Bool) (opened end : State) (entries : List Entry) (bytes : Option (List ℕ)) (last : Option Chain)
     → HasEntries tells opened entries bytes last → IsLegal opened entries end → HasEntries tells end [] bytes last
 entries_end tells opened end entries bytes last h legal told =
-    let known = h told in (known.0, known.1.0, journal_ends opened end entries known.0 last known.1.1 legal)
+    let known = h told in (known.0, known.1, journal_ends opened end entries known.0 last known.2 legal)

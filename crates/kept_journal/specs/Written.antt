@@ -14,11 +14,15 @@ pub record Written : Type 0 where
   pub seen : List Entry
   pub chain : Option Chain
 
+-- the lines are those of entries, behind a line with this digest
+pub record AreLinesOf (chain : Option Chain) (entries : List Entry) (news : News) : Type 0 where
+  pub said : AreSaid (kept_in entries)
+  pub count : news.entries ≡ length entries
+  pub bytes : news.lines.bytes ≡ bytes_of chain (event_lines (kept_in entries))
+  pub last : news.lines.chain ≡ chain_past chain (event_lines (kept_in entries))
+
 -- the lines are those of the entries that come next
 pub record AreNews (written : Written) (news : News) : Type 0 where
   pub these : List Entry
   pub next : IsPrefix (written.entries ++ these) written.seen
-  pub said : AreSaid (kept_in these)
-  pub count : news.entries ≡ length these
-  pub bytes : news.lines.bytes ≡ bytes_of written.chain (event_lines (kept_in these))
-  pub chain : news.lines.chain ≡ chain_past written.chain (event_lines (kept_in these))
+  pub lines : AreLinesOf written.chain these news

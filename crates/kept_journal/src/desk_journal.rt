@@ -1,5 +1,6 @@
 //! The journal of a desk in a file.
-ghost use Rattle.std.specs.Prelude.{◌≡◌, ◌++◌, [], IfOk};
+ghost use Rattle.std.specs.Prelude.{◌≡◌, [], IfOk, IsTrue};
+ghost use Rattle.journal_entries.specs.Legal.{IsLegal};
 ghost use Rattle.kept_journal.specs.Keeping.{IsOf, MeansKept};
 ghost use Rattle.kept_journal.specs.Written.{AreNews};
 
@@ -8,7 +9,7 @@ use crate::journal_file::JournalFile;
 use crate::journal_name::JournalName;
 use crate::news::News;
 use alloc_desk::{Closed, Desk, Front, Pass};
-use durable_journal::{Device, journal_lines};
+use durable_journal::Device;
 use std::alloc::{AllocError, Global};
 use std::io;
 use std::marker::Model;
@@ -39,7 +40,7 @@ impl<F: Device, N: JournalName> Model for DeskJournal<F, N> {
 
     ghost view = { λ j. record { entries = take j.entries j.front; seen = j.front; chain = j.file.chain } };
 
-    ghost invariant = { λ j. (j.entries ≤ length j.front) × (j.file.is_broken ≡ false → HasEntries F.tells N.opening (take j.entries j.front) (F.contents j.file.file) j.file.chain) × (j.is_kept ≡ true → F.kept j.file.file ≡ F.contents j.file.file) × MeansKept F.tells F.kept N.opening N.keeps };
+    ghost invariant = { λ j. (j.entries ≤ length j.front) × (j.file.is_broken ≡ false → HasEntries F.tells N.opening (take j.entries j.front) (F.contents j.file.file) j.file.chain × (j.is_kept ≡ true → F.kept j.file.file ≡ F.contents j.file.file)) × MeansKept F.tells F.kept N.opening N.keeps };
 }
 
 impl<F: Device, N: JournalName> DeskJournal<F, N> {
@@ -67,13 +68,19 @@ impl<F: Device, N: JournalName> DeskJournal<F, N> {
     pub fn end(self, closed: &Closed<N>) -> JournalFile<F>
         ensures { IsOf F.tells F.contents closed.now.state result }
     {
-        let is_whole = self.entries == closed.journal().len() as u64
-            && closed.begins_with(&self.front);
-        let mut file = self.file;
-        if !is_whole {
-            file.break_down();
+        if self.is_whole(closed) {
+            self.file
+        } else {
+            self.file.broken()
         }
-        file
+    }
+
+    /// Whether the file has all of the desk's journal.
+    fn is_whole(&self, closed: &Closed<N>) -> bool
+        ensures whole { IsTrue result → self.now.entries ≡ closed.now.journal }
+        ensures legal { IsLegal N.opening closed.now.journal closed.now.state }
+    {
+        self.entries == closed.journal().len() as u64 && closed.begins_with(&self.front)
     }
 
     /// Nothing is kept from now on.
@@ -96,16 +103,9 @@ impl<F: Device, N: JournalName> DeskJournal<F, N> {
         let entries = self
             .front
             .entries(rt, desk, pass, alloc, from, MOST_AT_ONCE)?;
-        let lines = journal_lines(alloc, self.file.chain, entries.as_slice());
-        let count = entries.len();
+        let news = News::of(alloc, self.file.chain, entries.as_slice());
         drop(entries);
-        match lines {
-            Ok(lines) => Ok(News {
-                entries: count,
-                lines,
-            }),
-            Err(error) => Err(error),
-        }
+        news
     }
 
     /// Writes what is new, and has the device keep it. After an `Err` nothing is kept any more.
@@ -113,18 +113,10 @@ impl<F: Device, N: JournalName> DeskJournal<F, N> {
         requires { AreNews self.old news.now }
         ensures { IfOk result (λ d. d ≡ self.new.entries) }
     {
-        if self.file.is_broken {
-            return Err(io::ErrorKind::Other.into());
-        }
-        if !self.is_kept {
-            self.file.keep()?;
-            self.is_kept = true;
-        }
-        if news.lines.bytes.is_empty() {
-            self.file.chain = news.lines.chain;
-        } else {
-            self.file.append(&news.lines)?;
-        }
+        self.file.write(&news.lines, self.is_kept)?;
+        self.is_kept = true;
+        // (what was seen is counted in 64 bits)
+        let _seen = self.front.len();
         self.entries += news.entries as u64;
         Ok(Durable::new(self.front.again(), self.entries))
     }

@@ -1,5 +1,5 @@
 //! The file of a journal.
-ghost use Rattle.std.specs.Prelude.{◌≡◌, OnErr, OnOk, true};
+ghost use Rattle.std.specs.Prelude.{◌≡◌, OnErr, OnOk, false, true};
 ghost use Rattle.std.specs.Io.KnownBytes.{Appends};
 
 use durable_journal::{Begun, Device, Lines, append};
@@ -66,15 +66,49 @@ impl<F> JournalFile<F> {
     }
 }
 
+impl<F> JournalFile<F> {
+    /// The file, in which nothing is kept from now on.
+    pub(crate) fn broken(mut self) -> JournalFile<F>
+        ensures { result.is_broken ≡ true }
+    {
+        self.is_broken = true;
+        self
+    }
+}
+
 impl<F: Device> JournalFile<F> {
-    /// Has the device keep what the file has. Where it fails nothing is kept any more.
-    pub(crate) fn keep(&mut self) -> io::Result<()>
-        ensures bytes { F.contents self.new.file ≡ F.contents self.old.file }
+    /// Writes lines behind those that are there, and has the device keep all that it has, where it does not yet. Where it fails nothing is kept any
+    /// more.
+    pub(crate) fn write(&mut self, lines: &Lines, is_kept: bool) -> io::Result<()>
+        requires kept { self.old.is_broken ≡ false → is_kept ≡ true → F.kept self.old.file ≡ F.contents self.old.file }
+        ensures bytes { OnOk result (Appends (F.contents self.old.file) (F.contents self.new.file) lines.now.bytes) }
         ensures kept { OnOk result (F.kept self.new.file ≡ F.contents self.new.file) }
-        ensures chain { self.new.chain ≡ self.old.chain }
-        ensures broken { OnOk result (self.new.is_broken ≡ self.old.is_broken) }
+        ensures chain { OnOk result (self.new.chain ≡ lines.now.chain) }
+        ensures whole { OnOk result (self.old.is_broken ≡ false) }
         ensures err { OnErr result (self.new.is_broken ≡ true) }
     {
+        if self.is_broken {
+            return Err(io::ErrorKind::Other.into());
+        }
+        self.keep(is_kept)?;
+        if lines.bytes.is_empty() {
+            self.chain = lines.chain;
+            Ok(())
+        } else {
+            self.append(lines)
+        }
+    }
+
+    /// Has the device keep what the file has, where it does not yet.
+    fn keep(&mut self, is_kept: bool) -> io::Result<()>
+        requires kept { is_kept ≡ true → F.kept self.old.file ≡ F.contents self.old.file }
+        ensures bytes { OnOk result (F.contents self.new.file ≡ F.contents self.old.file) }
+        ensures kept { OnOk result (F.kept self.new.file ≡ F.contents self.new.file) }
+        ensures err { OnErr result (self.new.is_broken ≡ true) }
+    {
+        if is_kept {
+            return Ok(());
+        }
         let kept = self.file.keep();
         if kept.is_err() {
             self.is_broken = true;
@@ -82,15 +116,14 @@ impl<F: Device> JournalFile<F> {
         kept
     }
 
-    /// Writes lines behind those that are there, and has the device keep them. Where it fails nothing is kept any more.
-    pub(crate) fn append(&mut self, lines: &Lines) -> io::Result<()>
+    /// Writes lines behind those that are there, and has the device keep them.
+    fn append(&mut self, lines: &Lines) -> io::Result<()>
         ensures bytes { OnOk result (Appends (F.contents self.old.file) (F.contents self.new.file) lines.now.bytes) }
         ensures kept { OnOk result (F.kept self.new.file ≡ F.contents self.new.file) }
         ensures chain { OnOk result (self.new.chain ≡ lines.now.chain) }
-        ensures broken { OnOk result (self.new.is_broken ≡ self.old.is_broken) }
         ensures err { OnErr result (self.new.is_broken ≡ true) }
     {
-        match self.written(lines) {
+        match self.appended(lines) {
             Ok(()) => {
                 self.grown = self.grown.saturating_add(lines.bytes.len() as u64);
                 self.chain = lines.chain;
@@ -103,10 +136,9 @@ impl<F: Device> JournalFile<F> {
         }
     }
 
-    fn written(&mut self, lines: &Lines) -> io::Result<()>
+    fn appended(&mut self, lines: &Lines) -> io::Result<()>
         ensures bytes { OnOk result (Appends (F.contents self.old.file) (F.contents self.new.file) lines.now.bytes) }
         ensures kept { OnOk result (F.kept self.new.file ≡ F.contents self.new.file) }
-        ensures broken { self.new.is_broken ≡ self.old.is_broken }
     {
         self.file.check()?;
         append(&mut self.file, lines.bytes.as_slice())

@@ -1,4 +1,6 @@
 //! How much of a desk's journal a device keeps, and who waits for it.
+ghost use Rattle.std.specs.Prelude.{◌≡◌, None, IfOk};
+
 use crate::durable::Durable;
 use crate::journal_name::JournalName;
 use alloc_desk::Front;
@@ -92,7 +94,9 @@ impl<N: JournalName> Kept<N> {
     }
 
     /// The same device once more, where there is one.
-    pub fn shared(kept: &Option<Arc<Kept<N>>>) -> Result<Option<Arc<Kept<N>>>, AllocError> {
+    pub fn shared(kept: &Option<Arc<Kept<N>>>) -> Result<Option<Arc<Kept<N>>>, AllocError>
+        ensures { IfOk result (λ shared. shared ≡ None → kept.now ≡ None) }
+    {
         match kept {
             Some(kept) => Ok(Some(Arc::try_clone(kept)?)),
             None => Ok(None),
