@@ -1,17 +1,19 @@
 //! The service over one desk.
 ghost use Rattle.std.specs.Prelude.{◌≡◌, IfOk};
+ghost use Rattle.kept_journal.specs.Keeping.{MeansKeptIn};
 ghost use Rattle.service_tasks.specs.Later.{IsLater};
 
 use crate::running::Served;
-use alloc_desk::{Desk, DeskName, Log, Pass};
+use alloc_desk::{Desk, Log, Pass};
 use allocation_core::Core;
 use durable_journal::Device;
 use event_loops::{Gate, Times};
 use file_configs::ReadFiles;
 use http_get::FetchSeveral;
+use kept_journal::{DeskJournal, JournalName, Kept};
 use sd_server::{Handler, ListTexts};
-use service_state::Kept;
-use service_tasks::{Configuration, Crew, Ending, Office, Service, Shared};
+use service_state::{ConfigPages, Kept, ServiceState};
+use service_tasks::{Configuration, Crew, Ending, Office, Service, Shared, kept_of};
 use std::alloc::{AllocError, AllocGlobal, Global};
 use std::io;
 use std::net::{Net, TcpListener, TcpStream};
@@ -49,7 +51,7 @@ where
         + Drop,
     L: Ledger + Send + Sync,
     B: Ledger + Send + Sync,
-    N: DeskName + Send + Sync,
+    N: JournalName + Send + Sync,
     S: FetchSeveral + ReadFiles + Send + Drop,
     F: Device + Send,
     C: Configuration + Send + Drop,
@@ -57,11 +59,20 @@ where
     requires calls { (calls.name ≡ L.name) × (calls.parts ≡ L.parts) × (L.parts ≡ SEATS) }
     requires samples { (samples.name ≡ B.name) × (samples.parts ≡ B.parts) × (B.parts ≡ SEATS) }
     requires log { log ≡ N.book }
+    requires keeps { MeansKeptIn F.contents F.kept N.keeps office.old.journal.file }
     ensures { IfOk result (λ r. IsLater N.opening r.0) }
 {
     match Desk::<L, B, N>::open(alloc, core, SEATS, calls, samples, log) {
-        Ok((desk, passes)) => serve_open(rt, alloc, service, office, desk, passes),
-        Err(_) => Err(AllocError.into()),
+        Ok((desk, passes)) => {
+            let mut journal = office.journal.of_desk(desk.front(rt));
+            let served = serve_open(rt, alloc, service, office, &mut journal, desk, passes);
+            office.journal.take_back(journal);
+            served
+        }
+        Err(core) => {
+            drop(core);
+            Err(AllocError.into())
+        }
     }
 }
 
@@ -71,6 +82,7 @@ fn serve_open<R, L, B, N, S, F, C>(
     alloc: Global,
     service: &Service,
     office: &mut Office<S, F, C>,
+    journal: &mut Option<DeskJournal<F, N>>,
     desk: Desk<L, B, N>,
     mut passes: Vec<Pass<L, B, N>>,
 ) -> io::Result<(Core, Ending)>
@@ -88,7 +100,7 @@ where
         + Drop,
     L: Ledger + Send + Sync,
     B: Ledger + Send + Sync,
-    N: DeskName + Send + Sync,
+    N: JournalName + Send + Sync,
     S: FetchSeveral + ReadFiles + Send + Drop,
     F: Device + Send,
     C: Configuration + Send + Drop,
@@ -102,8 +114,8 @@ where
         drop((desk, asked));
         return Err(AllocError.into());
     };
-    match handler_of(rt, alloc, office, desk, asked) {
-        Ok(handler) => serve_by(rt, service, office, handler, crew),
+    match handler_of(rt, alloc, office, journal, desk, asked) {
+        Ok(handler) => serve_by(rt, service, office, journal, handler, crew),
         Err(AllocError) => {
             drop(crew);
             Err(AllocError.into())
@@ -116,6 +128,7 @@ fn serve_by<R, L, B, N, S, F, C>(
     rt: &R,
     service: &Service,
     office: &mut Office<S, F, C>,
+    journal: &mut Option<DeskJournal<F, N>>,
     handler: Handler<R, L, B, N>,
     mut crew: Crew<L, B, N>,
 ) -> io::Result<(Core, Ending)>
@@ -133,13 +146,13 @@ where
         + Drop,
     L: Ledger + Send + Sync,
     B: Ledger + Send + Sync,
-    N: DeskName + Send + Sync,
+    N: JournalName + Send + Sync,
     S: FetchSeveral + ReadFiles + Send + Drop,
     F: Device + Send,
     C: Configuration + Send + Drop,
     ensures { IfOk result (λ r. IsLater N.opening r.0) }
 {
-    match run(rt, service, office, &handler, &mut crew) {
+    match run(rt, service, office, journal, &handler, &mut crew) {
         Ok(ending) => ended(handler, crew, ending),
         Err(error) => {
             drop((handler, crew));
@@ -149,35 +162,109 @@ where
 }
 
 /// What requests are handled with.
-fn handler_of<R: Wait + Copy, L: Ledger, B: Ledger, N: DeskName, S, F, C>(
+fn handler_of<R: Wait + Copy, L: Ledger, B: Ledger, N: JournalName, S, F: Device, C>(
     rt: &R,
     alloc: Global,
     office: &Office<S, F, C>,
+    journal: &Option<DeskJournal<F, N>>,
     desk: Desk<L, B, N>,
     asked: Pass<L, B, N>,
 ) -> Result<Handler<R, L, B, N>, AllocError> {
-    let desk = shared(alloc, desk)?;
-    let pass = shared(alloc, Mutex::new(asked))?;
-    let kept = office.kept(rt, alloc)?;
-    let texts = shared(alloc, ListTexts::new(alloc))?;
-    let pages = Arc::try_clone(&office.pages)?;
-    let state = Arc::try_clone(&office.state)?;
-    let doors = Arc::try_clone(&office.doors)?;
-    Ok(Handler {
-        rt: *rt,
-        alloc,
-        desk,
-        pass,
-        pages,
-        state,
-        kept,
-        texts,
-        doors,
-        epoch: office.journal.epoch,
-        peer: None,
-        time: None,
-        gate: None,
-    })
+    match Shown::of(rt, alloc, office, journal) {
+        Ok(shown) => handler_with(rt, alloc, office, shown, desk, asked),
+        Err(error) => {
+            drop((desk, asked));
+            Err(error)
+        }
+    }
+}
+
+/// What a handler shows beside its desk.
+#[derive(Drop)]
+struct Shown<N: JournalName> {
+    kept: Option<Arc<Kept<N>>>,
+    texts: Arc<ListTexts<N>>,
+    pages: Arc<ConfigPages>,
+    state: Arc<ServiceState>,
+}
+
+impl<N: JournalName> Shown<N> {
+    fn of<R: Wait, S, F: Device, C>(
+        rt: &R,
+        alloc: Global,
+        office: &Office<S, F, C>,
+        journal: &Option<DeskJournal<F, N>>,
+    ) -> Result<Shown<N>, AllocError> {
+        let kept = kept_of(rt, alloc, journal)?;
+        let texts = shared(alloc, ListTexts::new(alloc))?;
+        let pages = Arc::try_clone(&office.pages)?;
+        let state = Arc::try_clone(&office.state)?;
+        Ok(Shown {
+            kept,
+            texts,
+            pages,
+            state,
+        })
+    }
+}
+
+fn handler_with<R: Copy, L: Ledger, B: Ledger, N: JournalName, S, F, C>(
+    rt: &R,
+    alloc: Global,
+    office: &Office<S, F, C>,
+    shown: Shown<N>,
+    desk: Desk<L, B, N>,
+    asked: Pass<L, B, N>,
+) -> Result<Handler<R, L, B, N>, AllocError> {
+    let doors = match Arc::try_clone(&office.doors) {
+        Ok(doors) => doors,
+        Err(error) => {
+            drop((shown, desk, asked));
+            return Err(error);
+        }
+    };
+    match seated(alloc, desk, asked) {
+        Ok((desk, pass)) => Ok(Handler {
+            rt: *rt,
+            alloc,
+            desk,
+            pass,
+            pages: shown.pages,
+            state: shown.state,
+            kept: shown.kept,
+            texts: shown.texts,
+            doors,
+            epoch: office.journal.epoch,
+            peer: None,
+            time: None,
+            gate: None,
+        }),
+        Err(error) => {
+            drop((shown, doors));
+            Err(error)
+        }
+    }
+}
+
+/// A desk and the pass of its server, as threads share them.
+fn seated<L: Ledger, B: Ledger, N: JournalName>(
+    alloc: Global,
+    desk: Desk<L, B, N>,
+    asked: Pass<L, B, N>,
+) -> Result<(Arc<Desk<L, B, N>>, Arc<Mutex<Pass<L, B, N>>>), AllocError> {
+    match shared(alloc, desk) {
+        Ok(desk) => match shared(alloc, Mutex::new(asked)) {
+            Ok(pass) => Ok((desk, pass)),
+            Err(error) => {
+                drop(desk);
+                Err(error)
+            }
+        },
+        Err(error) => {
+            drop(asked);
+            Err(error)
+        }
+    }
 }
 
 /// The gate of a server with as many connections as the office has.
@@ -194,6 +281,7 @@ fn run<R, L, B, N, S, F, C>(
     rt: &R,
     service: &Service,
     office: &mut Office<S, F, C>,
+    journal: &mut Option<DeskJournal<F, N>>,
     handler: &Handler<R, L, B, N>,
     crew: &mut Crew<L, B, N>,
 ) -> io::Result<Ending>
@@ -211,27 +299,35 @@ where
         + Drop,
     L: Ledger + Send + Sync,
     B: Ledger + Send + Sync,
-    N: DeskName + Send + Sync,
+    N: JournalName + Send + Sync,
     S: FetchSeveral + ReadFiles + Send + Drop,
     F: Device + Send,
     C: Configuration + Send + Drop,
 {
     let gate = gate_of(handler.alloc, office)?;
     let shared = shared_by(rt, service, office, handler)?;
-    shared.begin(&mut crew.scheduler, service, office)?;
-    let served = Served {
-        rt: *rt,
-        alloc: handler.alloc,
-        shared: &shared,
-        handler,
-        gate: &gate,
+    let ending = match shared.begin(&mut crew.scheduler, service, office) {
+        Ok(()) => {
+            let served = Served {
+                rt: *rt,
+                alloc: handler.alloc,
+                shared: &shared,
+                handler,
+                gate: &gate,
+            };
+            match served.run(office, journal, crew) {
+                Ok(()) => Ok(shared.ending()),
+                Err(error) => Err(error),
+            }
+        }
+        Err(error) => Err(error.into()),
     };
-    served.run(office, crew)?;
-    Ok(shared.ending())
+    drop((shared, gate));
+    ending
 }
 
 /// What the threads over a handler's desk share.
-fn shared_by<R: Wait + Copy, L: Ledger, B: Ledger, N: DeskName, S, F, C>(
+fn shared_by<R: Wait + Copy, L: Ledger, B: Ledger, N: JournalName, S, F, C>(
     rt: &R,
     service: &Service,
     office: &Office<S, F, C>,
@@ -243,7 +339,7 @@ fn shared_by<R: Wait + Copy, L: Ledger, B: Ledger, N: DeskName, S, F, C>(
 }
 
 /// Closes the desk of a handler and a crew whose threads have ended.
-fn ended<R: Drop, L: Ledger, B: Ledger, N: DeskName>(
+fn ended<R: Drop, L: Ledger, B: Ledger, N: JournalName>(
     handler: Handler<R, L, B, N>,
     crew: Crew<L, B, N>,
     ending: Ending,
@@ -263,33 +359,49 @@ fn ended<R: Drop, L: Ledger, B: Ledger, N: DeskName>(
 }
 
 /// Closes the desk of a handler whose threads have ended.
-fn closed<R: Drop, L: Ledger, B: Ledger, N: DeskName>(
+fn closed<R: Drop, L: Ledger, B: Ledger, N: JournalName>(
     handler: Handler<R, L, B, N>,
-    mut passes: Vec<Pass<L, B, N>>,
+    passes: Vec<Pass<L, B, N>>,
 ) -> io::Result<Core>
     ensures { IfOk result (IsLater N.opening) }
 {
-    let Handler {
-        rt: _,
-        alloc: _,
-        desk,
-        pass,
-        pages: _,
-        state: _,
-        kept: _,
-        texts: _,
-        doors: _,
-        epoch: _,
-        peer: _,
-        time: _,
-        gate: _,
-    } = handler;
-    let (Some(desk), Some(pass)) = (Arc::into_inner(desk), Arc::into_inner(pass)) else {
-        return Err(io::ErrorKind::ResourceBusy.into());
-    };
-    passes.push(pass.into_inner())?;
+    let (desk, pass) = desk_of(handler);
+    let (desk, passes) = brought_back(desk, pass, passes)?;
     match desk.close(passes) {
         Ok(closed) => Ok(closed.into_core()),
-        Err(_) => Err(io::ErrorKind::ResourceBusy.into()),
+        Err(missing) => {
+            drop(missing);
+            Err(io::ErrorKind::ResourceBusy.into())
+        }
+    }
+}
+
+/// The desk of a handler, and the pass of its server.
+fn desk_of<R: Drop, L: Ledger, B: Ledger, N: JournalName>(
+    handler: Handler<R, L, B, N>,
+) -> (Arc<Desk<L, B, N>>, Arc<Mutex<Pass<L, B, N>>>) {
+    (handler.desk, handler.pass)
+}
+
+/// A desk with all its passes, where no thread has it or its server's pass any more.
+fn brought_back<L: Ledger, B: Ledger, N: JournalName>(
+    desk: Arc<Desk<L, B, N>>,
+    pass: Arc<Mutex<Pass<L, B, N>>>,
+    mut passes: Vec<Pass<L, B, N>>,
+) -> io::Result<(Desk<L, B, N>, Vec<Pass<L, B, N>>)> {
+    let Some(desk) = Arc::into_inner(desk) else {
+        drop((pass, passes));
+        return Err(io::ErrorKind::ResourceBusy.into());
+    };
+    let Some(pass) = Arc::into_inner(pass) else {
+        drop((desk, passes));
+        return Err(io::ErrorKind::ResourceBusy.into());
+    };
+    match passes.push(pass.into_inner()) {
+        Ok(()) => Ok((desk, passes)),
+        Err(refused) => {
+            drop((desk, passes));
+            Err(refused.into())
+        }
     }
 }

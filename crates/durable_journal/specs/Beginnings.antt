@@ -1,5 +1,5 @@
 -- The first line of a journal that is written in pieces.
-use Rattle.std.specs.Prelude.{◌≡◌, ℕ, List, [], ◌∷◌, length, nat_eq, Option, true}
+use Rattle.std.specs.Prelude.{◌≡◌, ℕ, List, [], ◌∷◌, length, nat_eq, Option, Some, Bool, true}
 use Rattle.std.specs.Io.Iter.{u64_saturate}
 use Rattle.std.specs.Io.KnownBytes.{Appends}
 use Rattle.std.specs.List.{starts_with}
@@ -41,3 +41,10 @@ pub record IsBegun {F : Type 0} (contents : F → Option (List ℕ)) (first : Fi
   pub form : Appends (contents old) (contents begun.file) (sealed start (line ∷ []))
   pub chain : begun.chain ≡ behind start line
   pub bytes : begun.bytes ≡ u64_saturate (length (sealed start (line ∷ [])))
+
+-- The text stands alone in the file, with its digest and its line feed, where the file tells its bytes.
+pub record IsBegunAnew {F : Type 0} (tells : Bool) (contents : F → Option (List ℕ)) (first : FirstLine) (begun : Begun F) : Type 0 where
+  pub line : List ℕ
+  pub says : IsLine first line
+  pub form : tells ≡ true → contents begun.file ≡ Some (sealed start (line ∷ []))
+  pub chain : begun.chain ≡ behind start line
