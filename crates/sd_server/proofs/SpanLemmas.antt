@@ -88,5 +88,5 @@ entered_of opening event counts receipt before old new begun x =
     }
 
 pub answered_later : (a b : Span) (event : Event) (answer : Answer) → Moves a b → IsAnswered a event answer → IsAnswered b event answer
-answered_later a b event answer m (inl x) = inl (x.0, entered_later a b event x.0 m x.1.0, x.1.1)
+answered_later a b event answer m (inl x) = inl (x.0, entered_later a b event x.0 m x.1, x.2)
 answered_later a b event answer m (inr s) = inr (some_later a b (λ (h : History). IsIdle h.state event (Some answer)) m s)

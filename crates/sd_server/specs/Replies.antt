@@ -6,7 +6,8 @@ use Rattle.std.specs.declared.sync.ledger.Ledger as Ledger
 use Rattle.http.specs.declared.response.Response.{Response}
 use Rattle.http_body_util.specs.declared.full.Full.{Full}
 use Rattle.allocation_core.specs.State.{State}
-use Rattle.alloc_desk.specs.declared.name.DeskName as DeskName
+use Rattle.journal_entries.specs.declared.entry.Entry.{Entry as Line}
+use Rattle.kept_journal.specs.declared.journal_name.JournalName as JournalName
 use Rattle.sd_routes.specs.Gives.{Fails}
 use Rattle.sd_routes.specs.declared.ask.Ask.{Ask}
 use Rattle.sd_routes.specs.declared.ask.Ask.TheVariants as ask
@@ -14,7 +15,7 @@ use Rattle.sd_routes.specs.declared.request_error.RequestError.{RequestError}
 use Rattle.sd_routes.specs.declared.request_error.RequestError.TheVariants.{TooLong, Shape, Memory}
 use Rattle.sd_routes.specs.declared.responding.Said.{Said}
 use Rattle.sd_routes.specs.declared.responding.Said.TheVariants.{Refused}
-use Rattle.sd_server.specs.Entries.{Leads, MaySayEntry}
+use Rattle.sd_server.specs.Entries.{Leads, MaySayEntry, OnceKept}
 use Rattle.sd_server.specs.Says.{Says}
 use Rattle.sd_server.specs.Spans.{Span, Moves}
 use Rattle.sd_server.specs.Writing.{Writes}
@@ -51,16 +52,17 @@ SaysRouted span pages (Err error) said = said ≡ Refused error
 abbrev pub SaysAtMost : Span → ConfigPages → Result Ask RequestError → Said → Type 0
 SaysAtMost span pages came said = SaysRouted span pages came said ⊎ (said ≡ Refused Memory)
 
--- what the head of a request begins
-abbrev pub BeginsWith : Span → ConfigPages → Ask → Begun → Type 0
-BeginsWith span pages asked (begun.Told entry route) = (has_body asked ≡ false) × Leads (Says span pages asked []) entry
-BeginsWith span pages asked (begun.Reads read) = (read ≡ asked) × (has_body asked ≡ true)
+module _ {N K : Type 0} where
+  -- what the head of a request begins
+  abbrev pub BeginsWith : Option K → (List Line → Type 0) → Span → ConfigPages → Ask → Begun N → Type 0
+  BeginsWith kept keeps span pages asked (begun.Told entry route) = (has_body asked ≡ false) × Leads keeps (Says span pages asked []) entry × Leads keeps (OnceKept kept keeps span) entry
+  BeginsWith kept keeps span pages asked (begun.Reads read) = (read ≡ asked) × (has_body asked ≡ true)
 
-abbrev pub Begins : Span → ConfigPages → Result Ask RequestError → Begun → Type 0
-Begins span pages came (begun.Told entry route) = Leads (SaysAtMost span pages came) entry
-Begins span pages came (begun.Reads asked) = (came ≡ Ok asked) × (has_body asked ≡ true)
+  abbrev pub Begins : Option K → (List Line → Type 0) → Span → ConfigPages → Result Ask RequestError → Begun N → Type 0
+  Begins kept keeps span pages came (begun.Told entry route) = Leads keeps (SaysAtMost span pages came) entry × Leads keeps (OnceKept kept keeps span) entry
+  Begins kept keeps span pages came (begun.Reads asked) = (came ≡ Ok asked) × (has_body asked ≡ true)
 
-module _ {R L B N I : Type 0} {l : Ledger.Ghosts L} {b : Ledger.Ghosts B} {n : DeskName.Ghosts N} where
+module _ {R L B N I : Type 0} {l : Ledger.Ghosts L} {b : Ledger.Ghosts B} {n : JournalName.Ghosts N} where
   abbrev pub CanGoOn : Stage R L B N I l b n → Type 0
   CanGoOn (stage.Told entry) = Unit {0}
   CanGoOn (stage.Reading reading) = IsSome reading.body.collected
@@ -71,23 +73,25 @@ module _ {R L B N I : Type 0} {l : Ledger.Ghosts L} {b : Ledger.Ghosts B} {n : D
 
   -- what a stage may still say, once this has been seen of the journal: where a body is awaited, what is said to it then
   abbrev pub MaySay : Span → Stage R L B N I l b n → Said → Type 0
-  MaySay seen (stage.Told entry) said = MaySayEntry entry said
-  MaySay seen (stage.Reading reading) said = (later : Span) × Moves seen later × SaysRead later (arc_value reading.handler.pages) reading.ask said
+  MaySay seen (stage.Told entry) said = MaySayEntry n.keeps entry said
+  MaySay seen (stage.Reading reading) said =
+      (later : Span) × Moves seen later × SaysRead later (arc_value reading.handler.pages) reading.ask said × OnceKept reading.handler.kept n.keeps later said
 
   -- the written form of something that it may say
   abbrev pub Gives : Reply R L B N I l b n → Result (Response (Full (List ℕ))) AllocError → Type 0
   Gives reply given = IfOk given (λ response. (said : Said) × MaySay reply.seen reply.stage said × Writes reply.manner said response)
 
-  -- it reads the body of what is asked
-  abbrev pub Reads : ConfigPages → Ask → Stage R L B N I l b n → Type 0
-  Reads pages asked (stage.Told entry) = ⊥
-  Reads pages asked (stage.Reading reading) = (reading.ask ≡ asked) × (arc_value reading.handler.pages ≡ pages)
+  -- it reads the body of what is asked, and waits where that is to be kept
+  abbrev pub Reads : {K : Type 0} → Option K → ConfigPages → Ask → Stage R L B N I l b n → Type 0
+  Reads kept pages asked (stage.Told entry) = ⊥
+  Reads kept pages asked (stage.Reading reading) = (reading.ask ≡ asked) × (arc_value reading.handler.pages ≡ pages) × (IsSome kept → IsSome reading.handler.kept)
 
   -- whatever it says is what is said to such a request; or it reads the body of what is asked
-  abbrev pub IsTo : ConfigPages → Result Ask RequestError → Span → Stage R L B N I l b n → Type 0
-  IsTo pages came seen (stage.Told entry) = Leads (SaysAtMost seen pages came) entry
-  IsTo pages came seen (stage.Reading reading) = (came ≡ Ok reading.ask) × (has_body reading.ask ≡ true) × (arc_value reading.handler.pages ≡ pages)
+  abbrev pub IsTo : {K : Type 0} → Option K → ConfigPages → Result Ask RequestError → Span → Stage R L B N I l b n → Type 0
+  IsTo kept pages came seen (stage.Told entry) = Leads n.keeps (SaysAtMost seen pages came) entry × Leads n.keeps (OnceKept kept n.keeps seen) entry
+  IsTo kept pages came seen (stage.Reading reading) =
+      (came ≡ Ok reading.ask) × (has_body reading.ask ≡ true) × (arc_value reading.handler.pages ≡ pages) × (IsSome kept → IsSome reading.handler.kept)
 
   -- a reply to such a request, of the journal of a desk that was opened with a state
-  abbrev pub IsReplyTo : State → ConfigPages → Result Ask RequestError → Reply R L B N I l b n → Type 0
-  IsReplyTo opening pages came reply = (reply.seen.opening ≡ opening) × IsTo pages came reply.seen reply.stage
+  abbrev pub IsReplyTo : {K : Type 0} → State → Option K → ConfigPages → Result Ask RequestError → Reply R L B N I l b n → Type 0
+  IsReplyTo opening kept pages came reply = (reply.seen.opening ≡ opening) × IsTo kept pages came reply.seen reply.stage

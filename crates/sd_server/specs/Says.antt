@@ -1,5 +1,5 @@
 -- What a request is told.
-use Rattle.std.specs.Prelude.{◌≡◌, ◌⊎◌, ◌≤◌, ℕ, List, [], ◌∷◌, Option, Some, None, Result, Ok, Err, IsSome, codes, length, map, if◌then◌else◌}
+use Rattle.std.specs.Prelude.{◌≡◌, ◌⊎◌, ◌≤◌, ℕ, List, [], ◌∷◌, Option, Some, None, Result, Ok, Err, Bool, true, false, IsSome, codes, length, map, if◌then◌else◌}
 use mathlib.Core.List.{IsPrefix}
 use Rattle.fleet.specs.Fleet.{id_named, is_joined}
 use Rattle.fleet_events.specs.declared.event.Event.{Event}
@@ -386,9 +386,21 @@ SaysBy span pages asked (Ok (Some (Reports events))) said = SaysReports span eve
 SaysBy span pages asked (Ok None) said = SaysPage span pages asked said
 SaysBy span pages asked (Err error) said = SaysRefused error said
 
+-- it is an answer, or a list
+abbrev pub is_of_journal : Said → Bool
+is_of_journal (Answered answer) = true
+is_of_journal (Answers answers round) = true
+is_of_journal (ListOf head groups) = true
+is_of_journal _ = false
+
+-- there is an answer or a list, and it is not told, since the journal is not kept
+abbrev pub IsWithheld : (Said → Type 0) → Said → Type 0
+IsWithheld Tells said = (said ≡ Refused NotKept) × ((told : Said) × (is_of_journal told ≡ true) × Tells told)
+
 -- what is told in an epoch to a request with this body: a report of another epoch is refused
 unfoldable pub SaysIn : Span → ConfigPages → Ask → ℕ → List ℕ → Said → Type 0
-SaysIn span pages asked epoch body said = SaysBy span pages asked (event_said asked epoch body) said ⊎ (said ≡ Refused Memory)
+SaysIn span pages asked epoch body said =
+    SaysBy span pages asked (event_said asked epoch body) said ⊎ ((said ≡ Refused Memory) ⊎ IsWithheld (SaysBy span pages asked (event_said asked epoch body)) said)
 
 -- what is told to a request with this body, in the epoch that it is
 abbrev pub Says : Span → ConfigPages → Ask → List ℕ → Said → Type 0

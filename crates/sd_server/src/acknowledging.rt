@@ -1,17 +1,15 @@
 //! Lists that let targets go once they are acknowledged.
 ghost use Rattle.std.specs.Prelude.{IfOk, IfSome, IsSome};
 ghost use Rattle.std.specs.Arc.{arc_value};
-ghost use Rattle.sd_server.specs.Entries.{Leads};
 ghost use Rattle.sd_server.specs.Keeping.{FindsKept};
 ghost use Rattle.sd_server.specs.Says.{SaysAcknowledged, SaysServed};
 ghost use Rattle.sd_server.specs.Spans.{Moves, now_of};
 
-use crate::entry::Entry;
 use crate::handler::Handler;
 use crate::keeping::{Keeping, kept_at};
 use crate::seen::Seen;
-use alloc_desk::DeskName;
 use fleet_events::{AllocationNumber, CollectorId};
+use kept_journal::JournalName;
 use lists::Text;
 use sd_routes::{Acknowledgement, RequestError, Said};
 use service_state::FollowedList;
@@ -20,7 +18,7 @@ use std::sync::Wait;
 use std::sync::ledger::Ledger;
 use std::time::Clock;
 
-impl<R: Wait + Clock + Copy, L: Ledger, B: Ledger, N: DeskName> Handler<R, L, B, N> {
+impl<R: Wait + Clock + Copy, L: Ledger, B: Ledger, N: JournalName> Handler<R, L, B, N> {
     /// What a collector is served of a job. Where its last list has targets that another collector holds, and it did not tell that it
     /// follows a list without them, what that list keeps.
     #[tactic(auto, using(crate::proofs::SpanLemmas::moves_trans))]
@@ -30,15 +28,15 @@ impl<R: Wait + Clock + Copy, L: Ledger, B: Ledger, N: DeskName> Handler<R, L, B,
         place: usize,
         job: &Text,
         id: CollectorId,
-    ) -> Entry
+    ) -> Said
         requires { IsSome (arc_value self.now.pages).acknowledge }
-        ensures says { Leads (SaysServed seen.new (arc_value self.now.pages).acknowledge job.now place id) result }
+        ensures says { SaysServed seen.new (arc_value self.now.pages).acknowledge job.now place id result }
         ensures moves { Moves seen.old seen.new }
     {
         match self.kept(seen, place, id) {
             Ok(Some(kept)) => self.kept_list(seen, place, job, id, &kept),
             Ok(None) => self.served(seen, place, job, id),
-            Err(_) => Entry::Now(Said::Refused(RequestError::Memory)),
+            Err(_) => Said::Refused(RequestError::Memory),
         }
     }
 
@@ -68,7 +66,13 @@ impl<R: Wait + Clock + Copy, L: Ledger, B: Ledger, N: DeskName> Handler<R, L, B,
         ensures read { IfOk result (λ found. IfSome found (λ k. FindsKept (now_of seen.new).state place id k.look)) }
         ensures moves { Moves seen.old seen.new }
     {
-        self.read(seen, |record| kept_at(self.alloc, record, place, id))
+        let mut pass = self.pass.lock(&self.rt);
+        seen.latest.read(
+            &self.rt,
+            &self.desk,
+            &mut *pass,
+            |record| kept_at(self.alloc, record, place, id),
+        )
     }
 
     /// Whether what its last list has may be let go: nobody holds it, or the collector told that it follows a list without it.
@@ -103,7 +107,7 @@ impl<R: Wait + Clock + Copy, L: Ledger, B: Ledger, N: DeskName> Handler<R, L, B,
         }
     }
 
-    /// What its last list keeps, once so many entries of the journal are kept.
+    /// What its last list keeps.
     fn kept_list(
         &self,
         seen: &mut Seen<N>,
@@ -111,18 +115,17 @@ impl<R: Wait + Clock + Copy, L: Ledger, B: Ledger, N: DeskName> Handler<R, L, B,
         job: &Text,
         id: CollectorId,
         kept: &Keeping,
-    ) -> Entry
+    ) -> Said
         requires at { IsSome (arc_value self.now.pages).acknowledge }
         requires look { FindsKept (now_of seen.old).state place id kept.now.look }
-        ensures says { Leads (SaysServed seen.new (arc_value self.now.pages).acknowledge job.now place id) result }
+        ensures says { SaysServed seen.new (arc_value self.now.pages).acknowledge job.now place id result }
         ensures moves { Moves seen.old seen.new }
     {
         if self.is_broken() {
             seen.now();
-            return Entry::Now(Said::Refused(RequestError::NotKept));
+            return Said::Refused(RequestError::NotKept);
         }
-        let said = self.look_told(seen, &self.pages.acknowledge, place, job, id, &kept.look);
-        self.once_kept(kept.entries, said)
+        self.look_told(seen, &self.pages.acknowledge, place, job, id, &kept.look)
     }
 
     /// A collector tells that it follows a list: it scrapes that it does, and is given no figures. It is noted where that is to count.

@@ -6,8 +6,8 @@ ghost use Rattle.sd_server.specs.Spans.{Moves, now_of};
 
 use crate::handler::Handler;
 use crate::seen::Seen;
-use alloc_desk::DeskName;
 use fleet_events::Round;
+use kept_journal::JournalName;
 use lists::Text;
 use sd_routes::{BookCounts, BooksRow, JobBooks, RequestError, Said, books_page};
 use service_pages::{BookLine, Reporter, ShownBooks, books_document};
@@ -17,7 +17,7 @@ use std::sync::Wait;
 use std::sync::ledger::Ledger;
 use std::time::Clock;
 
-impl<R: Wait + Clock + Copy, L: Ledger, B: Ledger, N: DeskName> Handler<R, L, B, N> {
+impl<R: Wait + Clock + Copy, L: Ledger, B: Ledger, N: JournalName> Handler<R, L, B, N> {
     /// What was booked in the round that is asked for, or in the last one that is over.
     pub(crate) fn books(&self, seen: &mut Seen<N>, asked: Option<Round>) -> Said
         ensures says { SaysBooks seen.new asked result }
@@ -53,7 +53,13 @@ impl<R: Wait + Clock + Copy, L: Ledger, B: Ledger, N: DeskName> Handler<R, L, B,
         ensures read { IfOk result (IsBooks (now_of seen.new).state asked) }
         ensures moves { Moves seen.old seen.new }
     {
-        self.read(seen, |record| books_asked(self.alloc, record.core(), asked))
+        let mut pass = self.pass.lock(&self.rt);
+        seen.latest.read(
+            &self.rt,
+            &self.desk,
+            &mut *pass,
+            |record| books_asked(self.alloc, record.core(), asked),
+        )
     }
 
     /// The page of it for people.

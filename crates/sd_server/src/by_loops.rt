@@ -2,12 +2,12 @@
 use crate::handler::Handler;
 use crate::service::AllocatorService;
 use crate::spoken::Spoken;
-use alloc_desk::DeskName;
 use bytes::Bytes;
 use event_loops::{Connections, Exchanges, Gate, Limits, Paced, Serving, Socket, Timed, serve_all};
 use http_body_util::Full;
 use hyper::rt::TokioTimer;
 use hyper::server::conn::http1;
+use kept_journal::JournalName;
 use sd_routes::Routes;
 use std::alloc::{AllocError, AllocGlobal, Global};
 use std::hash::RandomState;
@@ -34,7 +34,7 @@ type Wire<R> = Socket<Spoken<tokio::net::TcpStream>, TokioTimer<R>>;
 
 /// What a loop serves its connections with.
 #[derive(Drop)]
-struct Host<'a, R, L: Ledger, B: Ledger, N: DeskName> {
+struct Host<'a, R, L: Ledger, B: Ledger, N: JournalName> {
     handler: Handler<R, L, B, N>,
     routes: Arc<Routes>,
     http: http1::Builder<TokioTimer<R>>,
@@ -43,7 +43,7 @@ struct Host<'a, R, L: Ledger, B: Ledger, N: DeskName> {
     connections: Connections,
 }
 
-impl<R: Wait + Clock + AllocGlobal + Copy + Drop, L: Ledger, B: Ledger, N: DeskName> Host<
+impl<R: Wait + Clock + AllocGlobal + Copy + Drop, L: Ledger, B: Ledger, N: JournalName> Host<
     '_,
     R,
     L,
@@ -143,7 +143,7 @@ impl<R: Wait + Clock + AllocGlobal + Copy + Drop, L: Ledger, B: Ledger, N: DeskN
     }
 }
 
-impl<R: Wait + Clock + AllocGlobal + Copy + Drop, L: Ledger, B: Ledger, N: DeskName> Serving
+impl<R: Wait + Clock + AllocGlobal + Copy + Drop, L: Ledger, B: Ledger, N: JournalName> Serving
     for Host<'_, R, L, B, N> {
     type Conn = Timed<
         http1::Connection<Wire<R>, Paced<AllocatorService<R, L, B, N>>, Full<Bytes>, TokioTimer<R>>,
@@ -207,7 +207,7 @@ pub fn serve_by_loops<
     R,
     L: Ledger + Send + Sync,
     B: Ledger + Send + Sync,
-    N: DeskName + Send + Sync,
+    N: JournalName + Send + Sync,
 >(
     rt: &R,
     alloc: Global,
@@ -241,7 +241,7 @@ where
 }
 
 /// Serves connections on this thread until the gate is stopped. Where it finds no memory to begin, it begins again after a pause.
-fn serve_here<R, L: Ledger, B: Ledger, N: DeskName>(
+fn serve_here<R, L: Ledger, B: Ledger, N: JournalName>(
     rt: &R,
     gate: &Arc<Gate>,
     listener: &TcpListener,
@@ -268,7 +268,7 @@ where
     unreachable!()
 }
 
-fn serve_until_stopped<R, L: Ledger, B: Ledger, N: DeskName>(
+fn serve_until_stopped<R, L: Ledger, B: Ledger, N: JournalName>(
     rt: &R,
     gate: &Arc<Gate>,
     listener: &TcpListener,
@@ -293,7 +293,7 @@ where
 }
 
 /// What a loop serves its connections with.
-fn host_of<'a, R, L: Ledger, B: Ledger, N: DeskName>(
+fn host_of<'a, R, L: Ledger, B: Ledger, N: JournalName>(
     rt: &R,
     runtime: &LocalRuntime,
     gate: &'a Arc<Gate>,

@@ -8,20 +8,20 @@ ghost use Rattle.alloc_desk.specs.History.{history_of};
 ghost use Rattle.alloc_desk.specs.Views.{numbered_of};
 ghost use Rattle.service_state.specs.Jobs.{place_of};
 ghost use Rattle.sd_server.specs.Listing.{AreGroups, AreKnown, IsGroups, IsListText};
-ghost use Rattle.sd_server.specs.Entries.{Leads};
 ghost use Rattle.sd_server.specs.Looks.{HeadIs, IsLook};
+ghost use Rattle.sd_server.specs.Texts.{groups_text};
 ghost use Rattle.sd_server.specs.Spans.{Moves, now_of};
 ghost use Rattle.sd_server.specs.Says.{IsAnswered, SaysCollector, SaysCopy, SaysGiven, SaysGone, SaysHeld, SaysList, SaysLook, SaysLookOf, SaysNot, SaysGroups, SaysServed, SaysTold};
 
-use crate::entry::Entry;
 use crate::handler::Handler;
 use crate::list_text::ListText;
 use crate::look::{Look, look_at};
 use crate::seen::Seen;
-use alloc_desk::{DeskName, Front};
+use alloc_desk::Front;
 use allocation_core::{Answer, Core, Event, Refusal};
 use bytes::Bytes;
 use fleet_events::{AllocationNumber, CollectorId, Round, TargetId};
+use kept_journal::JournalName;
 use lists::{List, Plain, Text};
 use reach_rules::CollectorName;
 use sd_routes::{ListHead, RequestError, Said, acknowledged_list, targets_page};
@@ -31,7 +31,7 @@ use std::sync::{Arc, Wait};
 use std::time::Clock;
 use target_shares::NumberedTarget;
 
-impl<R: Wait + Clock + Copy, L: Ledger, B: Ledger, N: DeskName> Handler<R, L, B, N> {
+impl<R: Wait + Clock + Copy, L: Ledger, B: Ledger, N: JournalName> Handler<R, L, B, N> {
     /// What is told of a job to who asks under a name: by an event that changes something where there is one to be, or without one.
     pub(crate) fn collector(
         &self,
@@ -39,13 +39,13 @@ impl<R: Wait + Clock + Copy, L: Ledger, B: Ledger, N: DeskName> Handler<R, L, B,
         job: &Text,
         name: &CollectorName,
         takes: bool,
-    ) -> Entry
-        ensures says { Leads (SaysCollector seen.new (arc_value self.now.pages).acknowledge job.now name.now (place_of job.now (arc_value self.now.pages).names)) result }
+    ) -> Said
+        ensures says { SaysCollector seen.new (arc_value self.now.pages).acknowledge job.now name.now (place_of job.now (arc_value self.now.pages).names) result }
         ensures moves { Moves seen.old seen.new }
     {
         let Some(place) = self.pages.place(job.as_str()) else {
             seen.now();
-            return Entry::Now(Said::Answer(Answer::Not(Refusal::UnknownJob)));
+            return Said::Answer(Answer::Not(Refusal::UnknownJob));
         };
         self.told_under(seen, place, job, name.as_str(), takes)
     }
@@ -57,20 +57,20 @@ impl<R: Wait + Clock + Copy, L: Ledger, B: Ledger, N: DeskName> Handler<R, L, B,
         job: &Text,
         name: &str,
         takes: bool,
-    ) -> Entry
-        ensures says { Leads (SaysHeld seen.new (arc_value self.now.pages).acknowledge place job.now name.now) result }
+    ) -> Said
+        ensures says { SaysHeld seen.new (arc_value self.now.pages).acknowledge place job.now name.now result }
         ensures moves { Moves seen.old seen.new }
     {
         if takes {
             self.held(seen, place, job, name)
         } else {
-            Entry::Now(self.looked(seen, place, job, name))
+            self.looked(seen, place, job, name)
         }
     }
 
     #[tactic(auto, using(crate::proofs::SpanLemmas::moves_trans), unfolding(crate::specs::Says::SaysHeld))]
-    fn held(&self, seen: &mut Seen<N>, place: usize, job: &Text, name: &str) -> Entry
-        ensures says { Leads (SaysHeld seen.new (arc_value self.now.pages).acknowledge place job.now name.now) result }
+    fn held(&self, seen: &mut Seen<N>, place: usize, job: &Text, name: &str) -> Said
+        ensures says { SaysHeld seen.new (arc_value self.now.pages).acknowledge place job.now name.now result }
         ensures moves { Moves seen.old seen.new }
     {
         match self.named(seen, name) {
@@ -89,7 +89,7 @@ impl<R: Wait + Clock + Copy, L: Ledger, B: Ledger, N: DeskName> Handler<R, L, B,
         ensures moves { Moves seen.old seen.new }
     {
         let mut pass = self.pass.lock(&self.rt);
-        seen.now.named(&self.rt, &self.desk, &mut *pass, name)
+        seen.latest.named(&self.rt, &self.desk, &mut *pass, name)
     }
 
     /// What a collector is told of a job.
@@ -100,8 +100,8 @@ impl<R: Wait + Clock + Copy, L: Ledger, B: Ledger, N: DeskName> Handler<R, L, B,
         job: &Text,
         name: &str,
         id: CollectorId,
-    ) -> Entry
-        ensures says { Leads (SaysList seen.new (arc_value self.now.pages).acknowledge place job.now id) result }
+    ) -> Said
+        ensures says { SaysList seen.new (arc_value self.now.pages).acknowledge place job.now id result }
         ensures moves { Moves seen.old seen.new }
     {
         if !self.state.is_ordered() {
@@ -119,8 +119,8 @@ impl<R: Wait + Clock + Copy, L: Ledger, B: Ledger, N: DeskName> Handler<R, L, B,
         job: &Text,
         name: &str,
         id: CollectorId,
-    ) -> Entry
-        ensures says { Leads (SaysServed seen.new (arc_value self.now.pages).acknowledge job.now place id) result }
+    ) -> Said
+        ensures says { SaysServed seen.new (arc_value self.now.pages).acknowledge job.now place id result }
         ensures moves { Moves seen.old seen.new }
     {
         self.let_earlier_go(seen, job, name, id);
@@ -150,8 +150,8 @@ impl<R: Wait + Clock + Copy, L: Ledger, B: Ledger, N: DeskName> Handler<R, L, B,
         place: usize,
         job: &Text,
         id: CollectorId,
-    ) -> Entry
-        ensures says { Leads (SaysGiven seen.new (arc_value self.now.pages).acknowledge job.now place id (Serve id job.now)) result }
+    ) -> Said
+        ensures says { SaysGiven seen.new (arc_value self.now.pages).acknowledge job.now place id (Serve id job.now) result }
         ensures moves { Moves seen.old seen.new }
     {
         match job.copy() {
@@ -165,7 +165,7 @@ impl<R: Wait + Clock + Copy, L: Ledger, B: Ledger, N: DeskName> Handler<R, L, B,
             }
             Err(_) => {
                 seen.now();
-                Entry::Now(Said::Refused(RequestError::Memory))
+                Said::Refused(RequestError::Memory)
             }
         }
     }
@@ -179,36 +179,33 @@ impl<R: Wait + Clock + Copy, L: Ledger, B: Ledger, N: DeskName> Handler<R, L, B,
         job: &Text,
         id: CollectorId,
         event: Event,
-    ) -> Entry
-        ensures says { Leads (SaysGiven seen.new (arc_value self.now.pages).acknowledge job.now place id event) result }
+    ) -> Said
+        ensures says { SaysGiven seen.new (arc_value self.now.pages).acknowledge job.now place id event result }
         ensures moves { Moves seen.old seen.new }
     {
         match self.answered(seen, event) {
-            Ok((rests, answer)) => {
-                let said = self.told(seen, place, job, id, answer);
-                self.once_kept(rests, said)
-            }
-            Err(error) => Entry::Now(Said::Refused(error)),
+            Ok(answer) => self.told(seen, place, job, id, answer),
+            Err(error) => Said::Refused(error),
         }
     }
 
     /// What is told under a name that no live collector has: who had it is to let go of what it scrapes.
-    fn gone(&self, seen: &mut Seen<N>, job: &Text, name: &str) -> Entry
-        ensures says { Leads (SaysGone seen.new) result }
+    fn gone(&self, seen: &mut Seen<N>, job: &Text, name: &str) -> Said
+        ensures says { SaysGone seen.new result }
         ensures moves { Moves seen.old seen.new }
     {
         let Some(id) = self.state.number_of(&self.rt, name) else {
             seen.now();
-            return Entry::Now(Said::Answer(Answer::Not(Refusal::UnknownCollector)));
+            return Said::Answer(Answer::Not(Refusal::UnknownCollector));
         };
         self.state.note_taker(&self.rt, id);
         if !self.state.is_ordered() {
             seen.now();
-            return Entry::Now(self.nothing());
+            return self.nothing();
         }
         match self.let_go(seen, job, id) {
-            Ok(rests) => self.once_kept(rests, self.nothing()),
-            Err(error) => Entry::Now(Said::Refused(error)),
+            Ok(()) => self.nothing(),
+            Err(error) => Said::Refused(error),
         }
     }
 
@@ -222,13 +219,13 @@ impl<R: Wait + Clock + Copy, L: Ledger, B: Ledger, N: DeskName> Handler<R, L, B,
         }
     }
 
-    /// The list of a job of a collector that left is let go. Gives how many entries of the journal that rests on.
+    /// The list of a job of a collector that left is let go.
     fn let_go(
         &self,
         seen: &mut Seen<N>,
         job: &Text,
         collector: CollectorId,
-    ) -> Result<u64, RequestError>
+    ) -> Result<(), RequestError>
         ensures not { IfErr result (SaysNot seen.new) }
         ensures moves { Moves seen.old seen.new }
     {
@@ -237,15 +234,18 @@ impl<R: Wait + Clock + Copy, L: Ledger, B: Ledger, N: DeskName> Handler<R, L, B,
             return Err(RequestError::Memory);
         };
         match self.answered(seen, Event::Serve { collector, job }) {
-            Ok((rests, _answer)) => Ok(rests),
+            Ok(answer) => {
+                drop(answer);
+                Ok(())
+            }
             Err(error) => Err(error),
         }
     }
 
-    /// The answer to an event, and how many entries of the journal it rests on. An event that would change nothing is not entered.
+    /// The answer to an event. An event that would change nothing is not entered.
     #[tactic(auto, using(crate::proofs::SpanLemmas::moves_trans))]
-    fn answered(&self, seen: &mut Seen<N>, event: Event) -> Result<(u64, Answer), RequestError>
-        ensures answer { IfOk result (λ r. IsAnswered seen.new event r.1) }
+    fn answered(&self, seen: &mut Seen<N>, event: Event) -> Result<Answer, RequestError>
+        ensures answer { IfOk result (IsAnswered seen.new event) }
         ensures not { IfErr result (SaysNot seen.new) }
         ensures moves { Moves seen.old seen.new }
     {
@@ -263,26 +263,29 @@ impl<R: Wait + Clock + Copy, L: Ledger, B: Ledger, N: DeskName> Handler<R, L, B,
         &self,
         seen: &mut Seen<N>,
         event: Event,
-    ) -> Result<(u64, Answer), RequestError>
-        ensures answer { IfOk result (λ r. IsAnswered seen.new event r.1) }
+    ) -> Result<Answer, RequestError>
+        ensures answer { IfOk result (IsAnswered seen.new event) }
         ensures not { IfErr result (SaysNot seen.new) }
         ensures moves { Moves seen.old seen.new }
     {
         match self.submitted(seen, event) {
-            Ok(receipt) => Ok((receipt.position.saturating_add(1), receipt.answer)),
+            Ok(receipt) => Ok(receipt.answer),
             Err(error) => Err(error),
         }
     }
 
-    /// What an event is answered that would change nothing, and how many entries of the journal that rests on.
-    fn unchanged(&self, seen: &mut Seen<N>, event: &Event) -> Option<(u64, Answer)>
-        ensures read { IfSome result (λ t. IsIdle (now_of seen.new).state event.now (Some t.1)) }
+    /// What an event is answered that would change nothing.
+    fn unchanged(&self, seen: &mut Seen<N>, event: &Event) -> Option<Answer>
+        ensures read { IfSome result (λ answer. IsIdle (now_of seen.new).state event.now (Some answer)) }
         ensures moves { Moves seen.old seen.new }
     {
         let mut pass = self.pass.lock(&self.rt);
-        match seen.now.unchanged(&self.rt, &self.desk, &mut *pass, event) {
-            Ok(told) => told,
-            Err(_) => None,
+        match seen
+            .latest
+            .unchanged(&self.rt, &self.desk, &mut *pass, event)
+        {
+            Ok(Some((_entries, answer))) => Some(answer),
+            _ => None,
         }
     }
 
@@ -423,9 +426,11 @@ impl<R: Wait + Clock + Copy, L: Ledger, B: Ledger, N: DeskName> Handler<R, L, B,
         ensures moves { Moves seen.old seen.new }
     {
         let is_ordered = self.state.is_ordered();
-        self.read(seen, |record| {
-            look_at(record.core(), job.as_str(), id, is_ordered)
-        })
+        let mut pass = self.pass.lock(&self.rt);
+        seen.latest
+            .read(&self.rt, &self.desk, &mut *pass, |record| {
+                look_at(record.core(), job.as_str(), id, is_ordered)
+            })
     }
 
     fn text_of_list(
@@ -547,6 +552,18 @@ impl<R: Wait + Clock + Copy, L: Ledger, B: Ledger, N: DeskName> Handler<R, L, B,
         if !self.are_known(seen, held) {
             return Err(AllocError);
         }
+        self.groups_text(seen, place, held)
+    }
+
+    fn groups_text(
+        &self,
+        seen: &mut Seen<N>,
+        place: usize,
+        held: &[TargetId],
+    ) -> Result<Bytes, AllocError>
+        ensures text { IfOk result (λ t. t ≡ groups_text place held.now (now_of seen.new)) }
+        ensures moves { Moves seen.old seen.new }
+    {
         let targets = self.numbered(seen, place, held)?;
         Bytes::from_string(targets_page(self.alloc, targets.as_slice())?.into_string())
     }
@@ -555,7 +572,13 @@ impl<R: Wait + Clock + Copy, L: Ledger, B: Ledger, N: DeskName> Handler<R, L, B,
         ensures known { IsTrue result → AreKnown (now_of seen.new) held.now }
         ensures moves { Moves seen.old seen.new }
     {
-        self.read(seen, |record| are_known(record.core(), held))
+        let mut pass = self.pass.lock(&self.rt);
+        seen.latest.read(
+            &self.rt,
+            &self.desk,
+            &mut *pass,
+            |record| are_known(record.core(), held),
+        )
     }
 
     pub(crate) fn numbered(
@@ -568,7 +591,7 @@ impl<R: Wait + Clock + Copy, L: Ledger, B: Ledger, N: DeskName> Handler<R, L, B,
         ensures moves { Moves seen.old seen.new }
     {
         let mut pass = self.pass.lock(&self.rt);
-        seen.now
+        seen.latest
             .numbered(&self.rt, &self.desk, &mut *pass, self.alloc, place, held)
     }
 }

@@ -11,10 +11,10 @@ use crate::found_state::{FoundState, found_state};
 use crate::handler::Handler;
 use crate::job_state::{JobState, held_by_name, job_state, source_rows};
 use crate::seen::Seen;
-use alloc_desk::DeskName;
 use allocation_core::{Answer, Refusal};
 use fleet_events::TargetId;
 use json_values::{Spelled, text_of};
+use kept_journal::JournalName;
 use lists::{List, Text};
 use sd_routes::{Ask, JobRow, RequestError, Said, SourceRow, WhichCollector, job_row_page};
 use service_pages::{
@@ -26,7 +26,7 @@ use std::sync::Wait;
 use std::sync::ledger::Ledger;
 use std::time::Clock;
 
-impl<R: Wait + Clock + Copy, L: Ledger, B: Ledger, N: DeskName> Handler<R, L, B, N> {
+impl<R: Wait + Clock + Copy, L: Ledger, B: Ledger, N: JournalName> Handler<R, L, B, N> {
     /// The page for people of what is asked for, where it has one.
     pub(crate) fn document(&self, seen: &mut Seen<N>, ask: &Ask) -> Option<Said>
         ensures says { IfSome result (λ said. Says seen.new (arc_value self.now.pages) ask.now [] said) }

@@ -1,30 +1,31 @@
 //! What a request is handled with.
-ghost use Rattle.std.specs.Prelude.{◌≡◌, Some, IfOk, IfErr};
-ghost use Rattle.std.specs.Fn.{FnOnceReturnsAt};
+ghost use Rattle.std.specs.Prelude.{◌≡◌, Some, IfOk, IfErr, IsSome};
 ghost use Rattle.std.specs.Arc.{arc_value};
 ghost use Rattle.alloc_desk.specs.Views.{shares_of};
 ghost use Rattle.fleet_events.specs.declared.answer.Answer.TheVariants.{Not};
 ghost use Rattle.fleet_events.specs.declared.refusal.Refusal.TheVariants.{UnknownCollector};
 ghost use Rattle.sd_routes.specs.declared.change.Change.TheVariants.{Release};
-ghost use Rattle.sd_routes.specs.declared.responding.Said.TheVariants.{Answer as Answered};
+ghost use Rattle.sd_routes.specs.declared.request_error.RequestError.TheVariants.{NotKept};
+ghost use Rattle.sd_routes.specs.declared.responding.Said.TheVariants.{Answer as Answered, Refused};
 ghost use Rattle.service_state.specs.Jobs.{place_of};
 ghost use Rattle.sd_server.specs.Spans.{IsEntered, Moves, Span, between, now_of};
 ghost use Rattle.sd_server.specs.Texts.{certificate_text, job_text};
-ghost use Rattle.sd_server.specs.Entries.{Leads, OnceKept};
-ghost use Rattle.sd_server.specs.Says.{IsAtOnce, IsPlain, IsUncoveredText, Says, SaysCopy, SaysDocument, SaysEvent, SaysChange, SaysIn, SaysJob, SaysLive, SaysMetrics, SaysNot, SaysOfLeft, SaysPage, SaysQuit, SaysReady, SaysRefused, SaysReload, SaysText, SaysUncovered};
+ghost use Rattle.sd_server.specs.Entries.{Comes, Leads, OnceKept, WaitsFor};
+ghost use Rattle.sd_server.specs.Says.{IsAtOnce, IsPlain, IsUncoveredText, Says, SaysCopy, SaysDocument, SaysEvent, SaysChange, SaysIn, SaysJob, SaysLive, SaysMetrics, SaysNot, SaysOfLeft, SaysPage, SaysQuit, SaysReady, SaysRefused, SaysReload, SaysText, SaysUncovered, is_of_journal};
 
 use crate::certificate_page::certificate_page;
 use crate::counter::Counter;
-use crate::entry::{Entry, Later, Reload};
+use crate::entry::{Entry, Later, Reload, has};
 use crate::list_texts::ListTexts;
 use crate::seen::Seen;
 use crate::tags::Tags;
 use crate::uncovered::{Uncovered, uncovered_of};
 use admission::Admission;
-use alloc_desk::{Desk, DeskName, EnterError, Pass, Receipt, Record};
+use alloc_desk::{Desk, EnterError, Front, Pass, Receipt};
 use allocation_core::{Answer, Event, Refusal};
 use event_loops::Gate;
 use fleet_events::{CollectorId, TargetId};
+use kept_journal::{Asked, Durable, JournalName, Kept, LONGEST_WAIT_MILLIS};
 use lists::{List, Plain, Text};
 use price_certificate::{Instance, Plan};
 use reach_rules::CollectorName;
@@ -34,8 +35,8 @@ use sd_routes::{
 };
 use service_pages::{Shown, status_page};
 use service_state::{
-    Asked, ChangeNote, ConfigPages, EventKind, Figures, Kept, LONGEST_WAIT_MILLIS, Notes, Route,
-    ServiceState, figures_of, metrics_page,
+    ChangeNote, ConfigPages, EventKind, Figures, Notes, Route, ServiceState, figures_of,
+    metrics_page,
 };
 use std::alloc::{AllocError, Global};
 use std::net::SocketAddr;
@@ -48,7 +49,7 @@ use tokio::time::{Handle, Timeout};
 
 /// What a request is handled with: the runtime's handle, the desk, a pass of it and the configuration's pages.
 #[derive(Drop)]
-pub struct Handler<R, L: Ledger, B: Ledger, N: DeskName> {
+pub struct Handler<R, L: Ledger, B: Ledger, N: JournalName> {
     pub rt: R,
     pub alloc: Global,
     pub desk: Arc<Desk<L, B, N>>,
@@ -56,7 +57,7 @@ pub struct Handler<R, L: Ledger, B: Ledger, N: DeskName> {
     pub pages: Arc<ConfigPages>,
     pub state: Arc<ServiceState>,
     /// How much of the journal is kept, where it is to be kept before an answer is given.
-    pub kept: Option<Arc<Kept>>,
+    pub kept: Option<Arc<Kept<N>>>,
     /// What changes with each renewal and each new journal. A report that names another one is refused.
     pub epoch: u64,
     /// The texts of the lists that were taken.
@@ -71,10 +72,10 @@ pub struct Handler<R, L: Ledger, B: Ledger, N: DeskName> {
     pub gate: Option<Arc<Gate>>,
 }
 
-impl<R: Wait + Clock + Copy, L: Ledger, B: Ledger, N: DeskName> Handler<R, L, B, N> {
+impl<R: Wait + Clock + Copy, L: Ledger, B: Ledger, N: JournalName> Handler<R, L, B, N> {
     /// Another for the same desk and the same pass.
     pub fn another(&self) -> Result<Handler<R, L, B, N>, AllocError>
-        ensures { IfOk result (λ h. arc_value h.pages ≡ arc_value self.now.pages) }
+        ensures { IfOk result (λ h. (arc_value h.pages ≡ arc_value self.now.pages) × (IsSome self.now.kept → IsSome h.kept)) }
     {
         let time = self.timers()?;
         match self.same_gate() {
@@ -92,7 +93,7 @@ impl<R: Wait + Clock + Copy, L: Ledger, B: Ledger, N: DeskName> Handler<R, L, B,
         time: Option<Handle>,
         gate: Option<Arc<Gate>>,
     ) -> Result<Handler<R, L, B, N>, AllocError>
-        ensures { IfOk result (λ h. arc_value h.pages ≡ arc_value self.now.pages) }
+        ensures { IfOk result (λ h. (arc_value h.pages ≡ arc_value self.now.pages) × (IsSome self.now.kept → IsSome h.kept)) }
     {
         let (desk, pass) = match self.same_desk() {
             Ok(same) => same,
@@ -157,7 +158,9 @@ impl<R: Wait + Clock + Copy, L: Ledger, B: Ledger, N: DeskName> Handler<R, L, B,
 
     fn same_texts(
         &self,
-    ) -> Result<(Option<Arc<Kept>>, Arc<ListTexts<N>>, Arc<Admission>), AllocError> {
+    ) -> Result<(Option<Arc<Kept<N>>>, Arc<ListTexts<N>>, Arc<Admission>), AllocError>
+        ensures { IfOk result (λ r. IsSome self.now.kept → IsSome r.0) }
+    {
         let kept = Kept::shared(&self.kept)?;
         let texts = match Arc::try_clone(&self.texts) {
             Ok(texts) => texts,
@@ -239,34 +242,46 @@ impl<R: Wait + Clock + Copy, L: Ledger, B: Ledger, N: DeskName> Handler<R, L, B,
 
     /// What a request with this body is told, or what that waits for. It is told of the one journal that comes out of the desk, of which
     /// both had been seen: what is new when the request comes, and what has been seen then.
-    pub fn entry(&self, seen: &mut Seen<N>, ask: &Ask, body: &[u8]) -> Entry
-        ensures says { Leads (Says seen.new (arc_value self.now.pages) ask.now body.now) result }
+    /// An answer and a list come only once the device has all of it.
+    pub fn entry(&self, seen: &mut Seen<N>, ask: &Ask, body: &[u8]) -> Entry<N>
+        ensures says { Leads N.keeps (Says seen.new (arc_value self.now.pages) ask.now body.now) result }
+        ensures kept { Leads N.keeps (OnceKept self.now.kept N.keeps seen.new) result }
         ensures moves { Moves seen.old seen.new }
     {
-        self.entry_now(seen, ask, body)
+        match ask {
+            Ask::Reload => {
+                seen.now();
+                self.reload()
+            }
+            _ => {
+                let said = self.said(seen, ask, body);
+                self.once_kept(seen, said)
+            }
+        }
     }
 
+    /// What is told, once it may be.
     #[tactic(auto, unfolding(crate::specs::Says::SaysIn))]
-    fn entry_now(&self, seen: &mut Seen<N>, ask: &Ask, body: &[u8]) -> Entry
-        ensures says { Leads (SaysIn seen.new (arc_value self.now.pages) ask.now self.now.epoch body.now) result }
+    fn said(&self, seen: &mut Seen<N>, ask: &Ask, body: &[u8]) -> Said
+        ensures says { SaysIn seen.new (arc_value self.now.pages) ask.now self.now.epoch body.now result }
         ensures moves { Moves seen.old seen.new }
     {
         match event_of(self.alloc, ask, body, self.epoch) {
             Ok(Some(Wanted::Event(event))) => self.entered(seen, event),
             Ok(Some(Wanted::OfNamed { name, change })) => {
-                let entry = self.changed(seen, &name, change);
+                let said = self.changed(seen, &name, change);
                 drop(name);
-                entry
+                said
             }
             Ok(Some(Wanted::Reports(events))) => {
-                let entry = self.reported(seen, events.as_slice());
+                let said = self.reported(seen, events.as_slice());
                 drop(events);
-                entry
+                said
             }
             Ok(None) => self.shown(seen, ask),
             Err(error) => {
                 seen.now();
-                Entry::Now(self.refused(ask, body, error))
+                self.refused(ask, body, error)
             }
         }
     }
@@ -286,8 +301,8 @@ impl<R: Wait + Clock + Copy, L: Ledger, B: Ledger, N: DeskName> Handler<R, L, B,
 
     /// It happens to the collector that has the name. Its number is never another's, so where it leaves before, it happens to none.
     #[tactic(auto, unfolding(crate::specs::Says::SaysChange))]
-    fn changed(&self, seen: &mut Seen<N>, name: &CollectorName, change: Change) -> Entry
-        ensures says { Leads (SaysChange seen.new name.now change) result }
+    fn changed(&self, seen: &mut Seen<N>, name: &CollectorName, change: Change) -> Said
+        ensures says { SaysChange seen.new name.now change result }
         ensures moves { Moves seen.old seen.new }
     {
         match self.named(seen, name.as_str()) {
@@ -297,29 +312,23 @@ impl<R: Wait + Clock + Copy, L: Ledger, B: Ledger, N: DeskName> Handler<R, L, B,
     }
 
     /// Of a collector that left, the lists can be let go.
-    fn changed_of_left(&self, seen: &mut Seen<N>, name: &str, change: Change) -> Entry
-        ensures says { Leads (SaysOfLeft seen.new change) result }
+    fn changed_of_left(&self, seen: &mut Seen<N>, name: &str, change: Change) -> Said
+        ensures says { SaysOfLeft seen.new change result }
         ensures moves { Moves seen.old seen.new }
     {
         match change {
             Change::Release => self.released_of_left(seen, name),
-            Change::Leave | Change::Drain | Change::SetLimits(_) => {
-                seen.now();
-                unknown_collector()
-            }
+            Change::Leave | Change::Drain | Change::SetLimits(_) => nobody(seen),
         }
     }
 
-    fn released_of_left(&self, seen: &mut Seen<N>, name: &str) -> Entry
-        ensures says { Leads (SaysOfLeft seen.new Release) result }
+    fn released_of_left(&self, seen: &mut Seen<N>, name: &str) -> Said
+        ensures says { SaysOfLeft seen.new Release result }
         ensures moves { Moves seen.old seen.new }
     {
         match self.left_number(name) {
             Some(id) => self.entered(seen, Change::Release.event(id)),
-            None => {
-                seen.now();
-                unknown_collector()
-            }
+            None => nobody(seen),
         }
     }
 
@@ -330,18 +339,17 @@ impl<R: Wait + Clock + Copy, L: Ledger, B: Ledger, N: DeskName> Handler<R, L, B,
         Some(known.1)
     }
 
-    fn entered(&self, seen: &mut Seen<N>, event: Event) -> Entry
-        ensures says { Leads (SaysEvent seen.new event) result }
+    fn entered(&self, seen: &mut Seen<N>, event: Event) -> Said
+        ensures says { SaysEvent seen.new event result }
         ensures moves { Moves seen.old seen.new }
     {
         let change = self.change_of(&event);
         match self.submitted(seen, event) {
             Ok(receipt) => {
                 self.note_change(change, &receipt.answer);
-                let rests = receipt.position.saturating_add(1);
-                self.once_kept(rests, Said::Answer(receipt.answer))
+                Said::Answer(receipt.answer)
             }
-            Err(error) => Entry::Now(Said::Refused(error)),
+            Err(error) => Said::Refused(error),
         }
     }
 
@@ -381,17 +389,13 @@ impl<R: Wait + Clock + Copy, L: Ledger, B: Ledger, N: DeskName> Handler<R, L, B,
         }
     }
 
-    fn shown(&self, seen: &mut Seen<N>, ask: &Ask) -> Entry
-        ensures says { Leads (SaysPage seen.new (arc_value self.now.pages) ask.now) result }
+    fn shown(&self, seen: &mut Seen<N>, ask: &Ask) -> Said
+        ensures says { SaysPage seen.new (arc_value self.now.pages) ask.now result }
         ensures moves { Moves seen.old seen.new }
     {
         match ask {
-            Ask::Reload => {
-                seen.now();
-                self.reload()
-            }
             Ask::CollectorTargets { job, name, takes } => self.collector(seen, job, name, *takes),
-            _ => Entry::Now(self.page(seen, ask)),
+            _ => self.page(seen, ask),
         }
     }
 
@@ -466,8 +470,8 @@ impl<R: Wait + Clock + Copy, L: Ledger, B: Ledger, N: DeskName> Handler<R, L, B,
         Said::Notice(Notice::NotReady)
     }
 
-    fn reload(&self) -> Entry
-        ensures { Leads SaysReload result }
+    fn reload(&self) -> Entry<N>
+        ensures { Leads N.keeps SaysReload result }
     {
         if !self.state.may_reload() {
             return Entry::Now(Said::Notice(Notice::NoLifecycle));
@@ -564,16 +568,6 @@ impl<R: Wait + Clock + Copy, L: Ledger, B: Ledger, N: DeskName> Handler<R, L, B,
         )
     }
 
-    /// Reads one state and its journal.
-    pub(crate) fn read<T, F: FnOnce(&Record) -> T>(&self, seen: &mut Seen<N>, reader: F) -> T
-        requires { F.IsAlwaysCallable reader }
-        ensures read { FnOnceReturnsAt F.FnOnce reader (now_of seen.new) result }
-        ensures moves { Moves seen.old seen.new }
-    {
-        let mut pass = self.pass.lock(&self.rt);
-        seen.now.read(&self.rt, &self.desk, &mut *pass, reader)
-    }
-
     fn certificate(&self, seen: &mut Seen<N>) -> Said
         ensures says { SaysText seen.new certificate_text result }
         ensures moves { Moves seen.old seen.new }
@@ -597,17 +591,26 @@ impl<R: Wait + Clock + Copy, L: Ledger, B: Ledger, N: DeskName> Handler<R, L, B,
         ensures moves { Moves seen.old seen.new }
     {
         let mut pass = self.pass.lock(&self.rt);
-        seen.now.certificate(&self.rt, &self.desk, &mut *pass)
+        seen.latest.certificate(&self.rt, &self.desk, &mut *pass)
     }
 
     fn job(&self, seen: &mut Seen<N>, job: &str) -> Said
         ensures says { SaysJob seen.new job.now (place_of job.now (arc_value self.now.pages).names) result }
         ensures moves { Moves seen.old seen.new }
     {
-        let Some(place) = self.pages.place(job) else {
-            seen.now();
-            return Said::Answer(Answer::Not(Refusal::UnknownJob));
-        };
+        match self.pages.place(job) {
+            Some(place) => self.job_at(seen, job, place),
+            None => {
+                seen.now();
+                Said::Answer(Answer::Not(Refusal::UnknownJob))
+            }
+        }
+    }
+
+    fn job_at(&self, seen: &mut Seen<N>, job: &str, place: usize) -> Said
+        ensures says { SaysText seen.new (job_text job.now place) result }
+        ensures moves { Moves seen.old seen.new }
+    {
         match self.job_text(seen, job, place) {
             Ok(text) => Said::Page(text),
             Err(_) => Said::Refused(RequestError::Memory),
@@ -627,7 +630,7 @@ impl<R: Wait + Clock + Copy, L: Ledger, B: Ledger, N: DeskName> Handler<R, L, B,
         ensures moves { Moves seen.old seen.new }
     {
         let mut pass = self.pass.lock(&self.rt);
-        seen.now
+        seen.latest
             .shares(&self.rt, &self.desk, &mut *pass, self.alloc, place)
     }
 
@@ -712,8 +715,11 @@ impl<R: Wait + Clock + Copy, L: Ledger, B: Ledger, N: DeskName> Handler<R, L, B,
     fn uncovered_at(&self, seen: &mut Seen<N>, place: usize) -> Result<Uncovered, AllocError>
         ensures moves { Moves seen.old seen.new }
     {
-        self.read(
-            seen,
+        let mut pass = self.pass.lock(&self.rt);
+        seen.latest.read(
+            &self.rt,
+            &self.desk,
+            &mut *pass,
             |record| uncovered_of(self.alloc, record.core(), place),
         )
     }
@@ -751,34 +757,64 @@ impl<R: Wait + Clock + Copy, L: Ledger, B: Ledger, N: DeskName> Handler<R, L, B,
         }
     }
 
-    /// What is said once so many entries of the journal are kept, where they are to be.
-    pub(crate) fn once_kept(&self, entries: u64, said: Said) -> Entry
-        ensures { Leads (OnceKept said) result }
+    /// It is said at once, or, where it is of the journal, once all that was seen of that is kept.
+    pub(crate) fn once_kept(&self, seen: &Seen<N>, said: Said) -> Entry<N>
+        ensures { Leads N.keeps (Comes self.now.kept N.keeps seen.now said) result }
     {
-        let (Some(kept), Some(position)) = (&self.kept, entries.checked_sub(1)) else {
+        if !is_of_journal(&said) {
             return Entry::Now(said);
-        };
-        match kept.ask(&self.rt, position) {
-            Ok(Asked::Known(true)) => Entry::Now(said),
-            Ok(Asked::Told(told)) => self.later(told, said),
-            _ => Entry::Now(Said::Refused(RequestError::NotKept)),
+        }
+        match &self.kept {
+            Some(kept) => self.once_kept_by(kept, seen.now(), said),
+            None => Entry::Now(said),
         }
     }
 
-    fn later(&self, told: Receiver<bool>, said: Said) -> Entry
-        ensures { Leads (OnceKept said) result }
+    /// It is said once all that a front has seen is kept.
+    fn once_kept_by(&self, kept: &Kept<N>, front: &Front<N>, said: Said) -> Entry<N>
+        ensures { Leads N.keeps (WaitsFor N.keeps front.now said) result }
+    {
+        match kept.ask(&self.rt, front) {
+            Ok(Asked::Known(durable)) => self.once_known(durable, front, said),
+            Ok(Asked::Told(told)) => self.later(told, front, said),
+            Err(error) => {
+                drop((error, said));
+                not_kept()
+            }
+        }
+    }
+
+    /// It is said where this is kept, and has all that a front has seen.
+    fn once_known(&self, durable: Option<Durable<N>>, front: &Front<N>, said: Said) -> Entry<N>
+        ensures { Leads N.keeps (WaitsFor N.keeps front.now said) result }
+    {
+        if has(&durable, front) {
+            drop(durable);
+            Entry::Now(said)
+        } else {
+            drop((durable, said));
+            not_kept()
+        }
+    }
+
+    fn later(&self, told: Receiver<Durable<N>>, front: &Front<N>, said: Said) -> Entry<N>
+        ensures { Leads N.keeps (WaitsFor N.keeps front.now said) result }
     {
         match self.waiting(told) {
             Some(told) => Entry::Later(Later {
                 said: Some(said),
+                front: front.again(),
                 told,
             }),
-            None => Entry::Now(Said::Refused(RequestError::NotKept)),
+            None => {
+                drop(said);
+                not_kept()
+            }
         }
     }
 
     /// What waits for it, where there are timers, and for how long at most.
-    fn waiting(&self, told: Receiver<bool>) -> Option<Timeout<Receiver<bool>>> {
+    fn waiting(&self, told: Receiver<Durable<N>>) -> Option<Timeout<Receiver<Durable<N>>>> {
         let longest = Duration::from_millis(LONGEST_WAIT_MILLIS);
         match &self.time {
             Some(time) => time.timeout(&self.rt, longest, told).ok(),
@@ -792,7 +828,7 @@ impl<R: Wait + Clock + Copy, L: Ledger, B: Ledger, N: DeskName> Handler<R, L, B,
         ensures moves { Moves seen.old seen.new }
     {
         let mut pass = self.pass.lock(&self.rt);
-        match seen.now.submit(&self.rt, &self.desk, &mut *pass, event) {
+        match seen.latest.submit(&self.rt, &self.desk, &mut *pass, event) {
             Ok(receipt) => Ok(receipt),
             Err(EnterError::JournalFull) => Err(RequestError::JournalFull),
             Err(EnterError::Memory) => Err(RequestError::Memory),
@@ -800,10 +836,35 @@ impl<R: Wait + Clock + Copy, L: Ledger, B: Ledger, N: DeskName> Handler<R, L, B,
     }
 }
 
-fn unknown_collector() -> Entry
-    ensures { Leads (λ said. said ≡ Answered (Not UnknownCollector)) result }
+fn nobody<N: JournalName>(seen: &mut Seen<N>) -> Said
+    ensures says { result ≡ Answered (Not UnknownCollector) }
+    ensures moves { Moves seen.old seen.new }
 {
-    Entry::Now(Said::Answer(Answer::Not(Refusal::UnknownCollector)))
+    seen.now();
+    Said::Answer(Answer::Not(Refusal::UnknownCollector))
+}
+
+fn not_kept<N: JournalName>() -> Entry<N>
+    ensures { Leads N.keeps (λ said. said ≡ Refused NotKept) result }
+{
+    Entry::Now(Said::Refused(RequestError::NotKept))
+}
+
+/// Whether what is said is an answer of the journal, or a list of it.
+fn is_of_journal(said: &Said) -> bool
+    ensures { result ≡ is_of_journal said.now }
+{
+    match said {
+        Said::Answer(_) | Said::Answers { .. } | Said::List { .. } => true,
+        Said::Page(_)
+        | Said::Refused(_)
+        | Said::Misshapen(_)
+        | Said::Notice(_)
+        | Said::Metrics(_)
+        | Said::Document(_)
+        | Said::Reloaded(_)
+        | Said::NotReloaded(_) => false,
+    }
 }
 
 fn copied(text: &Text) -> Said

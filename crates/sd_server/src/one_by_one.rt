@@ -1,8 +1,8 @@
 //! The server of tests and of a session: one connection after the other on the calling thread, each for one request.
 use crate::handler::Handler;
 use crate::service::AllocatorService;
-use alloc_desk::DeskName;
 use hyper::server::conn::http1;
+use kept_journal::JournalName;
 use sd_routes::Routes;
 use std::alloc::AllocGlobal;
 use std::hash::RandomState;
@@ -20,7 +20,7 @@ use tokio::runtime::LocalRuntime;
 const LONGEST_SECONDS: u64 = 5;
 
 /// Serves one connection after the other, each for one request, until the flag is set and one more connection came.
-pub fn serve_one_by_one<R, L: Ledger, B: Ledger, N: DeskName>(
+pub fn serve_one_by_one<R, L: Ledger, B: Ledger, N: JournalName>(
     rt: &R,
     runtime: &mut LocalRuntime,
     mut listener: TcpListener,
@@ -36,7 +36,7 @@ where
     serve_each(rt, runtime, &mut listener, &http, handler, &routes, stop)
 }
 
-fn serve_each<R, L: Ledger, B: Ledger, N: DeskName>(
+fn serve_each<R, L: Ledger, B: Ledger, N: JournalName>(
     rt: &R,
     runtime: &mut LocalRuntime,
     listener: &mut TcpListener,
@@ -58,7 +58,7 @@ where
     unreachable!()
 }
 
-fn serve_one<R, L: Ledger, B: Ledger, N: DeskName>(
+fn serve_one<R, L: Ledger, B: Ledger, N: JournalName>(
     rt: &R,
     runtime: &mut LocalRuntime,
     http: &http1::Builder,

@@ -3,7 +3,7 @@ ghost use Rattle.std.specs.Prelude.{◌≡◌, ◌⊎◌, IfOk};
 ghost use Rattle.std.specs.Arc.{arc_value};
 ghost use Rattle.sd_routes.specs.declared.request_error.RequestError.TheVariants.{Shape, Memory};
 ghost use Rattle.sd_routes.specs.declared.responding.Said.TheVariants.{Refused};
-ghost use Rattle.sd_server.specs.Entries.{Leads};
+ghost use Rattle.sd_server.specs.Entries.{Leads, OnceKept};
 ghost use Rattle.sd_server.specs.Replies.{CanRead, Gives, Reads, SaysRead};
 ghost use Rattle.sd_server.specs.Spans.{Moves};
 ghost use Rattle.sd_server.specs.declared.reply.Stage.TheVariants as stage;
@@ -16,7 +16,6 @@ use crate::manner::Manner;
 use crate::seen::Seen;
 use crate::tags::Tags;
 use admission::LONGEST_BODY;
-use alloc_desk::DeskName;
 use bytes::Bytes;
 use futures::task::{Context, Poll};
 use futures::{Future, ready};
@@ -24,6 +23,7 @@ use http::Response;
 use http_body_util::combinators::Collect;
 use http_body_util::{BodyExt, Collected, Full, Limited, LimitedError};
 use hyper::body::Incoming;
+use kept_journal::JournalName;
 use sd_routes::{Ask, RequestError, Said};
 use service_state::Route;
 use std::alloc::{AllocError, Global};
@@ -33,7 +33,7 @@ use std::time::Clock;
 
 /// The response to a request, once its body has come and what it rests on is kept.
 #[derive(Drop)]
-pub struct Reply<R, L: Ledger, B: Ledger, N: DeskName, I> {
+pub struct Reply<R, L: Ledger, B: Ledger, N: JournalName, I> {
     alloc: Global,
     /// What has been seen of the journal. What is said is of it.
     seen: Seen<N>,
@@ -46,27 +46,27 @@ pub struct Reply<R, L: Ledger, B: Ledger, N: DeskName, I> {
 }
 
 #[derive(Drop)]
-enum Stage<R, L: Ledger, B: Ledger, N: DeskName, I> {
-    Told(Entry),
+enum Stage<R, L: Ledger, B: Ledger, N: JournalName, I> {
+    Told(Entry<N>),
     Reading(Reading<R, L, B, N, I>),
 }
 
 /// A request whose body comes.
 #[derive(Drop)]
-struct Reading<R, L: Ledger, B: Ledger, N: DeskName, I> {
+struct Reading<R, L: Ledger, B: Ledger, N: JournalName, I> {
     handler: Handler<R, L, B, N>,
     ask: Ask,
     body: Collect<Limited<Incoming<I>>>,
 }
 
-impl<R, L: Ledger, B: Ledger, N: DeskName, I: Drop> Reply<R, L, B, N, I> {
+impl<R, L: Ledger, B: Ledger, N: JournalName, I: Drop> Reply<R, L, B, N, I> {
     /// A reply to a request whose body is not read.
     pub(crate) fn of(
         alloc: Global,
         counter: Option<Counter<R>>,
         tags: Option<Tags<R, N>>,
         seen: Seen<N>,
-        entry: Entry,
+        entry: Entry<N>,
         manner: Manner,
     ) -> Reply<R, L, B, N, I>
         ensures can_read { CanRead result }
@@ -84,7 +84,7 @@ impl<R, L: Ledger, B: Ledger, N: DeskName, I: Drop> Reply<R, L, B, N, I> {
     }
 }
 
-impl<R: Wait + Clock + Copy, L: Ledger, B: Ledger, N: DeskName, I: Drop> Reply<R, L, B, N, I> {
+impl<R: Wait + Clock + Copy, L: Ledger, B: Ledger, N: JournalName, I: Drop> Reply<R, L, B, N, I> {
     /// A reply to a request with this body.
     pub(crate) fn to(
         handler: Handler<R, L, B, N>,
@@ -93,7 +93,7 @@ impl<R: Wait + Clock + Copy, L: Ledger, B: Ledger, N: DeskName, I: Drop> Reply<R
         body: Incoming<I>,
     ) -> Reply<R, L, B, N, I>
         ensures can_read { CanRead result }
-        ensures stage { Reads (arc_value handler.pages) ask result.stage }
+        ensures stage { Reads handler.kept (arc_value handler.pages) ask result.stage }
         ensures seen { result.seen ≡ seen }
     {
         let alloc = handler.alloc;
@@ -126,14 +126,15 @@ impl<R: Wait + Clock + Copy, L: Ledger, B: Ledger, N: DeskName, I: Drop> Reply<R
     }
 }
 
-impl<R: Wait + Clock + Copy, L: Ledger, B: Ledger, N: DeskName, I: Drop> Reading<R, L, B, N, I> {
+impl<R: Wait + Clock + Copy, L: Ledger, B: Ledger, N: JournalName, I: Drop> Reading<R, L, B, N, I> {
     /// What is said once the body has come, or what that waits for.
     fn entry(
         &self,
         seen: &mut Seen<N>,
         read: Result<Collected, LimitedError<hyper::Error>>,
-    ) -> Entry
-        ensures says { Leads (SaysRead seen.new (arc_value self.now.handler.pages) self.now.ask) result }
+    ) -> Entry<N>
+        ensures says { Leads N.keeps (SaysRead seen.new (arc_value self.now.handler.pages) self.now.ask) result }
+        ensures kept { Leads N.keeps (OnceKept self.now.handler.kept N.keeps seen.new) result }
         ensures moves { Moves seen.old seen.new }
     {
         match read {
@@ -149,8 +150,9 @@ impl<R: Wait + Clock + Copy, L: Ledger, B: Ledger, N: DeskName, I: Drop> Reading
         }
     }
 
-    fn entry_of(&self, seen: &mut Seen<N>, collected: Collected) -> Entry
-        ensures says { Leads (SaysRead seen.new (arc_value self.now.handler.pages) self.now.ask) result }
+    fn entry_of(&self, seen: &mut Seen<N>, collected: Collected) -> Entry<N>
+        ensures says { Leads N.keeps (SaysRead seen.new (arc_value self.now.handler.pages) self.now.ask) result }
+        ensures kept { Leads N.keeps (OnceKept self.now.handler.kept N.keeps seen.new) result }
         ensures moves { Moves seen.old seen.new }
     {
         match collected.to_bytes() {
@@ -163,8 +165,8 @@ impl<R: Wait + Clock + Copy, L: Ledger, B: Ledger, N: DeskName, I: Drop> Reading
     }
 }
 
-fn refused(error: RequestError) -> Entry
-    ensures { Leads (λ said. said ≡ Refused error) result }
+fn refused<N: JournalName>(error: RequestError) -> Entry<N>
+    ensures { Leads N.keeps (λ said. said ≡ Refused error) result }
 {
     Entry::Now(Said::Refused(error))
 }
@@ -180,7 +182,7 @@ fn unread(error: &hyper::Error) -> RequestError
     }
 }
 
-impl<R: Wait + Clock + Copy + Drop, L: Ledger, B: Ledger, N: DeskName, I: Drop> Future
+impl<R: Wait + Clock + Copy + Drop, L: Ledger, B: Ledger, N: JournalName, I: Drop> Future
     for Reply<R, L, B, N, I> {
     type Output = Result<Response<Full<Bytes>>, AllocError>;
 

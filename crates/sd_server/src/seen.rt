@@ -9,7 +9,7 @@ use std::marker::Model;
 #[derive(Drop)]
 pub struct Seen<N: DeskName> {
     since: Front<N>,
-    pub(crate) now: Front<N>,
+    pub(crate) latest: Front<N>,
 }
 
 impl<N: DeskName> Model for Seen<N> {
@@ -19,9 +19,9 @@ impl<N: DeskName> Model for Seen<N> {
 
     ghost Value = { Span };
 
-    ghost view = { λ s. record { opening = N.opening; before = s.since; after = s.now } };
+    ghost view = { λ s. record { opening = N.opening; before = s.since; after = s.latest } };
 
-    ghost invariant = { λ s. IsPrefix s.since s.now };
+    ghost invariant = { λ s. IsPrefix s.since s.latest };
 }
 
 impl<N: DeskName> Seen<N> {
@@ -31,7 +31,7 @@ impl<N: DeskName> Seen<N> {
     {
         Seen {
             since: front.again(),
-            now: front,
+            latest: front,
         }
     }
 
@@ -49,6 +49,6 @@ impl<N: DeskName> Seen<N> {
         ensures opening { self.now.opening ≡ N.opening }
         ensures stays { Moves self.now self.now }
     {
-        &self.now
+        &self.latest
     }
 }

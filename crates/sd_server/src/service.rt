@@ -6,7 +6,7 @@ ghost use Rattle.http_uri.specs.Uri.{uri_path, uri_query};
 ghost use Rattle.sd_routes.specs.Asks.{asked};
 ghost use Rattle.admission.specs.Admission.{let_in};
 ghost use Rattle.sd_routes.specs.Gives.{Gives};
-ghost use Rattle.sd_server.specs.Entries.{Leads};
+ghost use Rattle.sd_server.specs.Entries.{Leads, OnceKept};
 ghost use Rattle.sd_server.specs.Says.{Says};
 ghost use Rattle.sd_server.specs.Replies.{Begins, BeginsWith, CanRead, IsReplyTo};
 ghost use Rattle.sd_server.specs.Spans.{Moves};
@@ -21,13 +21,13 @@ use crate::handler::Handler;
 use crate::manner::Manner;
 use crate::reply::Reply;
 use crate::seen::Seen;
-use alloc_desk::DeskName;
 use bytes::Bytes;
 use http::request::Parts;
 use http::{Request, Response};
 use http_body_util::Full;
 use hyper::body::Incoming;
 use hyper::service::Service;
+use kept_journal::JournalName;
 use sd_routes::{Ask, RequestError, Routes, Said, route};
 use service_state::Route;
 use std::alloc::AllocError;
@@ -38,7 +38,7 @@ use std::time::Clock;
 
 /// Answers requests with what a desk says.
 #[derive(Drop)]
-pub struct AllocatorService<R, L: Ledger, B: Ledger, N: DeskName> {
+pub struct AllocatorService<R, L: Ledger, B: Ledger, N: JournalName> {
     pub handler: Handler<R, L, B, N>,
     /// The table of paths.
     pub routes: Arc<Routes>,
@@ -46,12 +46,12 @@ pub struct AllocatorService<R, L: Ledger, B: Ledger, N: DeskName> {
 
 /// What a head comes to: something that is said, to a request of this route, or a body to be read.
 #[derive(Drop)]
-enum Begun {
-    Told(Entry, Route),
+enum Begun<N: JournalName> {
+    Told(Entry<N>, Route),
     Reads(Ask),
 }
 
-impl<R: Wait + Clock + Copy, L: Ledger, B: Ledger, N: DeskName> AllocatorService<R, L, B, N> {
+impl<R: Wait + Clock + Copy, L: Ledger, B: Ledger, N: JournalName> AllocatorService<R, L, B, N> {
     /// Another for the same desk, and for who asks.
     pub(crate) fn of(
         handler: &Handler<R, L, B, N>,
@@ -71,9 +71,9 @@ impl<R: Wait + Clock + Copy, L: Ledger, B: Ledger, N: DeskName> AllocatorService
         }
     }
 
-    fn begin(&self, seen: &mut Seen<N>, head: &Parts) -> Begun
+    fn begin(&self, seen: &mut Seen<N>, head: &Parts) -> Begun<N>
         ensures moves { Moves seen.old seen.new }
-        ensures begins { Begins seen.new (arc_value self.now.handler.pages) (let_in (arc_value self.now.handler.doors) head.now.headers (asked head.now.method (uri_path head.now.uri) (uri_query head.now.uri))) result }
+        ensures begins { Begins self.now.handler.kept N.keeps seen.new (arc_value self.now.handler.pages) (let_in (arc_value self.now.handler.doors) head.now.headers (asked head.now.method (uri_path head.now.uri) (uri_query head.now.uri))) result }
     {
         match self.came(head) {
             Ok(ask) => self.begin_with(seen, ask, wants_document(&head.headers)),
@@ -118,8 +118,8 @@ impl<R: Wait + Clock + Copy, L: Ledger, B: Ledger, N: DeskName> AllocatorService
         )
     }
 
-    fn begin_with(&self, seen: &mut Seen<N>, ask: Ask, for_people: bool) -> Begun
-        ensures begins { BeginsWith seen.new (arc_value self.now.handler.pages) ask result }
+    fn begin_with(&self, seen: &mut Seen<N>, ask: Ask, for_people: bool) -> Begun<N>
+        ensures begins { BeginsWith self.now.handler.kept N.keeps seen.new (arc_value self.now.handler.pages) ask result }
         ensures moves { Moves seen.old seen.new }
     {
         match ask {
@@ -133,21 +133,22 @@ impl<R: Wait + Clock + Copy, L: Ledger, B: Ledger, N: DeskName> AllocatorService
 
     /// What a request without a body is told, or what that waits for: of what has a page for people, that page where it is asked for.
     #[tactic(auto, using(crate::proofs::SpanLemmas::moves_trans))]
-    fn entry(&self, seen: &mut Seen<N>, ask: &Ask, for_people: bool) -> Entry
-        ensures says { Leads (Says seen.new (arc_value self.now.handler.pages) ask.now []) result }
+    fn entry(&self, seen: &mut Seen<N>, ask: &Ask, for_people: bool) -> Entry<N>
+        ensures says { Leads N.keeps (Says seen.new (arc_value self.now.handler.pages) ask.now []) result }
+        ensures kept { Leads N.keeps (OnceKept self.now.handler.kept N.keeps seen.new) result }
         ensures moves { Moves seen.old seen.new }
     {
         if !for_people {
             return self.handler.entry(seen, ask, b"");
         }
         match self.handler.document(seen, ask) {
-            Some(said) => Entry::Now(said),
+            Some(said) => self.handler.once_kept(seen, said),
             None => self.handler.entry(seen, ask, b""),
         }
     }
 }
 
-impl<R: Wait + Clock + Copy + Drop, L: Ledger, B: Ledger, N: DeskName, I: Drop> Service<
+impl<R: Wait + Clock + Copy + Drop, L: Ledger, B: Ledger, N: JournalName, I: Drop> Service<
     Request<Incoming<I>>,
 > for AllocatorService<R, L, B, N> {
     type Response = Response<Full<Bytes>>;
@@ -156,7 +157,7 @@ impl<R: Wait + Clock + Copy + Drop, L: Ledger, B: Ledger, N: DeskName, I: Drop> 
 
     type Future = Reply<R, L, B, N, I>;
 
-    ghost calls = { λ s req future. IsReplyTo N.opening (arc_value s.handler.pages)
+    ghost calls = { λ s req future. IsReplyTo N.opening s.handler.kept (arc_value s.handler.pages)
         (let_in (arc_value s.handler.doors) (request.head_of req).headers
         (asked (request.head_of req).method (uri_path (request.head_of req).uri) (uri_query (request.head_of req).uri))) future };
 

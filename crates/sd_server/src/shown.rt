@@ -9,9 +9,9 @@ use crate::collector_rows::{row_meant, rows_of};
 use crate::found::{Found, LOOKED_AT_ONCE, found_of, matching};
 use crate::handler::Handler;
 use crate::seen::Seen;
-use alloc_desk::DeskName;
 use allocation_core::{Answer, Refusal};
 use fleet_events::TargetId;
+use kept_journal::JournalName;
 use lists::Text;
 use sd_routes::{
     CollectorRow, RequestError, Said, WhichCollector, collector_page, collectors_page, found_page,
@@ -21,7 +21,7 @@ use std::sync::Wait;
 use std::sync::ledger::Ledger;
 use std::time::Clock;
 
-impl<R: Wait + Clock + Copy, L: Ledger, B: Ledger, N: DeskName> Handler<R, L, B, N> {
+impl<R: Wait + Clock + Copy, L: Ledger, B: Ledger, N: JournalName> Handler<R, L, B, N> {
     /// The page of the live collectors.
     pub(crate) fn collectors(&self) -> Said
         ensures { SaysCollectors result }
@@ -84,7 +84,13 @@ impl<R: Wait + Clock + Copy, L: Ledger, B: Ledger, N: DeskName> Handler<R, L, B,
         ensures read { IfOk result (λ found. IfSome found (λ row. id_meant (now_of seen.new).state which.now ≡ Some row.id)) }
         ensures moves { Moves seen.old seen.new }
     {
-        self.read(seen, |record| row_meant(self.alloc, record.core(), which))
+        let mut pass = self.pass.lock(&self.rt);
+        seen.latest.read(
+            &self.rt,
+            &self.desk,
+            &mut *pass,
+            |record| row_meant(self.alloc, record.core(), which),
+        )
     }
 
     /// The page of the allocations that were published last, the latest first.

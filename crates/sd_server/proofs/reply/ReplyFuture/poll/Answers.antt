@@ -8,6 +8,10 @@ use Rattle.sd_server.proofs.reply.ReplyFuture.poll.Goals as goal
 pub returns-in-Ready-ready-read-clause-same : goal.returns-in-Ready-ready-read-clause-same
 returns-in-Ready-ready-read-clause-same g c =
     let is : c.args.self.now.stage ≡ stage.Reading c.in-Reading.reading = search rules in
+    let told : c.replace.new.dest ≡ stage.Told c.entry-entry.result = search rules in
+    let seen = c.entry-entry.new.seen in
     rw c.yield_now.ensures.pending
-    (λ x given. gives_weaker (record c.args.self.now { stage = stage.Told c.entry-entry.result; seen = c.entry-entry.new.seen }) c.args.self.now
-    refl (λ said may. subst (λ s. MaySay c.args.self.now.seen s said) (sym is) (c.entry-entry.new.seen, c.entry-entry.ensures.moves, c.entry-entry.ensures.says said may)) x given)
+    (λ x given. gives_weaker (record c.args.self.now { stage = c.replace.new.dest; seen = seen }) c.args.self.now
+    refl (λ said may.
+    let must = subst (λ s. MaySay seen s said) told may in
+    subst (λ s. MaySay c.args.self.now.seen s said) (sym is) (seen, c.entry-entry.ensures.moves, c.entry-entry.ensures.says said must, c.entry-entry.ensures.kept said must)) x given)
