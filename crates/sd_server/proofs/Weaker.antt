@@ -7,10 +7,12 @@ use Rattle.sd_routes.specs.declared.ask.Ask.{Ask}
 use Rattle.sd_routes.specs.declared.request_error.RequestError.{RequestError}
 use Rattle.sd_routes.specs.declared.responding.Said.{Said}
 use Rattle.service_state.specs.declared.config_pages.ConfigPages.{ConfigPages}
+use Rattle.sd_server.specs.declared.entry.Entry.{Entry}
 use Rattle.sd_server.specs.declared.reply.Reply.{Reply}
 use Rattle.sd_server.specs.declared.reply.Stage.{Stage}
 use Rattle.sd_server.specs.declared.reply.Stage.TheVariants as stage
-use Rattle.sd_server.specs.Replies.{Gives, IsTo, MaySay, Reads, has_body}
+use Rattle.sd_server.specs.Entries.{Leads, OnceKept}
+use Rattle.sd_server.specs.Replies.{Gives, IsTo, MaySay, Reads, SaysAtMost, has_body}
 use Rattle.sd_server.specs.Spans.{Span}
 
 pub gives_weaker :
@@ -27,3 +29,12 @@ pub reads_to :
 reads_to kept inner pages asked came seen (stage.Told entry) some is body reads = absurd reads
 reads_to kept inner pages asked came seen (stage.Reading reading) some is body reads =
     (subst (λ (a : Ask). came ≡ Ok a) (sym reads.0) is, subst (λ (a : Ask). has_body a ≡ true) (sym reads.0) body, reads.1, λ k. reads.2 (some k))
+
+-- a reply that says what an entry leads to
+pub told_to :
+    {R L B N I K : Type 0} {l : Ledger.Ghosts L} {b : Ledger.Ghosts B} {n : JournalName.Ghosts N} (kept : Option K) (pages : ConfigPages) (came : Result Ask RequestError)
+    (seen other : Span) (entry : Entry N) (st : Stage R L B N I l b n) → st ≡ stage.Told entry → other ≡ seen
+    → Leads n.keeps (SaysAtMost seen pages came) entry × Leads n.keeps (OnceKept kept n.keeps seen) entry → IsTo kept pages came other st
+told_to {n = n} kept pages came seen other entry st is same leads =
+    subst (λ s. IsTo kept pages came other s) (sym is)
+    (subst (λ (o : Span). Leads n.keeps (SaysAtMost o pages came) entry × Leads n.keeps (OnceKept kept n.keeps o) entry) (sym same) leads)

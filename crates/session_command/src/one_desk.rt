@@ -7,9 +7,10 @@ use crate::asking::ask_all;
 use crate::ended::Halt;
 use crate::staff::{Staff, device};
 use admission::Admission;
-use alloc_desk::{Desk, DeskName, Log, Pass};
+use alloc_desk::{Desk, Log, Pass};
 use allocation_core::Core;
 use collector_pool::Open;
+use kept_journal::JournalName;
 use lists::Text;
 use sd_documents::scrape_configs_text;
 use sd_server::{Handler, ListTexts, serve_one_by_one};
@@ -55,7 +56,7 @@ where
         + Drop,
     L: Ledger + Send + Sync,
     B: Ledger + Send + Sync,
-    N: DeskName + Send + Sync,
+    N: JournalName + Send + Sync,
     requires core { (core ≡ N.opening) × (N.seats ≡ seats) }
     requires seats { (0 < seats) × (seats ≤ MOST_PASSES) }
     requires calls { (calls.name ≡ L.name) × (calls.parts ≡ L.parts) × (L.parts ≡ seats) }
@@ -90,7 +91,7 @@ where
         + Drop,
     L: Ledger + Send + Sync,
     B: Ledger + Send + Sync,
-    N: DeskName + Send + Sync,
+    N: JournalName + Send + Sync,
 {
     let (Some(asked), Some(own)) = (passes.pop(), passes.pop()) else {
         return Err(AllocError.into());
@@ -124,7 +125,7 @@ where
         + Drop,
     L: Ledger + Send + Sync,
     B: Ledger + Send + Sync,
-    N: DeskName + Send + Sync,
+    N: JournalName + Send + Sync,
 {
     match run(rt, alloc, session, &handler, &mut staff, text) {
         Ok(answers) => end(alloc, handler, staff, answers.as_slice(), text),
@@ -133,7 +134,7 @@ where
 }
 
 /// What requests are handled with.
-fn handler_of<R: Copy, L: Ledger, B: Ledger, N: DeskName>(
+fn handler_of<R: Copy, L: Ledger, B: Ledger, N: JournalName>(
     rt: &R,
     alloc: Global,
     session: &Session,
@@ -199,7 +200,7 @@ where
         + Drop,
     L: Ledger + Send + Sync,
     B: Ledger + Send + Sync,
-    N: DeskName + Send + Sync,
+    N: JournalName + Send + Sync,
 {
     let Staff { refresher, workers } = staff;
     begin(&handler.desk, rt, alloc, session, refresher, text)?;
@@ -237,7 +238,7 @@ where
         + Drop,
     L: Ledger + Send + Sync,
     B: Ledger + Send + Sync,
-    N: DeskName + Send + Sync,
+    N: JournalName + Send + Sync,
 {
     let mut runtime = LocalRuntime::new(rt)?;
     let any = SocketAddr::from((Ipv4Addr::LOCALHOST, 0));
@@ -267,7 +268,7 @@ where
         + Drop,
     L: Ledger + Send + Sync,
     B: Ledger + Send + Sync,
-    N: DeskName + Send + Sync,
+    N: JournalName + Send + Sync,
 {
     let here = listener.local_addr()?;
     let stop = AtomicBool::new(false);
@@ -318,7 +319,7 @@ where
 }
 
 /// Ends a session whose rounds are over.
-fn end<R: Copy + Drop, L: Ledger, B: Ledger, N: DeskName>(
+fn end<R: Copy + Drop, L: Ledger, B: Ledger, N: JournalName>(
     alloc: Global,
     handler: Handler<R, L, B, N>,
     staff: Staff<R, L, B, N>,
@@ -332,7 +333,7 @@ fn end<R: Copy + Drop, L: Ledger, B: Ledger, N: DeskName>(
 }
 
 /// Closes the desk, and writes the total and the answers.
-fn write_end<R: Drop, L: Ledger, B: Ledger, N: DeskName>(
+fn write_end<R: Drop, L: Ledger, B: Ledger, N: JournalName>(
     alloc: Global,
     handler: Handler<R, L, B, N>,
     passes: Vec<Pass<L, B, N>>,
@@ -349,7 +350,7 @@ fn write_end<R: Drop, L: Ledger, B: Ledger, N: DeskName>(
 }
 
 /// Closes the desk of a handler whose server has ended.
-fn closed<R: Drop, L: Ledger, B: Ledger, N: DeskName>(
+fn closed<R: Drop, L: Ledger, B: Ledger, N: JournalName>(
     handler: Handler<R, L, B, N>,
     mut passes: Vec<Pass<L, B, N>>,
 ) -> Result<Core, Halt>

@@ -16,8 +16,8 @@ loop-event-preserved g c =
     let new = c.answered_one-answer.new.seen in
     let i = c.loop-event.event-index in (
       moves_trans first old new c.loop-event.invariant.0 c.in_ok-answer.ensures.moves,
-      subst (λ (as : List Answer). AreAnswers (between first new) (take (i + 1) c.args.events.now) as) (sym c.in-Ok.ensures.ok)
-      (are_answers_next first old new c.args.events.now c.loop-event.answers i c.event-item.result c.in_ok-answer.answer c.loop-event-test.true c.event-item.is c.in_ok-answer.ensures.moves c.loop-event.invariant.1 c.in_ok-answer.ensures.answer),
+      subst (λ (told : List Answer). AreAnswers (between first new) (take (i + 1) c.args.events.now) told) (sym c.in-Ok.ensures.ok)
+          (are_answers_next first old new c.args.events.now c.loop-event.answers i c.event-item.result c.in_ok-answer.answer c.loop-event-test.true c.event-item.is c.in_ok-answer.ensures.moves c.loop-event.invariant.1 c.in_ok-answer.ensures.answer),
     )
 
 pub returns-in_err-answer-clause-moves : goal.returns-in_err-answer-clause-moves
