@@ -30,7 +30,7 @@ withheld :
     (span : Span) (pages : ConfigPages) (asked : Ask) (epoch : ℕ) (body : List ℕ) (saying said : Said) → is_of_journal saying ≡ true → said ≡ Refused NotKept
     → SaysIn span pages asked epoch body saying → SaysIn span pages asked epoch body said
 unfolding SaysIn
-withheld span pages asked epoch body saying said journal is (inl by) = inr (inr (is, saying, journal, by))
+withheld span pages asked epoch body saying said journal is (inl by) = inr (inr (is, (saying, journal, by)))
 withheld span pages asked epoch body saying said journal is (inr (inl memory)) = absurd (cc (ap is_of_journal memory, journal))
 withheld span pages asked epoch body saying said journal is (inr (inr other)) = absurd (cc (ap is_of_journal other.0, journal))
 
@@ -78,7 +78,3 @@ module _ {K : Type 0} (kept : Option K) (keeps : List Line → Type 0) (span : S
   -- what is nothing of the journal
   pub apart_comes : is_of_journal saying ≡ false → said ≡ saying → Comes kept keeps span saying said
   apart_comes apart is = inl (is, λ some. apart_waits keeps span saying apart)
-
--- where nothing is to be kept
-pub free_comes : {K : Type 0} (kept : Option K) (keeps : List Line → Type 0) (span : Span) (saying said : Said) → kept ≡ None → said ≡ saying → Comes kept keeps span saying said
-free_comes kept keeps span saying said none is = inl (is, λ some. absurd (subst IsSome none some))

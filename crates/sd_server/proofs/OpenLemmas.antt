@@ -40,3 +40,7 @@ some_since a b P m p =
       seen = m.after;
       holds = subst (λ (o : State). P (history_of o a.after)) (sym m.opening) p;
     }
+
+-- by what was told
+pub by_told : {A B : Type 0} → A → (A → B) → B
+by_told a f = f a

@@ -318,7 +318,12 @@ impl<R: Wait + Clock + Copy, L: Ledger, B: Ledger, N: JournalName> Handler<R, L,
     {
         match change {
             Change::Release => self.released_of_left(seen, name),
-            Change::Leave | Change::Drain | Change::SetLimits(_) => nobody(seen),
+            Change::Leave => nobody(seen),
+            Change::Drain => nobody(seen),
+            Change::SetLimits(limits) => {
+                drop(limits);
+                nobody(seen)
+            }
         }
     }
 
@@ -395,6 +400,10 @@ impl<R: Wait + Clock + Copy, L: Ledger, B: Ledger, N: JournalName> Handler<R, L,
     {
         match ask {
             Ask::CollectorTargets { job, name, takes } => self.collector(seen, job, name, *takes),
+            Ask::Reload => {
+                seen.now();
+                Said::Refused(RequestError::Memory)
+            }
             _ => self.page(seen, ask),
         }
     }
