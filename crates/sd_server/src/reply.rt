@@ -188,7 +188,7 @@ impl<R: Wait + Clock + Copy + Drop, L: Ledger, B: Ledger, N: JournalName, I: Dro
 
     ghost can_poll = { CanRead };
 
-    ghost gives = { Gives };
+    ghost gives = { Gives N.keeps };
 
     fn poll(&mut self, cx: &mut Context<'_>) -> Poll<Result<Response<Full<Bytes>>, AllocError>> {
         match &mut self.stage {

@@ -157,7 +157,7 @@ impl<R: Wait + Clock + Copy + Drop, L: Ledger, B: Ledger, N: JournalName, I: Dro
 
     type Future = Reply<R, L, B, N, I>;
 
-    ghost calls = { λ s req future. IsReplyTo N.opening s.handler.kept (arc_value s.handler.pages)
+    ghost calls = { λ s req future. IsReplyTo N.opening N.keeps s.handler.kept (arc_value s.handler.pages)
         (let_in (arc_value s.handler.doors) (request.head_of req).headers
         (asked (request.head_of req).method (uri_path (request.head_of req).uri) (uri_query (request.head_of req).uri))) future };
 
