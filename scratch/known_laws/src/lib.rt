@@ -1,0 +1,7 @@
+//! Scratch.
+#![tactic(auto)]
+ghost use Rattle.known_laws.specs.Stays.{KnownStays};
+
+pub fn known_stays()
+    ensures { KnownStays }
+{}
