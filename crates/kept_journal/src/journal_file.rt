@@ -1,6 +1,7 @@
 //! The file of a journal.
 ghost use Rattle.std.specs.Prelude.{◌≡◌, OnErr, OnOk, false, true};
 ghost use Rattle.std.specs.Io.KnownBytes.{Appends};
+ghost use Rattle.kept_journal.specs.Beginning.{Leads};
 
 use durable_journal::{Begun, Device, Lines, append};
 use sealed_lines::Chain;
@@ -31,17 +32,6 @@ impl<F> JournalFile<F> {
             grown: bytes,
             chain,
             most: MOST_GROWN,
-            is_broken: false,
-        }
-    }
-
-    /// The file of a journal that has just begun. Where its first line is long, the journal may grow to twice of it.
-    pub fn begun(begun: Begun<F>) -> JournalFile<F> {
-        JournalFile {
-            file: begun.file,
-            grown: begun.bytes,
-            chain: Some(begun.chain),
-            most: MOST_GROWN.max(begun.bytes.saturating_mul(2)),
             is_broken: false,
         }
     }
@@ -77,6 +67,20 @@ impl<F> JournalFile<F> {
 }
 
 impl<F: Device> JournalFile<F> {
+    /// The file of a journal that has just begun: it leads to the state that its first line opens. Where that line is long, the journal may grow to
+    /// twice of it.
+    pub fn begun(begun: Begun<F>) -> JournalFile<F>
+        ensures { Leads F.tells F.contents begun result }
+    {
+        JournalFile {
+            file: begun.file,
+            grown: begun.bytes,
+            chain: Some(begun.chain),
+            most: MOST_GROWN.max(begun.bytes.saturating_mul(2)),
+            is_broken: false,
+        }
+    }
+
     /// Writes lines behind those that are there, and has the device keep all that it has, where it does not yet. Where it fails nothing is kept any
     /// more.
     pub(crate) fn write(&mut self, lines: &Lines, is_kept: bool) -> io::Result<()>
