@@ -1,9 +1,9 @@
 //! The journal of a service, and the epoch that it is of.
 ghost use Rattle.std.specs.Prelude.{◌≡◌, List, None, IfOk};
 ghost use Rattle.journal_entries.specs.declared.entry.Entry.{Entry};
-ghost use Rattle.kept_journal.specs.Keeping.{MeansKeptIn};
+ghost use Rattle.kept_journal.specs.Keeping.{IsOfService, MeansKeptWhere};
 
-use alloc_desk::Front;
+use alloc_desk::{Closed, Front};
 use durable_journal::Device;
 use journal_files::NamedCollector;
 use kept_journal::{DeskJournal, JournalFile, JournalName, Kept};
@@ -21,11 +21,13 @@ pub struct Journal<F> {
     pub names: Vec<NamedCollector>,
 }
 
-impl<F: Device> Journal<F> {
+impl<F: Device + Drop> Journal<F> {
     /// The journal of a desk, where there is a file for it. The front is of the desk.
     pub fn of_desk<N: JournalName>(&mut self, front: Front<N>) -> Option<DeskJournal<F, N>>
-        requires { MeansKeptIn F.contents F.kept N.keeps self.old.file }
-        ensures { result ≡ None → (entries : List Entry) → N.keeps entries }
+        requires file { IsOfService F.tells F.contents N.opening self.old.file }
+        requires means { MeansKeptWhere F.tells F.kept N.opening self.old.file N.keeps }
+        ensures none { result ≡ None → (entries : List Entry) → N.keeps entries }
+        ensures file { self.new.file ≡ None }
     {
         match self.file.take() {
             Some(file) => Some(DeskJournal::new(file, front)),
@@ -36,11 +38,19 @@ impl<F: Device> Journal<F> {
         }
     }
 
-    /// The desk is closed: its journal's file is the service's again.
-    pub fn take_back<N: JournalName>(&mut self, journal: Option<DeskJournal<F, N>>) {
-        if let Some(journal) = journal {
-            self.file = Some(journal.into_file());
-        }
+    /// The desk is closed: the file of its journal, which leads to the state that it was closed with, is the service's again.
+    pub fn end_desk<N: JournalName>(
+        &mut self,
+        journal: Option<DeskJournal<F, N>>,
+        closed: &Closed<N>,
+    )
+        ensures { IsOfService F.tells F.contents closed.now.state self.new.file }
+    {
+        let file = match journal {
+            Some(journal) => Some(journal.end(closed)),
+            None => None,
+        };
+        drop(std::mem::replace(&mut self.file, file));
     }
 }
 

@@ -1,4 +1,6 @@
 //! What a service keeps from one desk to the next.
+ghost use Rattle.std.specs.Prelude.{◌≡◌, IfOk};
+
 use crate::configuration::Configuration;
 use crate::journal::Journal;
 use crate::logging::{log_error, log_warning};
@@ -45,7 +47,9 @@ impl<S: FetchSeveral + Drop, F: Drop, C: Configuration + Drop> Office<S, F, C> {
         journal: Journal<F>,
         device: S,
         configuration: C,
-    ) -> io::Result<Office<S, F, C>> {
+    ) -> io::Result<Office<S, F, C>>
+        ensures { IfOk result (λ o. o.journal ≡ journal) }
+    {
         match Parts::of(rt, alloc, service, &journal) {
             Ok(parts) => {
                 let Parts {
@@ -90,7 +94,9 @@ impl<S: FetchSeveral + Drop, F: Drop, C: Configuration + Drop> Office<S, F, C> {
     }
 
     /// Remembers for the next journal the names that collectors have or had. Where there is no memory for them those from before stay.
-    pub fn remember_names(&mut self, rt: &impl Wait, alloc: Global) {
+    pub fn remember_names(&mut self, rt: &impl Wait, alloc: Global)
+        ensures { self.new.journal.file ≡ self.old.journal.file }
+    {
         if let Ok(names) = self.state.names(rt, alloc) {
             drop(std::mem::replace(&mut self.journal.names, names));
         }
@@ -105,7 +111,9 @@ impl<S: FetchSeveral + Drop, F: Drop, C: Configuration + Drop> Office<S, F, C> {
     }
 
     /// Nothing is begun behind a journal that is broken: all goes on as it is until the service is started again.
-    pub(crate) fn stay<R: Clock + Eprint + Copy>(&mut self, rt: &R) {
+    pub(crate) fn stay<R: Clock + Eprint + Copy>(&mut self, rt: &R)
+        ensures { self.new.journal ≡ self.old.journal }
+    {
         log_error(
             rt,
             "the journal is broken: nothing is renewed or read again until a start",
@@ -121,7 +129,9 @@ impl<S: FetchSeveral + Drop, F: Drop, C: Configuration + Drop> Office<S, F, C> {
         &mut self,
         service: &Service,
         sources: Vec<Source>,
-    ) -> Result<(), AllocError> {
+    ) -> Result<(), AllocError>
+        ensures { self.new.journal ≡ self.old.journal }
+    {
         match self.share(service, sources.len() as u64) {
             Ok(()) => {
                 let sources = Sources::new(sources);
@@ -137,7 +147,9 @@ impl<S: FetchSeveral + Drop, F: Drop, C: Configuration + Drop> Office<S, F, C> {
     }
 
     /// Shares what another configuration has, with so many sources.
-    fn share(&mut self, service: &Service, sources: u64) -> Result<(), AllocError> {
+    fn share(&mut self, service: &Service, sources: u64) -> Result<(), AllocError>
+        ensures { self.new.journal ≡ self.old.journal }
+    {
         self.pages = Arc::try_clone(&service.pages)?;
         self.doors = Arc::try_clone(&service.doors)?;
         self.connections = service.connections;

@@ -1,10 +1,12 @@
 //! What comes between one desk and the next: what nobody needs is forgotten, another journal begins, another configuration is followed.
-ghost use Rattle.std.specs.Prelude.{◌≡◌, IfOk};
-ghost use Rattle.service_tasks.specs.Later.{IsLater};
+ghost use Rattle.std.specs.Prelude.{◌≡◌, IfOk, IfSome, OnOk, Some, true};
+ghost use Rattle.durable_journal.specs.Beginnings.{Opens};
+ghost use Rattle.kept_journal.specs.Keeping.{IsOf, IsOfService};
+ghost use Rattle.service_tasks.specs.Later.{IsLater, IsRenewed};
 
 use crate::configuration::Configuration;
 use crate::journal::Journal;
-use crate::logging::{log_error_of, log_info, log_warning, log_warning_of};
+use crate::logging::{log_error, log_error_of, log_info, log_warning, log_warning_of};
 use crate::office::{Office, sources_of};
 use crate::service::Service;
 use crate::source::Source;
@@ -19,7 +21,8 @@ use std::alloc::{AllocError, Global};
 use std::io;
 use std::time::Clock;
 
-/// The allocator to go on with, for a service that follows the configuration that was read again where there is one.
+/// The allocator to go on with, for a service that follows the configuration that was read again where there is one. The file of the
+/// journal led to the allocator that was served, and leads to this one.
 #[tactic(auto, using(crate::proofs::Laters::later_refl))]
 pub fn continued<R: Clock + Eprint + Copy, S, F, A, C>(
     rt: &R,
@@ -34,7 +37,9 @@ where
     F: Device + Drop,
     A: Archive<F>,
     C: Configuration + Drop,
-    ensures { IfOk result (IsLater core) }
+    requires { IsOfService F.tells F.contents core office.old.journal.file }
+    ensures later { IfOk result (IsLater core) }
+    ensures file { IfOk result (λ c. IsOfService F.tells F.contents c office.new.journal.file) }
 {
     if office.is_broken() {
         office.stay(rt);
@@ -73,7 +78,9 @@ where
     F: Device + Drop,
     A: Archive<F>,
     C: Configuration + Drop,
-    ensures { IfOk result (IsLater core) }
+    requires { IsOfService F.tells F.contents core office.old.journal.file }
+    ensures later { IfOk result (IsLater core) }
+    ensures file { IfOk result (λ c. IsOfService F.tells F.contents c office.new.journal.file) }
 {
     let Ok((jobs, report_rounds, sources)) = parts_of(alloc, &next) else {
         drop(next);
@@ -122,6 +129,7 @@ where
     S: FetchSeveral + Drop,
     F: Drop,
     C: Configuration + Drop,
+    ensures { office.new.journal ≡ office.old.journal }
 {
     match office.follow(&next, sources) {
         Ok(()) => {
@@ -185,7 +193,9 @@ fn under<R: Clock + Eprint + Copy, F: Device + Drop, A: Archive<F>>(
     epoch: u64,
     core: Core,
 ) -> io::Result<(Core, bool)>
-    ensures { IfOk result (λ r. IsLater core r.0) }
+    requires { IsOfService F.tells F.contents core journal.old.file }
+    ensures later { IfOk result (λ r. IsLater core r.0) }
+    ensures file { IfOk result (λ r. IsOfService F.tells F.contents r.0 journal.new.file) }
 {
     let is_same = core.report_rounds().count() == report_rounds.count();
     if is_same && are_jobs_of(core.fleet().jobs(), service.jobs()) {
@@ -216,7 +226,9 @@ fn renewed<R: Clock + Eprint + Copy, F: Device + Drop, A: Archive<F>>(
     epoch: u64,
     core: Core,
 ) -> io::Result<Core>
-    ensures { IfOk result (IsLater core) }
+    requires { IsOfService F.tells F.contents core journal.old.file }
+    ensures later { IfOk result (IsLater core) }
+    ensures file { IfOk result (λ c. IsOfService F.tells F.contents c journal.new.file) }
 {
     let Ok(jobs) = copied_jobs(alloc, &core) else {
         log_warning(rt, "no memory to renew the allocator");
@@ -251,8 +263,12 @@ fn renewed_under<R: Clock + Eprint + Copy, F: Device + Drop, A: Archive<F>>(
     epoch: u64,
     core: Core,
 ) -> io::Result<(Core, bool)>
-    ensures { IfOk result (λ r. IsLater core r.0) }
+    requires { IsOfService F.tells F.contents core journal.old.file }
+    ensures later { IfOk result (λ r. IsLater core r.0) }
+    ensures file { IfOk result (λ r. IsOfService F.tells F.contents r.0 journal.new.file) }
 {
+    // (its pairs ascend)
+    let _pairs = core.allocation().len();
     match core.renew(jobs, report_rounds) {
         Ok(renewed) => {
             journal.epoch = epoch;
@@ -270,7 +286,8 @@ fn renewed_under<R: Clock + Eprint + Copy, F: Device + Drop, A: Archive<F>>(
     }
 }
 
-/// Begins the journal of a renewed allocator, where the service has a journal. Where the device fails, nothing is kept any more.
+/// Begins the journal of a renewed allocator, where the service has a journal. Where it has no first line or the device fails, nothing is kept
+/// any more.
 fn begin_journal<R: Clock + Eprint + Copy, F: Device + Drop, A: Archive<F>>(
     rt: &R,
     alloc: Global,
@@ -278,7 +295,10 @@ fn begin_journal<R: Clock + Eprint + Copy, F: Device + Drop, A: Archive<F>>(
     archive: &mut A,
     journal: &mut Journal<F>,
     core: &Core,
-) -> io::Result<()> {
+) -> io::Result<()>
+    requires { IsRenewed core.now }
+    ensures { OnOk result (IsOfService F.tells F.contents core.now journal.new.file) }
+{
     let Some(file) = &mut journal.file else {
         return Ok(());
     };
@@ -289,6 +309,28 @@ fn begin_journal<R: Clock + Eprint + Copy, F: Device + Drop, A: Archive<F>>(
         journal.names.as_slice(),
         core,
     )?;
+    begin_file(rt, archive, file, core, first)
+}
+
+/// Begins a journal with the first line of an allocator, and has it in the place of this one.
+fn begin_file<R: Clock + Eprint + Copy, F: Device + Drop, A: Archive<F>>(
+    rt: &R,
+    archive: &mut A,
+    file: &mut JournalFile<F>,
+    core: &Core,
+    first: Option<FirstLine>,
+) -> io::Result<()>
+    requires { IfSome first (Opens (Some core.now)) }
+    ensures { OnOk result (IsOf F.tells F.contents core.now file.new) }
+{
+    let Some(first) = first else {
+        log_error(
+            rt,
+            "another journal cannot be begun: the configuration has other jobs than the allocator",
+        );
+        file.break_down();
+        return Ok(());
+    };
     let begun = archive.begin(&first);
     drop(first);
     match begun {
@@ -300,22 +342,22 @@ fn begin_journal<R: Clock + Eprint + Copy, F: Device + Drop, A: Archive<F>>(
     }
 }
 
-/// The first line of the journal of a renewed allocator.
+/// The first line of the journal of a renewed allocator. It has none under a configuration with other jobs.
 fn first_line(
     alloc: Global,
     line: &str,
     epoch: u64,
     names: &[NamedCollector],
     core: &Core,
-) -> io::Result<FirstLine> {
+) -> Result<Option<FirstLine>, AllocError>
+    requires { IsRenewed core.now }
+    ensures { IfOk result (λ o. IfSome o (Opens (Some core.now))) }
+{
     let line = with_epoch(alloc, line.as_bytes(), epoch)?;
     let named = with_names(alloc, line.as_slice(), names);
     drop(line);
     let named = named?;
-    match FirstLine::renewed(alloc, named.as_slice(), core)? {
-        Some(first) => Ok(first),
-        None => Err(io::ErrorKind::InvalidData.into()),
-    }
+    FirstLine::renewed(alloc, named.as_slice(), core)
 }
 
 /// Nothing is kept any more, unless it was memory that failed.
@@ -323,7 +365,9 @@ fn break_down<R: Clock + Eprint + Copy, F>(
     rt: &R,
     file: &mut JournalFile<F>,
     error: io::Error,
-) -> io::Result<()> {
+) -> io::Result<()>
+    ensures { OnOk result (file.new.is_broken ≡ true) }
+{
     if error.kind() == io::ErrorKind::OutOfMemory {
         return Err(error);
     }
