@@ -1,10 +1,12 @@
 //! The service over one desk.
-ghost use Rattle.std.specs.Prelude.{◌≡◌, IfOk};
-ghost use Rattle.kept_journal.specs.Keeping.{MeansKeptIn};
+ghost use Rattle.std.specs.Prelude.{◌≡◌, List, None, IfOk};
+ghost use Rattle.journal_entries.specs.Legal.{IsLegal};
+ghost use Rattle.journal_entries.specs.declared.entry.Entry.{Entry};
+ghost use Rattle.kept_journal.specs.Keeping.{IsOfService, MeansKeptWhere};
 ghost use Rattle.service_tasks.specs.Later.{IsLater};
 
 use crate::running::Served;
-use alloc_desk::{Desk, Log, Pass};
+use alloc_desk::{Closed, Desk, Log, Pass};
 use allocation_core::Core;
 use durable_journal::Device;
 use event_loops::{Gate, Times};
@@ -12,8 +14,8 @@ use file_configs::ReadFiles;
 use http_get::FetchSeveral;
 use kept_journal::{DeskJournal, JournalName, Kept};
 use sd_server::{Handler, ListTexts};
-use service_state::{ConfigPages, Kept, ServiceState};
-use service_tasks::{Configuration, Crew, Ending, Office, Service, Shared, kept_of};
+use service_state::{ConfigPages, ServiceState};
+use service_tasks::{Configuration, Crew, Ending, Journal, Office, Service, Shared, kept_of};
 use std::alloc::{AllocError, AllocGlobal, Global};
 use std::io;
 use std::net::{Net, TcpListener, TcpStream};
@@ -26,7 +28,8 @@ use std::time::Clock;
 /// How many passes a desk has: of the server, of the schedule, of the journal's file, and of the refresher.
 pub(crate) const SEATS: u32 = 4;
 
-/// Serves over one desk until it is to be closed, and gives the allocator back.
+/// Serves over one desk until it is to be closed, and gives the allocator back. The file of the journal led to the allocator that the desk is
+/// opened with, and leads to the one that it is closed with.
 pub(crate) fn serve_desk<R, L, B, N, S, F, C>(
     rt: &R,
     alloc: Global,
@@ -53,21 +56,21 @@ where
     B: Ledger + Send + Sync,
     N: JournalName + Send + Sync,
     S: FetchSeveral + ReadFiles + Send + Drop,
-    F: Device + Send,
+    F: Device + Send + Drop,
     C: Configuration + Send + Drop,
     requires core { (core ≡ N.opening) × (N.seats ≡ SEATS) }
     requires calls { (calls.name ≡ L.name) × (calls.parts ≡ L.parts) × (L.parts ≡ SEATS) }
     requires samples { (samples.name ≡ B.name) × (samples.parts ≡ B.parts) × (B.parts ≡ SEATS) }
     requires log { log ≡ N.book }
-    requires keeps { MeansKeptIn F.contents F.kept N.keeps office.old.journal.file }
-    ensures { IfOk result (λ r. IsLater N.opening r.0) }
+    requires file { IsOfService F.tells F.contents N.opening office.old.journal.file }
+    requires keeps { MeansKeptWhere F.tells F.kept N.opening office.old.journal.file N.keeps }
+    ensures later { IfOk result (λ r. IsLater N.opening r.0) }
+    ensures file { IfOk result (λ r. IsOfService F.tells F.contents r.0 office.new.journal.file) }
 {
     match Desk::<L, B, N>::open(alloc, core, SEATS, calls, samples, log) {
         Ok((desk, passes)) => {
-            let mut journal = office.journal.of_desk(desk.front(rt));
-            let served = serve_open(rt, alloc, service, office, &mut journal, desk, passes);
-            office.journal.take_back(journal);
-            served
+            let journal = office.journal.of_desk(desk.front(rt));
+            serve_open(rt, alloc, service, office, journal, desk, passes)
         }
         Err(core) => {
             drop(core);
@@ -82,7 +85,7 @@ fn serve_open<R, L, B, N, S, F, C>(
     alloc: Global,
     service: &Service,
     office: &mut Office<S, F, C>,
-    journal: &mut Option<DeskJournal<F, N>>,
+    journal: Option<DeskJournal<F, N>>,
     desk: Desk<L, B, N>,
     mut passes: Vec<Pass<L, B, N>>,
 ) -> io::Result<(Core, Ending)>
@@ -102,22 +105,24 @@ where
     B: Ledger + Send + Sync,
     N: JournalName + Send + Sync,
     S: FetchSeveral + ReadFiles + Send + Drop,
-    F: Device + Send,
+    F: Device + Send + Drop,
     C: Configuration + Send + Drop,
-    ensures { IfOk result (λ r. IsLater N.opening r.0) }
+    requires { journal ≡ None → (entries : List Entry) → N.keeps entries }
+    ensures later { IfOk result (λ r. IsLater N.opening r.0) }
+    ensures file { IfOk result (λ r. IsOfService F.tells F.contents r.0 office.new.journal.file) }
 {
     let Some(asked) = passes.pop() else {
-        drop((desk, passes));
+        drop((journal, desk, passes));
         return Err(AllocError.into());
     };
     let Some(crew) = Crew::muster(passes) else {
-        drop((desk, asked));
+        drop((journal, desk, asked));
         return Err(AllocError.into());
     };
-    match handler_of(rt, alloc, office, journal, desk, asked) {
+    match handler_of(rt, alloc, office, &journal, desk, asked) {
         Ok(handler) => serve_by(rt, service, office, journal, handler, crew),
         Err(AllocError) => {
-            drop(crew);
+            drop((journal, crew));
             Err(AllocError.into())
         }
     }
@@ -128,7 +133,7 @@ fn serve_by<R, L, B, N, S, F, C>(
     rt: &R,
     service: &Service,
     office: &mut Office<S, F, C>,
-    journal: &mut Option<DeskJournal<F, N>>,
+    mut journal: Option<DeskJournal<F, N>>,
     handler: Handler<R, L, B, N>,
     mut crew: Crew<L, B, N>,
 ) -> io::Result<(Core, Ending)>
@@ -148,14 +153,15 @@ where
     B: Ledger + Send + Sync,
     N: JournalName + Send + Sync,
     S: FetchSeveral + ReadFiles + Send + Drop,
-    F: Device + Send,
+    F: Device + Send + Drop,
     C: Configuration + Send + Drop,
-    ensures { IfOk result (λ r. IsLater N.opening r.0) }
+    ensures later { IfOk result (λ r. IsLater N.opening r.0) }
+    ensures file { IfOk result (λ r. IsOfService F.tells F.contents r.0 office.new.journal.file) }
 {
-    match run(rt, service, office, journal, &handler, &mut crew) {
-        Ok(ending) => ended(handler, crew, ending),
+    match run(rt, service, office, &mut journal, &handler, &mut crew) {
+        Ok(ending) => ended(&mut office.journal, journal, handler, crew, ending),
         Err(error) => {
-            drop((handler, crew));
+            drop((journal, handler, crew));
             Err(error)
         }
     }
@@ -169,7 +175,9 @@ fn handler_of<R: Wait + Copy, L: Ledger, B: Ledger, N: JournalName, S, F: Device
     journal: &Option<DeskJournal<F, N>>,
     desk: Desk<L, B, N>,
     asked: Pass<L, B, N>,
-) -> Result<Handler<R, L, B, N>, AllocError> {
+) -> Result<Handler<R, L, B, N>, AllocError>
+    requires { journal.now ≡ None → (entries : List Entry) → N.keeps entries }
+{
     match Shown::of(rt, alloc, office, journal) {
         Ok(shown) => handler_with(rt, alloc, office, shown, desk, asked),
         Err(error) => {
@@ -186,6 +194,8 @@ struct Shown<N: JournalName> {
     texts: Arc<ListTexts<N>>,
     pages: Arc<ConfigPages>,
     state: Arc<ServiceState>,
+    // where nothing is to be kept, all counts as kept
+    ghost free: { kept ≡ None → (entries : List Entry) → N.keeps entries },
 }
 
 impl<N: JournalName> Shown<N> {
@@ -194,7 +204,9 @@ impl<N: JournalName> Shown<N> {
         alloc: Global,
         office: &Office<S, F, C>,
         journal: &Option<DeskJournal<F, N>>,
-    ) -> Result<Shown<N>, AllocError> {
+    ) -> Result<Shown<N>, AllocError>
+        requires { journal.now ≡ None → (entries : List Entry) → N.keeps entries }
+    {
         let kept = kept_of(rt, alloc, journal)?;
         let texts = shared(alloc, ListTexts::new(alloc))?;
         let pages = Arc::try_clone(&office.pages)?;
@@ -301,7 +313,7 @@ where
     B: Ledger + Send + Sync,
     N: JournalName + Send + Sync,
     S: FetchSeveral + ReadFiles + Send + Drop,
-    F: Device + Send,
+    F: Device + Send + Drop,
     C: Configuration + Send + Drop,
 {
     let gate = gate_of(handler.alloc, office)?;
@@ -338,21 +350,30 @@ fn shared_by<R: Wait + Copy, L: Ledger, B: Ledger, N: JournalName, S, F, C>(
     Shared::new(rt, handler.alloc, service, office, desk, kept)
 }
 
-/// Closes the desk of a handler and a crew whose threads have ended.
-fn ended<R: Drop, L: Ledger, B: Ledger, N: JournalName>(
+/// Closes the desk of a handler and a crew whose threads have ended, and its journal.
+fn ended<R: Drop, L: Ledger, B: Ledger, N: JournalName, F: Device + Drop>(
+    service: &mut Journal<F>,
+    journal: Option<DeskJournal<F, N>>,
     handler: Handler<R, L, B, N>,
     crew: Crew<L, B, N>,
     ending: Ending,
 ) -> io::Result<(Core, Ending)>
-    ensures { IfOk result (λ r. IsLater N.opening r.0) }
+    ensures later { IfOk result (λ r. IsLater N.opening r.0) }
+    ensures file { IfOk result (λ r. IsOfService F.tells F.contents r.0 service.new.file) }
 {
     match crew.dismiss(handler.alloc) {
         Ok(passes) => match closed(handler, passes) {
-            Ok(core) => Ok((core, ending)),
-            Err(error) => Err(error),
+            Ok(closed) => {
+                service.end_desk(journal, &closed);
+                Ok((closed.into_core(), ending))
+            }
+            Err(error) => {
+                drop(journal);
+                Err(error)
+            }
         },
         Err(AllocError) => {
-            drop(handler);
+            drop((journal, handler));
             Err(AllocError.into())
         }
     }
@@ -362,13 +383,13 @@ fn ended<R: Drop, L: Ledger, B: Ledger, N: JournalName>(
 fn closed<R: Drop, L: Ledger, B: Ledger, N: JournalName>(
     handler: Handler<R, L, B, N>,
     passes: Vec<Pass<L, B, N>>,
-) -> io::Result<Core>
-    ensures { IfOk result (IsLater N.opening) }
+) -> io::Result<Closed<N>>
+    ensures { IfOk result (λ c. IsLegal N.opening c.journal c.state) }
 {
     let (desk, pass) = desk_of(handler);
     let (desk, passes) = brought_back(desk, pass, passes)?;
     match desk.close(passes) {
-        Ok(closed) => Ok(closed.into_core()),
+        Ok(closed) => Ok(closed),
         Err(missing) => {
             drop(missing);
             Err(io::ErrorKind::ResourceBusy.into())

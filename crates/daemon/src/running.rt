@@ -49,7 +49,7 @@ where
     /// Runs the threads: that which keeps the journal ends once all others have.
     pub(crate) fn run<
         S: FetchSeveral + ReadFiles + Send + Drop,
-        F: Device + Send,
+        F: Device + Send + Drop,
         C: Configuration + Send + Drop,
     >(
         &self,

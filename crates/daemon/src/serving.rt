@@ -1,5 +1,6 @@
 //! A service from its beginning to its end.
 ghost use Rattle.std.specs.Prelude.{◌≡◌, IfOk};
+ghost use Rattle.kept_journal.specs.Keeping.{IsOfService};
 ghost use Rattle.service_tasks.specs.Later.{IsLater};
 
 use crate::one_desk::{SEATS, serve_desk};
@@ -19,8 +20,9 @@ use std::sync::ledger::Blank;
 use std::thread::Threads;
 use std::time::Clock;
 
-/// Serves over an allocator with its journal until the service is to end, and gives the allocator back as it is then. The archive
-/// begins the journals after it. The configuration is read again when a request asks for it. The device asks the sources, and reads their files.
+/// Serves over an allocator with its journal until the service is to end, and gives the allocator back as it is then. The file of the journal
+/// leads to the allocator. The archive begins the journals after it: over each desk that is opened in between, the file that is written behind
+/// leads to the allocator that the desk is opened with. The configuration is read again when a request asks for it. The device asks the sources, and reads their files.
 pub fn serve<R, S, F, A, C>(
     rt: &R,
     alloc: Global,
@@ -48,6 +50,7 @@ where
     F: Device + Send + Drop,
     A: Archive<F>,
     C: Configuration + Send + Drop,
+    requires { IsOfService F.tells F.contents core journal.file }
     ensures { IfOk result (IsLater core) }
 {
     match Office::open(
@@ -98,6 +101,7 @@ where
     F: Device + Send + Drop,
     A: Archive<F>,
     C: Configuration + Send + Drop,
+    requires { IsOfService F.tells F.contents core office.old.journal.file }
     ensures { IfOk result (IsLater core) }
 {
     let mut core = core;
@@ -133,9 +137,11 @@ where
         + Copy
         + Drop,
     S: FetchSeveral + ReadFiles + Send + Drop,
-    F: Device + Send,
+    F: Device + Send + Drop,
     C: Configuration + Send + Drop,
-    ensures { IfOk result (λ r. IsLater core r.0) }
+    requires { IsOfService F.tells F.contents core office.old.journal.file }
+    ensures later { IfOk result (λ r. IsLater core r.0) }
+    ensures file { IfOk result (λ r. IsOfService F.tells F.contents r.0 office.new.journal.file) }
 {
     let seats = u64::from(SEATS);
     let ended = serve_desk::<R, Brand, Brand, Brand, S, F, C>(

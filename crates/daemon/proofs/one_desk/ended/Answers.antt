@@ -2,9 +2,9 @@ use Rattle.std.proofs.Common.{subst, sym}
 use Rattle.allocation_core.specs.State.{State}
 use Rattle.service_tasks.specs.Later.{IsLater}
 use Rattle.daemon.proofs.Laters.{legal_is_later}
-use Rattle.daemon.proofs.one_desk.closed.Goals as goal
+use Rattle.daemon.proofs.one_desk.ended.Goals as goal
 
-pub returns-in-Ok : goal.returns-in-Ok
-returns-in-Ok g c =
+pub returns-in-Ok-clause-later : goal.returns-in-Ok-clause-later
+returns-in-Ok-clause-later g c =
     subst (λ (m : State). IsLater g.N.DeskName.opening m) (sym c.into_core.ensures)
-    (legal_is_later g.N.DeskName.opening c.in-Ok.closed.state c.in-Ok.closed.journal c.in-Ok.ensures.legal)
+    (legal_is_later g.N.DeskName.opening c.in-Ok.closed.state c.in-Ok.closed.journal c.in-Ok.ensures)
