@@ -1,7 +1,6 @@
 //! The service over one desk.
-ghost use Rattle.std.specs.Prelude.{◌≡◌, List, None, IfOk};
+ghost use Rattle.std.specs.Prelude.{◌≡◌, None, IfOk};
 ghost use Rattle.journal_entries.specs.Legal.{IsLegal};
-ghost use Rattle.journal_entries.specs.declared.entry.Entry.{Entry};
 ghost use Rattle.kept_journal.specs.Keeping.{IsOfService, MeansKeptWhere};
 ghost use Rattle.service_tasks.specs.Later.{IsLater};
 
@@ -107,7 +106,6 @@ where
     S: FetchSeveral + ReadFiles + Send + Drop,
     F: Device + Send + Drop,
     C: Configuration + Send + Drop,
-    requires { journal ≡ None → (entries : List Entry) → N.keeps entries }
     ensures later { IfOk result (λ r. IsLater N.opening r.0) }
     ensures file { IfOk result (λ r. IsOfService F.tells F.contents r.0 office.new.journal.file) }
 {
@@ -128,7 +126,7 @@ where
     }
 }
 
-/// Serves over a handler's desk.
+/// Serves over a handler's desk. Where the desk has a journal, the handler waits for what is kept of it.
 fn serve_by<R, L, B, N, S, F, C>(
     rt: &R,
     service: &Service,
@@ -155,6 +153,7 @@ where
     S: FetchSeveral + ReadFiles + Send + Drop,
     F: Device + Send + Drop,
     C: Configuration + Send + Drop,
+    requires { handler.kept ≡ None → journal ≡ None }
     ensures later { IfOk result (λ r. IsLater N.opening r.0) }
     ensures file { IfOk result (λ r. IsOfService F.tells F.contents r.0 office.new.journal.file) }
 {
@@ -176,7 +175,7 @@ fn handler_of<R: Wait + Copy, L: Ledger, B: Ledger, N: JournalName, S, F: Device
     desk: Desk<L, B, N>,
     asked: Pass<L, B, N>,
 ) -> Result<Handler<R, L, B, N>, AllocError>
-    requires { journal.now ≡ None → (entries : List Entry) → N.keeps entries }
+    ensures { IfOk result (λ h. h.kept ≡ None → journal.now ≡ None) }
 {
     match Shown::of(rt, alloc, office, journal) {
         Ok(shown) => handler_with(rt, alloc, office, shown, desk, asked),
@@ -194,8 +193,6 @@ struct Shown<N: JournalName> {
     texts: Arc<ListTexts<N>>,
     pages: Arc<ConfigPages>,
     state: Arc<ServiceState>,
-    // where nothing is to be kept, all counts as kept
-    ghost free: { kept ≡ None → (entries : List Entry) → N.keeps entries },
 }
 
 impl<N: JournalName> Shown<N> {
@@ -205,7 +202,7 @@ impl<N: JournalName> Shown<N> {
         office: &Office<S, F, C>,
         journal: &Option<DeskJournal<F, N>>,
     ) -> Result<Shown<N>, AllocError>
-        requires { journal.now ≡ None → (entries : List Entry) → N.keeps entries }
+        ensures { IfOk result (λ s. s.kept ≡ None → journal.now ≡ None) }
     {
         let kept = kept_of(rt, alloc, journal)?;
         let texts = shared(alloc, ListTexts::new(alloc))?;
@@ -227,7 +224,9 @@ fn handler_with<R: Copy, L: Ledger, B: Ledger, N: JournalName, S, F, C>(
     shown: Shown<N>,
     desk: Desk<L, B, N>,
     asked: Pass<L, B, N>,
-) -> Result<Handler<R, L, B, N>, AllocError> {
+) -> Result<Handler<R, L, B, N>, AllocError>
+    ensures { IfOk result (λ h. h.kept ≡ shown.kept) }
+{
     let doors = match Arc::try_clone(&office.doors) {
         Ok(doors) => doors,
         Err(error) => {
@@ -315,6 +314,7 @@ where
     S: FetchSeveral + ReadFiles + Send + Drop,
     F: Device + Send + Drop,
     C: Configuration + Send + Drop,
+    requires { handler.now.kept ≡ None → journal.old ≡ None }
 {
     let gate = gate_of(handler.alloc, office)?;
     let shared = shared_by(rt, service, office, handler)?;

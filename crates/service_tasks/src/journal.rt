@@ -1,6 +1,5 @@
 //! The journal of a service, and the epoch that it is of.
-ghost use Rattle.std.specs.Prelude.{◌≡◌, List, None, IfOk};
-ghost use Rattle.journal_entries.specs.declared.entry.Entry.{Entry};
+ghost use Rattle.std.specs.Prelude.{◌≡◌, None, IfOk};
 ghost use Rattle.kept_journal.specs.Keeping.{IsOfService, MeansKeptWhere};
 
 use alloc_desk::{Closed, Front};
@@ -26,8 +25,7 @@ impl<F: Device + Drop> Journal<F> {
     pub fn of_desk<N: JournalName>(&mut self, front: Front<N>) -> Option<DeskJournal<F, N>>
         requires file { IsOfService F.tells F.contents N.opening self.old.file }
         requires means { MeansKeptWhere F.tells F.kept N.opening self.old.file N.keeps }
-        ensures none { result ≡ None → (entries : List Entry) → N.keeps entries }
-        ensures file { self.new.file ≡ None }
+        ensures { self.new.file ≡ None }
     {
         match self.file.take() {
             Some(file) => Some(DeskJournal::new(file, front)),
