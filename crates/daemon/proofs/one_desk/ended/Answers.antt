@@ -4,7 +4,7 @@ use Rattle.service_tasks.specs.Later.{IsLater}
 use Rattle.daemon.proofs.Laters.{legal_is_later}
 use Rattle.daemon.proofs.one_desk.ended.Goals as goal
 
-pub returns-in-Ok-clause-later : goal.returns-in-Ok-clause-later
-returns-in-Ok-clause-later g c =
+pub returns-in-Ok-closed-clause-later : goal.returns-in-Ok-closed-clause-later
+returns-in-Ok-closed-clause-later g c =
     subst (λ (m : State). IsLater g.N.DeskName.opening m) (sym c.into_core.ensures)
-    (legal_is_later g.N.DeskName.opening c.in-Ok.closed.state c.in-Ok.closed.journal c.in-Ok.ensures)
+    (legal_is_later g.N.DeskName.opening c.in-Ok-closed.closed.state c.in-Ok-closed.closed.journal c.in-Ok-closed.ensures)
