@@ -21,7 +21,11 @@ impl<R: Wait + Clock + Copy, L: Ledger, B: Ledger, N: DeskName> Handler<R, L, B,
         ensures { SaysBooks N.opening asked result }
     {
         match self.books_asked(asked) {
-            Ok(Some(row)) => self.books_told(asked, &row),
+            Ok(Some(row)) => {
+                let said = self.books_told(asked, &row);
+                drop(row);
+                said
+            }
             Ok(None) => Said::Refused(RequestError::UnknownRound),
             Err(_) => Said::Refused(RequestError::Memory),
         }
@@ -53,10 +57,14 @@ impl<R: Wait + Clock + Copy, L: Ledger, B: Ledger, N: DeskName> Handler<R, L, B,
         ensures { SaysBooks N.opening asked result }
     {
         match self.books_asked(asked) {
-            Ok(Some(row)) => match self.books_document_text(&row) {
-                Ok(text) => Said::Document(text),
-                Err(_) => Said::Refused(RequestError::Memory),
-            },
+            Ok(Some(row)) => {
+                let text = self.books_document_text(&row);
+                drop(row);
+                match text {
+                    Ok(text) => Said::Document(text),
+                    Err(_) => Said::Refused(RequestError::Memory),
+                }
+            }
             Ok(None) => Said::Refused(RequestError::UnknownRound),
             Err(_) => Said::Refused(RequestError::Memory),
         }

@@ -91,14 +91,55 @@ impl<R: Wait + Clock + AllocGlobal + Copy + Drop, L: Ledger, B: Ledger, N: DeskN
         from: SocketAddr,
         exchanges: &Rc<Exchanges>,
     ) -> io::Result<(Wire<R>, Paced<AllocatorService<R, L, B, N>>)> {
-        let timer = TokioTimer::new(self.handler.rt, self.time.clone()?);
-        let service = AllocatorService::of(&self.handler, &self.routes, Some(from))?;
-        let service = Paced::new(service, exchanges.clone()?);
+        let wire = match self.wire(socket, exchanges) {
+            Ok(wire) => wire,
+            Err(error) => return Err(error),
+        };
+        match self.service(from, exchanges) {
+            Ok(service) => Ok((wire, service)),
+            Err(error) => {
+                drop(wire);
+                Err(error.into())
+            }
+        }
+    }
+
+    fn wire(
+        &self,
+        socket: tokio::net::TcpStream,
+        exchanges: &Rc<Exchanges>,
+    ) -> io::Result<Wire<R>> {
+        let time = match self.time.clone() {
+            Ok(time) => time,
+            Err(error) => {
+                drop(socket);
+                return Err(error.into());
+            }
+        };
+        let timer = TokioTimer::new(self.handler.rt, time);
         let linger = self.gate.times().linger;
-        Ok((
-            Socket::new(Spoken::new(socket), timer, exchanges.clone()?, linger),
-            service,
-        ))
+        match exchanges.clone() {
+            Ok(exchanges) => Ok(Socket::new(Spoken::new(socket), timer, exchanges, linger)),
+            Err(error) => {
+                drop((socket, timer));
+                Err(error.into())
+            }
+        }
+    }
+
+    fn service(
+        &self,
+        from: SocketAddr,
+        exchanges: &Rc<Exchanges>,
+    ) -> Result<Paced<AllocatorService<R, L, B, N>>, AllocError> {
+        let service = AllocatorService::of(&self.handler, &self.routes, Some(from))?;
+        match exchanges.clone() {
+            Ok(exchanges) => Ok(Paced::new(service, exchanges)),
+            Err(error) => {
+                drop(service);
+                Err(error)
+            }
+        }
     }
 }
 
@@ -116,11 +157,32 @@ impl<R: Wait + Clock + AllocGlobal + Copy + Drop, L: Ledger, B: Ledger, N: DeskN
         place: OwnedSemaphorePermit,
     ) -> io::Result<Self::Conn> {
         let is_pressed = self.gate.is_pressed();
-        let exchanges = self.exchanges(is_pressed)?;
-        let limits = self.limits(is_pressed, &exchanges, place)?;
-        let (wire, service) = self.ends(socket, from, &exchanges)?;
-        let conn = self.http.serve_connection(wire, service);
-        Ok(Timed { conn, limits })
+        let exchanges = match self.exchanges(is_pressed) {
+            Ok(exchanges) => exchanges,
+            Err(error) => {
+                drop((socket, place));
+                return Err(error.into());
+            }
+        };
+        let limits = match self.limits(is_pressed, &exchanges, place) {
+            Ok(limits) => limits,
+            Err(error) => {
+                drop((socket, exchanges));
+                return Err(error);
+            }
+        };
+        let ends = self.ends(socket, from, &exchanges);
+        drop(exchanges);
+        match ends {
+            Ok((wire, service)) => Ok(Timed {
+                conn: self.http.serve_connection(wire, service),
+                limits,
+            }),
+            Err(error) => {
+                drop(limits);
+                Err(error)
+            }
+        }
     }
 
     fn fail(&self) {

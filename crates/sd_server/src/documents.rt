@@ -18,6 +18,7 @@ use sd_routes::{Ask, JobRow, RequestError, Said, SourceRow, WhichCollector, job_
 use service_pages::{
     MOST_ROWS, Rows, ShownCollector, ShownJob, collector_document, found_document, job_document,
 };
+use service_state::Notes;
 use std::alloc::AllocError;
 use std::sync::Wait;
 use std::sync::ledger::Ledger;
@@ -75,32 +76,64 @@ impl<R: Wait + Clock + Copy, L: Ledger, B: Ledger, N: DeskName> Handler<R, L, B,
         ensures { IfOk result (IsJobRowText job.now) }
     {
         let row = self.job_row(job, place)?;
-        job_row_page(self.alloc, &row)
+        let page = job_row_page(self.alloc, &row);
+        drop(row);
+        page
     }
 
     fn job_row(&self, job: &str, place: usize) -> Result<JobRow, AllocError>
         ensures { IfOk result (λ row. row.name ≡ job.now) }
     {
         let state = self.job_state(place, 0)?;
-        let held = held_by_name(self.alloc, state.shares.as_slice())?;
-        let sources = self.sources_of(job, place)?;
+        let row = self.job_row_of(job, place, &state);
+        drop(state);
+        row
+    }
+
+    fn job_row_of(&self, job: &str, place: usize, state: &JobState) -> Result<JobRow, AllocError>
+        ensures { IfOk result (λ row. row.name ≡ job.now) }
+    {
         let name = Text::from_str(self.alloc, job)?;
-        Ok(JobRow {
-            name,
-            live: state.live,
-            covered: state.covered(),
-            uncovered: state.uncovered(),
-            unreached: state.unreached(),
-            handing_over: state.handing_over(),
-            held,
-            sources,
-        })
+        match self.held_and_sources(job, place, state) {
+            Ok((held, sources)) => Ok(JobRow {
+                name,
+                live: state.live,
+                covered: state.covered(),
+                uncovered: state.uncovered(),
+                unreached: state.unreached(),
+                handing_over: state.handing_over(),
+                held,
+                sources,
+            }),
+            Err(error) => {
+                drop(name);
+                Err(error)
+            }
+        }
+    }
+
+    fn held_and_sources(
+        &self,
+        job: &str,
+        place: usize,
+        state: &JobState,
+    ) -> Result<(List<(Text, u32)>, List<SourceRow>), AllocError> {
+        let held = held_by_name(self.alloc, state.shares.as_slice())?;
+        match self.sources_of(job, place) {
+            Ok(sources) => Ok((held, sources)),
+            Err(error) => {
+                drop(held);
+                Err(error)
+            }
+        }
     }
 
     fn sources_of(&self, job: &str, place: usize) -> Result<List<SourceRow>, AllocError> {
         let notes = self.state.notes(&self.rt, self.alloc)?;
         let urls = self.pages.urls_at(place);
-        source_rows(self.alloc, job, urls, notes.sources.as_slice())
+        let rows = source_rows(self.alloc, job, urls, notes.sources.as_slice());
+        drop(notes);
+        rows
     }
 
     fn job_state(&self, place: usize, most_rows: usize) -> Result<JobState, AllocError> {
@@ -126,7 +159,25 @@ impl<R: Wait + Clock + Copy, L: Ledger, B: Ledger, N: DeskName> Handler<R, L, B,
 
     fn job_document_text(&self, job: &str, place: usize) -> Result<Text, AllocError> {
         let state = self.job_state(place, MOST_ROWS)?;
-        let notes = self.state.notes(&self.rt, self.alloc)?;
+        let text = match self.state.notes(&self.rt, self.alloc) {
+            Ok(notes) => {
+                let text = self.job_document_of(job, place, &state, &notes);
+                drop(notes);
+                text
+            }
+            Err(error) => Err(error),
+        };
+        drop(state);
+        text
+    }
+
+    fn job_document_of(
+        &self,
+        job: &str,
+        place: usize,
+        state: &JobState,
+        notes: &Notes,
+    ) -> Result<Text, AllocError> {
         let standing = self.state.standing(&self.rt, self.kept.is_some());
         let shown = ShownJob {
             name: job,
@@ -213,9 +264,12 @@ impl<R: Wait + Clock + Copy, L: Ledger, B: Ledger, N: DeskName> Handler<R, L, B,
 
     fn found_document_text(&self, text: &str) -> Result<Text, AllocError> {
         let numbers = self.matching(text)?;
-        let state = self.found_state(numbers.as_slice())?;
-        let shown = state.shown(text);
-        found_document(self.alloc, &shown)
+        let state = self.found_state(numbers.as_slice());
+        drop(numbers);
+        let state = state?;
+        let page = found_document(self.alloc, &state.shown(text));
+        drop(state);
+        page
     }
 
     fn found_state(&self, numbers: &[TargetId]) -> Result<FoundState, AllocError> {

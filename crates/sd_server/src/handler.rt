@@ -21,7 +21,7 @@ use admission::Admission;
 use alloc_desk::{Desk, DeskName, EnterError, Pass, Receipt};
 use allocation_core::{Answer, Event, Refusal};
 use event_loops::Gate;
-use fleet_events::CollectorId;
+use fleet_events::{CollectorId, TargetId};
 use lists::{List, Plain, Text};
 use price_certificate::{Instance, Plan};
 use reach_rules::CollectorName;
@@ -39,7 +39,7 @@ use std::net::SocketAddr;
 use std::sync::ledger::Ledger;
 use std::sync::{Arc, Mutex, Wait};
 use std::time::{Clock, Duration, Instant};
-use target_shares::Share;
+use target_shares::{NumberedTarget, Share};
 use tokio::sync::oneshot::Receiver;
 use tokio::time::{Handle, Timeout};
 
@@ -73,21 +73,103 @@ impl<R: Wait + Clock + Copy, L: Ledger, B: Ledger, N: DeskName> Handler<R, L, B,
     pub fn another(&self) -> Result<Handler<R, L, B, N>, AllocError>
         ensures { IfOk result (λ h. arc_value h.pages ≡ arc_value self.now.pages) }
     {
-        Ok(Handler {
-            rt: self.rt,
-            alloc: self.alloc,
-            desk: Arc::try_clone(&self.desk)?,
-            pass: Arc::try_clone(&self.pass)?,
-            pages: Arc::try_clone(&self.pages)?,
-            state: Arc::try_clone(&self.state)?,
-            kept: Kept::shared(&self.kept)?,
-            epoch: self.epoch,
-            texts: Arc::try_clone(&self.texts)?,
-            doors: Arc::try_clone(&self.doors)?,
-            peer: self.peer,
-            time: self.timers()?,
-            gate: self.same_gate()?,
-        })
+        let time = self.timers()?;
+        match self.same_gate() {
+            Ok(gate) => self.with(time, gate),
+            Err(error) => {
+                drop(time);
+                Err(error)
+            }
+        }
+    }
+
+    /// Another for the same desk and the same pass, with these timers and this gate.
+    fn with(
+        &self,
+        time: Option<Handle>,
+        gate: Option<Arc<Gate>>,
+    ) -> Result<Handler<R, L, B, N>, AllocError>
+        ensures { IfOk result (λ h. arc_value h.pages ≡ arc_value self.now.pages) }
+    {
+        let (desk, pass) = match self.same_desk() {
+            Ok(same) => same,
+            Err(error) => {
+                drop((time, gate));
+                return Err(error);
+            }
+        };
+        let (pages, state) = match self.same_pages() {
+            Ok(same) => same,
+            Err(error) => {
+                drop((time, gate, desk, pass));
+                return Err(error);
+            }
+        };
+        match self.same_texts() {
+            Ok((kept, texts, doors)) => Ok(Handler {
+                rt: self.rt,
+                alloc: self.alloc,
+                desk,
+                pass,
+                pages,
+                state,
+                kept,
+                epoch: self.epoch,
+                texts,
+                doors,
+                peer: self.peer,
+                time,
+                gate,
+            }),
+            Err(error) => {
+                drop((time, gate, desk, pass, pages, state));
+                Err(error)
+            }
+        }
+    }
+
+    fn same_desk(&self) -> Result<(Arc<Desk<L, B, N>>, Arc<Mutex<Pass<L, B, N>>>), AllocError> {
+        let desk = Arc::try_clone(&self.desk)?;
+        match Arc::try_clone(&self.pass) {
+            Ok(pass) => Ok((desk, pass)),
+            Err(error) => {
+                drop(desk);
+                Err(error)
+            }
+        }
+    }
+
+    fn same_pages(&self) -> Result<(Arc<ConfigPages>, Arc<ServiceState>), AllocError>
+        ensures { IfOk result (λ r. arc_value r.0 ≡ arc_value self.now.pages) }
+    {
+        let pages = Arc::try_clone(&self.pages)?;
+        match Arc::try_clone(&self.state) {
+            Ok(state) => Ok((pages, state)),
+            Err(error) => {
+                drop(pages);
+                Err(error)
+            }
+        }
+    }
+
+    fn same_texts(
+        &self,
+    ) -> Result<(Option<Arc<Kept>>, Arc<ListTexts<N>>, Arc<Admission>), AllocError> {
+        let kept = Kept::shared(&self.kept)?;
+        let texts = match Arc::try_clone(&self.texts) {
+            Ok(texts) => texts,
+            Err(error) => {
+                drop(kept);
+                return Err(error);
+            }
+        };
+        match Arc::try_clone(&self.doors) {
+            Ok(doors) => Ok((kept, texts, doors)),
+            Err(error) => {
+                drop((kept, texts));
+                Err(error)
+            }
+        }
     }
 
     /// Another for the same desk and the same pass, with the timers and the gate of a loop.
@@ -96,10 +178,14 @@ impl<R: Wait + Clock + Copy, L: Ledger, B: Ledger, N: DeskName> Handler<R, L, B,
         time: &Handle,
         gate: &Arc<Gate>,
     ) -> Result<Handler<R, L, B, N>, AllocError> {
-        let mut handler = self.another()?;
-        handler.time = Some(time.clone()?);
-        handler.gate = Some(Arc::try_clone(gate)?);
-        Ok(handler)
+        let time = time.clone()?;
+        match Arc::try_clone(gate) {
+            Ok(gate) => self.with(Some(time), Some(gate)),
+            Err(error) => {
+                drop(time);
+                Err(error)
+            }
+        }
     }
 
     /// The gate once more, where there is one.
@@ -153,8 +239,16 @@ impl<R: Wait + Clock + Copy, L: Ledger, B: Ledger, N: DeskName> Handler<R, L, B,
     {
         match event_of(self.alloc, ask, body, self.epoch) {
             Ok(Some(Wanted::Event(event))) => self.entered(event),
-            Ok(Some(Wanted::OfNamed { name, change })) => self.changed(&name, change),
-            Ok(Some(Wanted::Reports(events))) => self.reported(events.as_slice()),
+            Ok(Some(Wanted::OfNamed { name, change })) => {
+                let entry = self.changed(&name, change);
+                drop(name);
+                entry
+            }
+            Ok(Some(Wanted::Reports(events))) => {
+                let entry = self.reported(events.as_slice());
+                drop(events);
+                entry
+            }
             Ok(None) => self.shown(ask),
             Err(error) => Entry::Now(self.refused(ask, body, error)),
         }
@@ -358,9 +452,21 @@ impl<R: Wait + Clock + Copy, L: Ledger, B: Ledger, N: DeskName> Handler<R, L, B,
 
     fn metrics_text(&self) -> Result<Text, AllocError> {
         self.count_connections();
+        let (figures, notes) = self.figures_and_notes()?;
+        let page = metrics_page(self.alloc, &figures, &notes, &self.state);
+        drop((figures, notes));
+        page
+    }
+
+    fn figures_and_notes(&self) -> Result<(Figures, Notes), AllocError> {
         let figures = self.figures()?;
-        let notes = self.state.notes(&self.rt, self.alloc)?;
-        metrics_page(self.alloc, &figures, &notes, &self.state)
+        match self.state.notes(&self.rt, self.alloc) {
+            Ok(notes) => Ok((figures, notes)),
+            Err(error) => {
+                drop(figures);
+                Err(error)
+            }
+        }
     }
 
     fn status(&self) -> Said
@@ -374,9 +480,10 @@ impl<R: Wait + Clock + Copy, L: Ledger, B: Ledger, N: DeskName> Handler<R, L, B,
 
     fn status_text(&self) -> Result<Text, AllocError> {
         self.count_connections();
-        let figures = self.figures()?;
-        let notes = self.state.notes(&self.rt, self.alloc)?;
-        self.status_page_of(&figures, &notes)
+        let (figures, notes) = self.figures_and_notes()?;
+        let page = self.status_page_of(&figures, &notes);
+        drop((figures, notes));
+        page
     }
 
     fn status_page_of(&self, figures: &Figures, notes: &Notes) -> Result<Text, AllocError> {
@@ -473,15 +580,50 @@ impl<R: Wait + Clock + Copy, L: Ledger, B: Ledger, N: DeskName> Handler<R, L, B,
         ensures { IfOk result IsUncoveredText }
     {
         let uncovered = self.uncovered_at(place)?;
+        let text = self.uncovered_text_of(place, &uncovered);
+        drop(uncovered);
+        text
+    }
+
+    fn uncovered_text_of(&self, place: usize, uncovered: &Uncovered) -> Result<Text, AllocError>
+        ensures { IfOk result IsUncoveredText }
+    {
         let full = self.numbered(place, uncovered.full.as_slice())?;
-        let waiting = self.numbered(place, uncovered.handing_over.as_slice())?;
-        let unreached = self.numbered(place, uncovered.unreached.as_slice())?;
-        uncovered_page(
+        let (waiting, unreached) = match self.numbered_both(
+            place,
+            uncovered.handing_over.as_slice(),
+            uncovered.unreached.as_slice(),
+        ) {
+            Ok(both) => both,
+            Err(error) => {
+                drop(full);
+                return Err(error);
+            }
+        };
+        let text = uncovered_page(
             self.alloc,
             full.as_slice(),
             waiting.as_slice(),
             unreached.as_slice(),
-        )
+        );
+        drop((full, waiting, unreached));
+        text
+    }
+
+    fn numbered_both(
+        &self,
+        place: usize,
+        some: &[TargetId],
+        others: &[TargetId],
+    ) -> Result<(List<NumberedTarget>, List<NumberedTarget>), AllocError> {
+        let some = self.numbered(place, some)?;
+        match self.numbered(place, others) {
+            Ok(others) => Ok((some, others)),
+            Err(error) => {
+                drop(some);
+                Err(error)
+            }
+        }
     }
 
     fn uncovered_at(&self, place: usize) -> Result<Uncovered, AllocError> {
@@ -499,12 +641,17 @@ impl<R: Wait + Clock + Copy, L: Ledger, B: Ledger, N: DeskName> Handler<R, L, B,
         ensures not { IfErr result (SaysNot N.opening) }
     {
         if self.is_broken() {
+            drop(event);
             return Err(RequestError::NotKept);
         }
         let kind = EventKind::of(&event);
-        let receipt = self.entered_now(event)?;
-        self.state.count_event(&self.rt, kind, &receipt.answer);
-        Ok(receipt)
+        match self.entered_now(event) {
+            Ok(receipt) => {
+                self.state.count_event(&self.rt, kind, &receipt.answer);
+                Ok(receipt)
+            }
+            Err(error) => Err(error),
+        }
     }
 
     /// Whether what is submitted cannot be kept.

@@ -49,7 +49,6 @@ pub(crate) fn job_state(
     place: usize,
     most_rows: usize,
 ) -> Result<JobState, AllocError> {
-    let uncovered = uncovered_of(alloc, core, place)?;
     let live = core.fleet().live_marks()?;
     let sight = Sight {
         alloc,
@@ -57,15 +56,20 @@ pub(crate) fn job_state(
         place,
         live: live.as_slice(),
     };
-    let shares = sight.shares()?;
-    let targets = sight.rows(&uncovered, most_rows)?;
-    Ok(JobState {
-        live: sight.count_live(),
-        uncovered,
-        shares,
-        targets,
-        moment: moment_of(core),
-    })
+    let uncovered = uncovered_of(alloc, core, place)?;
+    match sight.shares_and_rows(&uncovered, most_rows) {
+        Ok((shares, targets)) => Ok(JobState {
+            live: sight.count_live(),
+            uncovered,
+            shares,
+            targets,
+            moment: moment_of(core),
+        }),
+        Err(error) => {
+            drop(uncovered);
+            Err(error)
+        }
+    }
 }
 
 pub(crate) fn moment_of(core: &Core) -> Moment {
@@ -111,6 +115,21 @@ impl Sight<'_> {
         is_of && self.live.get(target as usize) == Some(&true)
     }
 
+    fn shares_and_rows(
+        &self,
+        uncovered: &Uncovered,
+        most: usize,
+    ) -> Result<(Vec<JobShare>, Vec<TargetRow>), AllocError> {
+        let shares = self.shares()?;
+        match self.rows(uncovered, most) {
+            Ok(rows) => Ok((shares, rows)),
+            Err(error) => {
+                drop(shares);
+                Err(error)
+            }
+        }
+    }
+
     fn shares(&self) -> Result<Vec<JobShare>, AllocError> {
         let counts = self.held_counts()?;
         let mut shares = Vec::new(self.alloc);
@@ -143,16 +162,30 @@ impl Sight<'_> {
 
     fn rows(&self, uncovered: &Uncovered, most: usize) -> Result<Vec<TargetRow>, AllocError> {
         let mut rows = Vec::new(self.alloc);
+        match self.push_rows(uncovered, most, &mut rows) {
+            Ok(()) => Ok(rows),
+            Err(error) => {
+                drop(rows);
+                Err(error)
+            }
+        }
+    }
+
+    fn push_rows(
+        &self,
+        uncovered: &Uncovered,
+        most: usize,
+        rows: &mut Vec<TargetRow>,
+    ) -> Result<(), AllocError> {
         for number in uncovered.unreached.iter().take(most) {
-            push_row(self.alloc, self.core, *number, Keeper::Unreached, &mut rows)?;
+            push_row(self.alloc, self.core, *number, Keeper::Unreached, rows)?;
         }
         for number in uncovered.full.iter().take(most.saturating_sub(rows.len())) {
-            push_row(self.alloc, self.core, *number, Keeper::Full, &mut rows)?;
+            push_row(self.alloc, self.core, *number, Keeper::Full, rows)?;
         }
         let handing_over = uncovered.handing_over.as_slice();
-        self.push_covered(handing_over, true, most, &mut rows)?;
-        self.push_covered(handing_over, false, most, &mut rows)?;
-        Ok(rows)
+        self.push_covered(handing_over, true, most, rows)?;
+        self.push_covered(handing_over, false, most, rows)
     }
 
     /// Adds the rows of the held targets that are handed over, or of those that are not, until there are so many rows.

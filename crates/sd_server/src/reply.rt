@@ -167,7 +167,7 @@ impl<R: Wait + Clock + Copy + Drop, L: Ledger, B: Ledger, N: DeskName, I: Drop> 
             Stage::Reading(reading) => {
                 let read = ready!(reading.body.poll(cx));
                 let entry = reading.entry(read);
-                self.stage = Stage::Told(entry);
+                drop(std::mem::replace(&mut self.stage, Stage::Told(entry)));
                 cx.yield_now()
             }
         }

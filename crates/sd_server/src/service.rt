@@ -56,9 +56,16 @@ impl<R: Wait + Clock + Copy, L: Ledger, B: Ledger, N: DeskName> AllocatorService
         peer: Option<SocketAddr>,
     ) -> Result<AllocatorService<R, L, B, N>, AllocError> {
         let routes = Arc::try_clone(routes)?;
-        let mut handler = handler.another()?;
-        handler.peer = peer;
-        Ok(AllocatorService { handler, routes })
+        match handler.another() {
+            Ok(mut handler) => {
+                handler.peer = peer;
+                Ok(AllocatorService { handler, routes })
+            }
+            Err(error) => {
+                drop(routes);
+                Err(error)
+            }
+        }
     }
 
     fn begin(&self, head: &Parts) -> Begun
@@ -138,18 +145,26 @@ impl<R: Wait + Clock + Copy + Drop, L: Ledger, B: Ledger, N: DeskName, I: Drop> 
         match self.begin(&head) {
             Begun::Told(entry, route) => {
                 let counter = self.handler.counter(route, begun);
+                let manner = Manner::of(&head.headers);
+                drop((head, body));
                 Reply::of(
                     self.handler.alloc,
                     counter,
                     self.handler.tags(),
                     entry,
-                    Manner::of(&head.headers),
+                    manner,
                 )
             }
-            Begun::Reads(ask) => match self.handler.another() {
-                Ok(handler) => Reply::to(handler, ask, body),
-                Err(_) => self.without_memory(),
-            },
+            Begun::Reads(ask) => {
+                drop(head);
+                match self.handler.another() {
+                    Ok(handler) => Reply::to(handler, ask, body),
+                    Err(_) => {
+                        drop((ask, body));
+                        self.without_memory()
+                    }
+                }
+            }
         }
     }
 }
