@@ -10,7 +10,7 @@ use event_loops::{Gate, Times};
 use file_configs::ReadFiles;
 use http_get::FetchSeveral;
 use sd_server::{Handler, ListTexts};
-use service_state::Kept;
+use service_state::{ConfigPages, Kept, ServiceState};
 use service_tasks::{Configuration, Crew, Ending, Office, Service, Shared};
 use std::alloc::{AllocError, AllocGlobal, Global};
 use std::io;
@@ -61,7 +61,10 @@ where
 {
     match Desk::<L, B, N>::open(alloc, core, SEATS, calls, samples, log) {
         Ok((desk, passes)) => serve_open(rt, alloc, service, office, desk, passes),
-        Err(_) => Err(AllocError.into()),
+        Err(core) => {
+            drop(core);
+            Err(AllocError.into())
+        }
     }
 }
 
@@ -156,28 +159,100 @@ fn handler_of<R: Wait + Copy, L: Ledger, B: Ledger, N: DeskName, S, F, C>(
     desk: Desk<L, B, N>,
     asked: Pass<L, B, N>,
 ) -> Result<Handler<R, L, B, N>, AllocError> {
-    let desk = shared(alloc, desk)?;
-    let pass = shared(alloc, Mutex::new(asked))?;
-    let kept = office.kept(rt, alloc)?;
-    let texts = shared(alloc, ListTexts::new(alloc))?;
-    let pages = Arc::try_clone(&office.pages)?;
-    let state = Arc::try_clone(&office.state)?;
-    let doors = Arc::try_clone(&office.doors)?;
-    Ok(Handler {
-        rt: *rt,
-        alloc,
-        desk,
-        pass,
-        pages,
-        state,
-        kept,
-        texts,
-        doors,
-        epoch: office.journal.epoch,
-        peer: None,
-        time: None,
-        gate: None,
-    })
+    match Shown::of(rt, alloc, office) {
+        Ok(shown) => handler_with(rt, alloc, office, shown, desk, asked),
+        Err(error) => {
+            drop((desk, asked));
+            Err(error)
+        }
+    }
+}
+
+/// What a handler shows beside its desk.
+#[derive(Drop)]
+struct Shown<N: DeskName> {
+    kept: Option<Arc<Kept>>,
+    texts: Arc<ListTexts<N>>,
+    pages: Arc<ConfigPages>,
+    state: Arc<ServiceState>,
+}
+
+impl<N: DeskName> Shown<N> {
+    fn of<R: Wait, S, F, C>(
+        rt: &R,
+        alloc: Global,
+        office: &Office<S, F, C>,
+    ) -> Result<Shown<N>, AllocError> {
+        let kept = office.kept(rt, alloc)?;
+        let texts = shared(alloc, ListTexts::new(alloc))?;
+        let pages = Arc::try_clone(&office.pages)?;
+        let state = Arc::try_clone(&office.state)?;
+        Ok(Shown {
+            kept,
+            texts,
+            pages,
+            state,
+        })
+    }
+}
+
+fn handler_with<R: Copy, L: Ledger, B: Ledger, N: DeskName, S, F, C>(
+    rt: &R,
+    alloc: Global,
+    office: &Office<S, F, C>,
+    shown: Shown<N>,
+    desk: Desk<L, B, N>,
+    asked: Pass<L, B, N>,
+) -> Result<Handler<R, L, B, N>, AllocError> {
+    let doors = match Arc::try_clone(&office.doors) {
+        Ok(doors) => doors,
+        Err(error) => {
+            drop((shown, desk, asked));
+            return Err(error);
+        }
+    };
+    match seated(alloc, desk, asked) {
+        Ok((desk, pass)) => Ok(Handler {
+            rt: *rt,
+            alloc,
+            desk,
+            pass,
+            pages: shown.pages,
+            state: shown.state,
+            kept: shown.kept,
+            texts: shown.texts,
+            doors,
+            epoch: office.journal.epoch,
+            peer: None,
+            time: None,
+            gate: None,
+        }),
+        Err(error) => {
+            drop((shown, doors));
+            Err(error)
+        }
+    }
+}
+
+/// A desk and the pass of its server, as threads share them.
+fn seated<L: Ledger, B: Ledger, N: DeskName>(
+    alloc: Global,
+    desk: Desk<L, B, N>,
+    asked: Pass<L, B, N>,
+) -> Result<(Arc<Desk<L, B, N>>, Arc<Mutex<Pass<L, B, N>>>), AllocError> {
+    match shared(alloc, desk) {
+        Ok(desk) => match shared(alloc, Mutex::new(asked)) {
+            Ok(pass) => Ok((desk, pass)),
+            Err(error) => {
+                drop(desk);
+                Err(error)
+            }
+        },
+        Err(error) => {
+            drop(asked);
+            Err(error)
+        }
+    }
 }
 
 /// The gate of a server with as many connections as the office has.
@@ -218,16 +293,24 @@ where
 {
     let gate = gate_of(handler.alloc, office)?;
     let shared = shared_by(rt, service, office, handler)?;
-    shared.begin(&mut crew.scheduler, service, office)?;
-    let served = Served {
-        rt: *rt,
-        alloc: handler.alloc,
-        shared: &shared,
-        handler,
-        gate: &gate,
+    let ending = match shared.begin(&mut crew.scheduler, service, office) {
+        Ok(()) => {
+            let served = Served {
+                rt: *rt,
+                alloc: handler.alloc,
+                shared: &shared,
+                handler,
+                gate: &gate,
+            };
+            match served.run(office, crew) {
+                Ok(()) => Ok(shared.ending()),
+                Err(error) => Err(error),
+            }
+        }
+        Err(error) => Err(error.into()),
     };
-    served.run(office, crew)?;
-    Ok(shared.ending())
+    drop((shared, gate));
+    ending
 }
 
 /// What the threads over a handler's desk share.
@@ -265,31 +348,47 @@ fn ended<R: Drop, L: Ledger, B: Ledger, N: DeskName>(
 /// Closes the desk of a handler whose threads have ended.
 fn closed<R: Drop, L: Ledger, B: Ledger, N: DeskName>(
     handler: Handler<R, L, B, N>,
-    mut passes: Vec<Pass<L, B, N>>,
+    passes: Vec<Pass<L, B, N>>,
 ) -> io::Result<Core>
     ensures { IfOk result (IsLater N.opening) }
 {
-    let Handler {
-        rt: _,
-        alloc: _,
-        desk,
-        pass,
-        pages: _,
-        state: _,
-        kept: _,
-        texts: _,
-        doors: _,
-        epoch: _,
-        peer: _,
-        time: _,
-        gate: _,
-    } = handler;
-    let (Some(desk), Some(pass)) = (Arc::into_inner(desk), Arc::into_inner(pass)) else {
-        return Err(io::ErrorKind::ResourceBusy.into());
-    };
-    passes.push(pass.into_inner())?;
+    let (desk, pass) = desk_of(handler);
+    let (desk, passes) = brought_back(desk, pass, passes)?;
     match desk.close(passes) {
         Ok(closed) => Ok(closed.into_core()),
-        Err(_) => Err(io::ErrorKind::ResourceBusy.into()),
+        Err(missing) => {
+            drop(missing);
+            Err(io::ErrorKind::ResourceBusy.into())
+        }
+    }
+}
+
+/// The desk of a handler, and the pass of its server.
+fn desk_of<R: Drop, L: Ledger, B: Ledger, N: DeskName>(
+    handler: Handler<R, L, B, N>,
+) -> (Arc<Desk<L, B, N>>, Arc<Mutex<Pass<L, B, N>>>) {
+    (handler.desk, handler.pass)
+}
+
+/// A desk with all its passes, where no thread has it or its server's pass any more.
+fn brought_back<L: Ledger, B: Ledger, N: DeskName>(
+    desk: Arc<Desk<L, B, N>>,
+    pass: Arc<Mutex<Pass<L, B, N>>>,
+    mut passes: Vec<Pass<L, B, N>>,
+) -> io::Result<(Desk<L, B, N>, Vec<Pass<L, B, N>>)> {
+    let Some(desk) = Arc::into_inner(desk) else {
+        drop((pass, passes));
+        return Err(io::ErrorKind::ResourceBusy.into());
+    };
+    let Some(pass) = Arc::into_inner(pass) else {
+        drop((desk, passes));
+        return Err(io::ErrorKind::ResourceBusy.into());
+    };
+    match passes.push(pass.into_inner()) {
+        Ok(()) => Ok((desk, passes)),
+        Err(refused) => {
+            drop((desk, passes));
+            Err(refused.into())
+        }
     }
 }

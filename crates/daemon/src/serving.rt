@@ -61,9 +61,14 @@ where
     ) {
         Ok(mut office) => {
             let mut service = service;
-            serve_desks(rt, alloc, &mut service, &mut office, archive, core)
+            let core = serve_desks(rt, alloc, &mut service, &mut office, archive, core);
+            drop((service, office));
+            core
         }
-        Err(error) => Err(error),
+        Err(error) => {
+            drop((service, core));
+            Err(error)
+        }
     }
 }
 
@@ -144,7 +149,10 @@ where
         Log::new(),
     );
     match ended {
-        Ok((_, Ending::Broken)) => Err(io::Error::other("the journal cannot be written")),
+        Ok((core, Ending::Broken)) => {
+            drop(core);
+            Err(io::Error::other("the journal cannot be written"))
+        }
         other => other,
     }
 }

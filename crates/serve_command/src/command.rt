@@ -194,10 +194,15 @@ where
     let mut service = service;
     match places_of(rt, options, &mut service) {
         Ok(_) if options.check_config => {
-            tell_valid(rt, options.config, document, service.jobs())
+            let told = tell_valid(rt, options.config, document, service.jobs());
+            drop(service);
+            told
         }
         Ok((here, journal)) => serve_at(rt, machine, options, document, service, here, journal),
-        Err(fault) => Err(fault),
+        Err(fault) => {
+            drop(service);
+            Err(fault)
+        }
     }
 }
 
@@ -254,10 +259,13 @@ where
 {
     log_begin(rt, options.config, &journal, &service);
     let mut service = service;
-    let most = most_connections(rt, rt.alloc())?;
-    warn_of_fewer(rt, service.connections(), most);
-    service.limit_connections(most);
-    let device = Devices::of(rt, machine, options.config, service.fetch_timeout())?;
+    let (device, most) = match devices_of(rt, machine, options.config, &mut service) {
+        Ok(found) => found,
+        Err(fault) => {
+            drop((service, journal));
+            return Err(fault);
+        }
+    };
     match opened(rt, machine.host, options, document, here, most) {
         Ok((configuration, listener)) => {
             serve_journal(
@@ -270,8 +278,25 @@ where
                 journal,
             )
         }
-        Err(fault) => Err(fault),
+        Err(fault) => {
+            drop((service, device, journal));
+            Err(fault)
+        }
     }
+}
+
+/// What the sources of a service are asked with, and for how many connections there are descriptors: it serves no more.
+fn devices_of<R: Files<File = File> + Clock + AllocGlobal + Eprint + Copy + Drop>(
+    rt: &R,
+    machine: Machine<'_>,
+    path: &str,
+    service: &mut Service,
+) -> Result<(Devices<R>, u32), Fault> {
+    let most = most_connections(rt, rt.alloc())?;
+    warn_of_fewer(rt, service.connections(), most);
+    service.limit_connections(most);
+    let device = Devices::of(rt, machine, path, service.fetch_timeout())?;
+    Ok((device, most))
 }
 
 /// The file of the configuration, as it is read again, and the listener.

@@ -46,8 +46,22 @@ impl ConfigurationFile {
         let path = self.path.as_str();
         let document = read_document(&self.host, self.alloc, path)?;
         let service = service_in(self.alloc, path, document.as_slice())?;
-        let _ = admission_at(&self.host, path, service.doors(), self.here)?;
-        Ok(document)
+        let doors = admission_at(&self.host, path, service.doors(), self.here);
+        drop(service);
+        match doors {
+            Ok(doors) => {
+                drop(doors);
+                Ok(document)
+            }
+            Err(fault) => Err(fault),
+        }
+    }
+
+    fn set_doors(&self, service: &mut Service) -> Result<(), Fault> {
+        let path = self.path.as_str();
+        let doors = admission_at(&self.host, path, service.doors(), self.here)?;
+        service.set_doors(self.alloc, doors)?;
+        Ok(())
     }
 
     /// The line that tells a fault, the first where it has several. It is empty where there is no memory for it.
@@ -77,8 +91,10 @@ impl Configuration for ConfigurationFile {
     fn service(&self) -> Option<Service> {
         let path = self.path.as_str();
         let mut service = service_of_parts(self.alloc, path, self.document.as_slice()).ok()?;
-        let doors = admission_at(&self.host, path, service.doors(), self.here).ok()?;
-        service.set_doors(self.alloc, doors).ok()?;
+        if self.set_doors(&mut service).is_err() {
+            drop(service);
+            return None;
+        }
         service.limit_connections(self.most);
         Some(service)
     }

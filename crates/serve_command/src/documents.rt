@@ -67,28 +67,60 @@ pub(crate) fn service_of_parts(
 /// secret, no journal has it, and a source is told in one way alone.
 fn shown_text(alloc: Global, path: &str, document: &[u8]) -> Result<Text, Fault> {
     match parse(alloc, document)? {
-        Some(value) => Ok(shown_text_of(alloc, &value)?),
+        Some(value) => {
+            let text = shown_text_of(alloc, &value);
+            drop(value);
+            Ok(text?)
+        }
         None => Err(Fault::Told(format!(in alloc; "{path}: no JSON")?)),
     }
 }
 
 fn shown_text_of(alloc: Global, value: &Value) -> Result<Text, AllocError> {
     let shown = without_secrets(alloc, value)?;
-    let text = text_of(alloc, &with_sources(alloc, &shown)?)?;
+    let text = text_with_sources(alloc, &shown);
+    drop(shown);
+    let text = text?;
     Ok(Text::from_string(text.as_str().replace(alloc, SHARD, "0")?))
+}
+
+fn text_with_sources(alloc: Global, value: &Value) -> Result<Text, AllocError> {
+    let value = with_sources(alloc, value)?;
+    let text = text_of(alloc, &value);
+    drop(value);
+    text
 }
 
 /// The service of a document without secrets.
 fn service_of_shown(alloc: Global, path: &str, document: &[u8]) -> Result<Service, Fault> {
     let config = config_in(alloc, path, document)?;
-    let settings = settings_in(alloc, path, document)?;
+    match settings_in(alloc, path, document) {
+        Ok(settings) => match line_for(alloc, path, document, &config, &settings) {
+            Ok(line) => service_of(alloc, path, line, config, settings),
+            Err(fault) => {
+                drop((config, settings));
+                Err(fault)
+            }
+        },
+        Err(fault) => {
+            drop(config);
+            Err(fault)
+        }
+    }
+}
+
+/// The line of a document, which has jobs unless it may have none.
+fn line_for(
+    alloc: Global,
+    path: &str,
+    document: &[u8],
+    config: &Config,
+    settings: &Settings,
+) -> Result<Text, Fault> {
     if config.jobs.is_empty() && !settings.allow_no_jobs {
         return Err(Fault::Told(format!(in alloc; "{path}: {NO_JOBS}")?));
     }
-    match line_in(alloc, path, document, settings.report_rounds) {
-        Ok(line) => service_of(alloc, path, line, config, settings),
-        Err(fault) => Err(fault),
-    }
+    line_in(alloc, path, document, settings.report_rounds)
 }
 
 /// A document as one line, which says of how many rounds reports are booked.

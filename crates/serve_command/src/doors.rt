@@ -27,12 +27,21 @@ pub(crate) fn admission_at<R: Files<File = File> + AllocGlobal>(
     check_openness(rt.alloc(), path, doors, here)?;
     let admin = keys_at(rt, path, "admin", &doors.admin_tokens)?;
     match keys_at(rt, path, "collectors", &doors.collector_tokens) {
-        Ok(collectors) => Ok(Admission {
-            hosts: own_hosts(rt.alloc(), doors, here)?,
-            admin,
-            collectors,
-        }),
-        Err(fault) => Err(fault),
+        Ok(collectors) => match own_hosts(rt.alloc(), doors, here) {
+            Ok(hosts) => Ok(Admission {
+                hosts,
+                admin,
+                collectors,
+            }),
+            Err(error) => {
+                drop((admin, collectors));
+                Err(error.into())
+            }
+        },
+        Err(fault) => {
+            drop(admin);
+            Err(fault)
+        }
     }
 }
 
@@ -57,13 +66,28 @@ fn own_hosts(
         return Ok(None);
     }
     let mut hosts = List::new(alloc);
+    match add_hosts(alloc, &mut hosts, doors, here) {
+        Ok(()) => Ok(Some(hosts)),
+        Err(error) => {
+            drop(hosts);
+            Err(error)
+        }
+    }
+}
+
+fn add_hosts(
+    alloc: Global,
+    hosts: &mut List<Text>,
+    doors: &Doors,
+    here: SocketAddr,
+) -> Result<(), AllocError> {
     hosts.push(Text::from_str(alloc, "localhost")?)?;
     let address = here.ip();
     hosts.push(Text::from_string(format!(in alloc; "{address}")?))?;
     for host in doors.hosts.as_slice() {
         hosts.push(host.copy()?)?;
     }
-    Ok(Some(hosts))
+    Ok(())
 }
 
 /// The keys of a file that the configuration names.

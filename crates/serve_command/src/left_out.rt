@@ -14,14 +14,27 @@ pub(crate) fn tell_left_out(
 ) -> Result<(), AllocError> {
     for (place, job) in jobs.iter().enumerate() {
         let found = found_in_static_groups(alloc, job)?;
-        let name = Quoted(job.name.as_str());
-        let way = format!(in alloc; "{path}: scrape_configs[{place}], job {name}")?;
-        tell_of_job(alloc, lines, way.as_str(), &found)?;
+        let told = tell_of_job(alloc, lines, path, place, job, &found);
+        drop(found);
+        told?;
     }
     Ok(())
 }
 
 fn tell_of_job(
+    alloc: Global,
+    lines: &mut String,
+    path: &str,
+    place: usize,
+    job: &Job,
+    found: &Found,
+) -> Result<(), AllocError> {
+    let name = Quoted(job.name.as_str());
+    let way = format!(in alloc; "{path}: scrape_configs[{place}], job {name}")?;
+    tell_counts(alloc, lines, way.as_str(), found)
+}
+
+fn tell_counts(
     alloc: Global,
     lines: &mut String,
     way: &str,

@@ -17,16 +17,26 @@ pub(crate) fn told_valid(
     document: &[u8],
     jobs: &[Job],
 ) -> Result<String, AllocError> {
-    let ways = not_followed(alloc, document)?;
     let mut lines = String::new(alloc);
+    tell_ways(alloc, &mut lines, path, document)?;
+    tell_left_out(alloc, &mut lines, path, jobs)?;
+    lines.push_str("the configuration is valid\n")?;
+    Ok(lines)
+}
+
+fn tell_ways(
+    alloc: Global,
+    lines: &mut String,
+    path: &str,
+    document: &[u8],
+) -> Result<(), AllocError> {
+    let ways = not_followed(alloc, document)?;
     for way in ways.as_slice() {
         let way = way.as_str();
         let line = format!(in alloc; "{path}: {way}: not followed\n")?;
         lines.push_str(line.as_str())?;
     }
-    tell_left_out(alloc, &mut lines, path, jobs)?;
-    lines.push_str("the configuration is valid\n")?;
-    Ok(lines)
+    Ok(())
 }
 
 /// A log line for each such member, of the first `MOST_TOLD`, and one for the others.

@@ -45,7 +45,7 @@ where
         Ok((opened, mut journals)) => {
             tell_what_is_kept(rt, &journal);
             tell_who_is_missed(rt, &service);
-            let core = serve_opened(
+            let served = serve_opened(
                 rt,
                 alloc,
                 service,
@@ -54,11 +54,22 @@ where
                 device,
                 &mut journals,
                 opened,
-            )?;
-            log_end(rt, core.total());
-            Ok(())
+            );
+            let ended = match served {
+                Ok(core) => {
+                    log_end(rt, core.total());
+                    drop(core);
+                    Ok(())
+                }
+                Err(error) => Err(error.into()),
+            };
+            drop((journals, journal));
+            ended
         }
-        Err(fault) => Err(fault),
+        Err(fault) => {
+            drop((service, configuration, listener, device, journal));
+            Err(fault)
+        }
     }
 }
 
@@ -110,7 +121,10 @@ fn journals_at<R: Files<File = File> + AllocGlobal + Clock + Eprint + Copy + Dro
     let round = service.scrape_interval();
     match open_allocator(&journals, service.line(), service.jobs(), round) {
         Ok(opened) => Ok((opened, journals)),
-        Err(fault) => Err(fault),
+        Err(fault) => {
+            drop(journals);
+            Err(fault)
+        }
     }
 }
 

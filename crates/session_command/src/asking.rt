@@ -15,10 +15,24 @@ pub(crate) fn ask_all<S: Scrape>(
 ) -> Result<Vec<u8>, AllocError> {
     let mut text = Vec::new(alloc);
     for path in paths {
-        let get = get_of(alloc, address, path)?;
-        add_answer(alloc, &device.fetch(&get), &mut text)?;
+        ask(alloc, device, address, path, &mut text)?;
     }
     Ok(text)
+}
+
+/// Asks for a path, and adds the line of what came.
+fn ask<S: Scrape>(
+    alloc: Global,
+    device: &mut S,
+    address: &str,
+    path: &Text,
+    text: &mut Vec<u8>,
+) -> Result<(), AllocError> {
+    let get = get_of(alloc, address, path)?;
+    let fetched = device.fetch(&get);
+    let added = add_answer(alloc, &fetched, text);
+    drop((get, fetched));
+    added
 }
 
 fn get_of(alloc: Global, address: &str, path: &Text) -> Result<Get, AllocError> {

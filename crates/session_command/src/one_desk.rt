@@ -64,7 +64,10 @@ where
 {
     match Desk::<L, B, N>::open(alloc, core, seats, calls, samples, log) {
         Ok((desk, passes)) => run_open(rt, alloc, session, desk, passes, text),
-        Err(_) => Err(AllocError.into()),
+        Err(core) => {
+            drop(core);
+            Err(AllocError.into())
+        }
     }
 }
 
@@ -92,13 +95,27 @@ where
     B: Ledger + Send + Sync,
     N: DeskName + Send + Sync,
 {
-    let (Some(asked), Some(own)) = (passes.pop(), passes.pop()) else {
+    let Some(asked) = passes.pop() else {
+        drop((desk, passes));
         return Err(AllocError.into());
     };
-    let staff = Staff::muster(rt, alloc, own, passes)?;
+    let Some(own) = passes.pop() else {
+        drop((desk, asked, passes));
+        return Err(AllocError.into());
+    };
+    let staff = match Staff::muster(rt, alloc, own, passes) {
+        Ok(staff) => staff,
+        Err(AllocError) => {
+            drop((desk, asked));
+            return Err(AllocError.into());
+        }
+    };
     match handler_of(rt, alloc, session, desk, asked) {
         Ok(handler) => run_by(rt, alloc, session, handler, staff, text),
-        Err(AllocError) => Err(AllocError.into()),
+        Err(AllocError) => {
+            drop(staff);
+            Err(AllocError.into())
+        }
     }
 }
 
@@ -128,7 +145,10 @@ where
 {
     match run(rt, alloc, session, &handler, &mut staff, text) {
         Ok(answers) => end(alloc, handler, staff, answers.as_slice(), text),
-        Err(halt) => Err(halt),
+        Err(halt) => {
+            drop((handler, staff));
+            Err(halt)
+        }
     }
 }
 
@@ -140,31 +160,83 @@ fn handler_of<R: Copy, L: Ledger, B: Ledger, N: DeskName>(
     desk: Desk<L, B, N>,
     pass: Pass<L, B, N>,
 ) -> Result<Handler<R, L, B, N>, AllocError> {
-    let pages = pages_of(alloc, session)?;
-    let lifecycle = Lifecycle {
-        reload: false,
-        quit: false,
+    let shown = match Shown::of(alloc, session) {
+        Ok(shown) => shown,
+        Err(error) => {
+            drop((desk, pass));
+            return Err(error);
+        }
     };
-    let state = shared(alloc, ServiceState::new(alloc, lifecycle, 0))?;
-    let texts = shared(alloc, ListTexts::new(alloc))?;
-    let doors = shared(alloc, Admission::open())?;
-    let desk = shared(alloc, desk)?;
-    let pass = shared(alloc, Mutex::new(pass))?;
-    Ok(Handler {
-        rt: *rt,
-        alloc,
-        desk,
-        pass,
-        pages,
-        state,
-        kept: None,
-        texts,
-        doors,
-        epoch: 0,
-        peer: None,
-        time: None,
-        gate: None,
-    })
+    match seated(alloc, desk, pass) {
+        Ok((desk, pass)) => Ok(Handler {
+            rt: *rt,
+            alloc,
+            desk,
+            pass,
+            pages: shown.pages,
+            state: shown.state,
+            kept: None,
+            texts: shown.texts,
+            doors: shown.doors,
+            epoch: 0,
+            peer: None,
+            time: None,
+            gate: None,
+        }),
+        Err(error) => {
+            drop(shown);
+            Err(error)
+        }
+    }
+}
+
+/// What a handler shows beside its desk.
+#[derive(Drop)]
+struct Shown<N: DeskName> {
+    pages: Arc<ConfigPages>,
+    state: Arc<ServiceState>,
+    texts: Arc<ListTexts<N>>,
+    doors: Arc<Admission>,
+}
+
+impl<N: DeskName> Shown<N> {
+    fn of(alloc: Global, session: &Session) -> Result<Shown<N>, AllocError> {
+        let pages = pages_of(alloc, session)?;
+        let lifecycle = Lifecycle {
+            reload: false,
+            quit: false,
+        };
+        let state = shared(alloc, ServiceState::new(alloc, lifecycle, 0))?;
+        let texts = shared(alloc, ListTexts::new(alloc))?;
+        let doors = shared(alloc, Admission::open())?;
+        Ok(Shown {
+            pages,
+            state,
+            texts,
+            doors,
+        })
+    }
+}
+
+/// A desk and the pass of its server, as threads share them.
+fn seated<L: Ledger, B: Ledger, N: DeskName>(
+    alloc: Global,
+    desk: Desk<L, B, N>,
+    pass: Pass<L, B, N>,
+) -> Result<(Arc<Desk<L, B, N>>, Arc<Mutex<Pass<L, B, N>>>), AllocError> {
+    match shared(alloc, desk) {
+        Ok(desk) => match shared(alloc, Mutex::new(pass)) {
+            Ok(pass) => Ok((desk, pass)),
+            Err(error) => {
+                drop(desk);
+                Err(error)
+            }
+        },
+        Err(error) => {
+            drop(pass);
+            Err(error)
+        }
+    }
 }
 
 fn pages_of(alloc: Global, session: &Session) -> Result<Arc<ConfigPages>, AllocError> {
@@ -241,8 +313,13 @@ where
 {
     let mut runtime = LocalRuntime::new(rt)?;
     let any = SocketAddr::from((Ipv4Addr::LOCALHOST, 0));
-    let listener = tokio::net::TcpListener::bind(rt, any, runtime.handle().reactor())?;
-    ask_over(rt, alloc, &mut runtime, listener, handler, paths)
+    let bound = tokio::net::TcpListener::bind(rt, any, runtime.handle().reactor());
+    let answers = match bound {
+        Ok(listener) => ask_over(rt, alloc, &mut runtime, listener, handler, paths),
+        Err(error) => Err(error.into()),
+    };
+    drop(runtime);
+    answers
 }
 
 /// Asks a server of the allocator that listens here for each path.
@@ -327,7 +404,10 @@ fn end<R: Copy + Drop, L: Ledger, B: Ledger, N: DeskName>(
 ) -> Result<(), Halt> {
     match staff.dismiss(alloc) {
         Ok(passes) => write_end(alloc, handler, passes, answers, text),
-        Err(AllocError) => Err(AllocError.into()),
+        Err(AllocError) => {
+            drop(handler);
+            Err(AllocError.into())
+        }
     }
 }
 
@@ -342,7 +422,9 @@ fn write_end<R: Drop, L: Ledger, B: Ledger, N: DeskName>(
     ensures { OnOk result (IsEnded N.opening answers.now text.old.items text.new.items) }
 {
     let core = closed(handler, passes)?;
-    let line = total_line(alloc, core.total())?;
+    let line = total_line(alloc, core.total());
+    drop(core);
+    let line = line?;
     text.extend_from_slice(line.as_bytes())?;
     text.extend_from_slice(answers)?;
     Ok(())
@@ -351,33 +433,47 @@ fn write_end<R: Drop, L: Ledger, B: Ledger, N: DeskName>(
 /// Closes the desk of a handler whose server has ended.
 fn closed<R: Drop, L: Ledger, B: Ledger, N: DeskName>(
     handler: Handler<R, L, B, N>,
-    mut passes: Vec<Pass<L, B, N>>,
+    passes: Vec<Pass<L, B, N>>,
 ) -> Result<Core, Halt>
     ensures { IfOk result (IsReached N.opening) }
 {
-    let Handler {
-        rt: _,
-        alloc: _,
-        desk,
-        pass,
-        pages: _,
-        state: _,
-        kept: _,
-        texts: _,
-        doors: _,
-        epoch: _,
-        peer: _,
-        time: _,
-        gate: _,
-    } = handler;
-    let (Some(desk), Some(pass)) = (Arc::into_inner(desk), Arc::into_inner(pass)) else {
-        return Err(Halt::Device);
-    };
-    if passes.push(pass.into_inner()).is_err() {
-        return Err(AllocError.into());
-    }
+    let (desk, pass) = desk_of(handler);
+    let (desk, passes) = brought_back(desk, pass, passes)?;
     match desk.close(passes) {
         Ok(closed) => Ok(closed.into_core()),
-        Err(_) => Err(Halt::Device),
+        Err(missing) => {
+            drop(missing);
+            Err(Halt::Device)
+        }
+    }
+}
+
+/// The desk of a handler, and the pass of its server.
+fn desk_of<R: Drop, L: Ledger, B: Ledger, N: DeskName>(
+    handler: Handler<R, L, B, N>,
+) -> (Arc<Desk<L, B, N>>, Arc<Mutex<Pass<L, B, N>>>) {
+    (handler.desk, handler.pass)
+}
+
+/// A desk with all its passes, where no thread has it or its server's pass any more.
+fn brought_back<L: Ledger, B: Ledger, N: DeskName>(
+    desk: Arc<Desk<L, B, N>>,
+    pass: Arc<Mutex<Pass<L, B, N>>>,
+    mut passes: Vec<Pass<L, B, N>>,
+) -> Result<(Desk<L, B, N>, Vec<Pass<L, B, N>>), Halt> {
+    let Some(desk) = Arc::into_inner(desk) else {
+        drop((pass, passes));
+        return Err(Halt::Device);
+    };
+    let Some(pass) = Arc::into_inner(pass) else {
+        drop((desk, passes));
+        return Err(Halt::Device);
+    };
+    match passes.push(pass.into_inner()) {
+        Ok(()) => Ok((desk, passes)),
+        Err(refused) => {
+            drop((refused, desk, passes));
+            Err(AllocError.into())
+        }
     }
 }

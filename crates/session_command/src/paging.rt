@@ -22,7 +22,7 @@ pub fn respond(alloc: Global, pages: &mut Vec<Page>, head: &str) -> Result<Strin
     };
     let answer = page_response(alloc, &pages[place])?;
     if place_of(&pages[place + 1..], path).is_some() {
-        let _served = pages.remove(place);
+        drop(pages.remove(place));
     }
     Ok(answer)
 }

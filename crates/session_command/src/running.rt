@@ -47,9 +47,12 @@ where
     let here = listener.local_addr()?;
     let address = format!(in alloc; "{here}")?;
     let document = with_here(alloc, document, address.as_str())?;
-    match read_session(alloc, document.as_slice()) {
+    let read = read_session(alloc, document.as_slice());
+    drop((address, document));
+    match read {
         Ok(mut session) => {
             let halted = serve_session(rt, alloc, &mut session, &listener, here, text);
+            drop(session);
             ended(alloc, halted, text)
         }
         Err(error) => unread(error),
@@ -61,7 +64,9 @@ fn ended(alloc: Global, halted: Result<(), Halt>, text: &mut Vec<u8>) -> Result<
     match halted {
         Ok(()) => Ok(Ended::Done),
         Err(Halt::Stopped(stop)) => {
-            let line = stop_line(alloc, &stop)?;
+            let line = stop_line(alloc, &stop);
+            drop(stop);
+            let line = line?;
             text.extend_from_slice(line.as_bytes())?;
             Ok(Ended::Refused)
         }
@@ -97,6 +102,7 @@ where
         || serve_pages(alloc, listener, &mut pages, &stop),
         || run_then_stop(rt, alloc, session, here, &stop, text),
     );
+    drop(pages);
     halted
 }
 

@@ -27,26 +27,48 @@ impl<R: Copy + Drop, L: Ledger, B: Ledger, N: DeskName> Staff<R, L, B, N> {
         first: Pass<L, B, N>,
         others: Vec<Pass<L, B, N>>,
     ) -> Result<Staff<R, L, B, N>, AllocError> {
-        let workers = workers_of(rt, alloc, others)?;
-        Ok(Staff {
-            refresher: Refresher {
-                pass: first,
-                scrape: device(rt),
-            },
-            workers,
-        })
+        match workers_of(rt, alloc, others) {
+            Ok(workers) => Ok(Staff {
+                refresher: Refresher {
+                    pass: first,
+                    scrape: device(rt),
+                },
+                workers,
+            }),
+            Err(error) => {
+                drop(first);
+                Err(error)
+            }
+        }
     }
 
     /// Gives the passes back.
     pub(crate) fn dismiss(self, alloc: Global) -> Result<Vec<Pass<L, B, N>>, AllocError> {
         let Staff { refresher, workers } = self;
         let mut passes = Vec::new(alloc);
-        passes.push(refresher.pass)?;
-        for worker in workers {
-            passes.push(worker.pass)?;
+        if let Err(refused) = passes.push(refresher.pass) {
+            drop((passes, workers));
+            return Err(refused.into());
         }
-        Ok(passes)
+        match add_passes(&mut passes, workers) {
+            Ok(()) => Ok(passes),
+            Err(error) => {
+                drop(passes);
+                Err(error)
+            }
+        }
     }
+}
+
+/// Adds the passes of collectors.
+fn add_passes<L: Ledger, B: Ledger, N: DeskName, S: Drop>(
+    passes: &mut Vec<Pass<L, B, N>>,
+    workers: Vec<Worker<L, B, N, S>>,
+) -> Result<(), AllocError> {
+    for worker in workers {
+        passes.push(worker.pass)?;
+    }
+    Ok(())
 }
 
 /// A collector for each pass, with the numbers from 1 on, in order.
@@ -55,7 +77,26 @@ fn workers_of<R: Copy + Drop, L: Ledger, B: Ledger, N: DeskName>(
     alloc: Global,
     passes: Vec<Pass<L, B, N>>,
 ) -> Result<Vec<Worker<L, B, N, HyperScrape<R>>>, AllocError> {
-    let mut workers = Vec::with_capacity(alloc, passes.len())?;
+    match Vec::with_capacity(alloc, passes.len()) {
+        Ok(mut workers) => match add_workers(rt, &mut workers, passes) {
+            Ok(()) => Ok(workers),
+            Err(error) => {
+                drop(workers);
+                Err(error)
+            }
+        },
+        Err(error) => {
+            drop(passes);
+            Err(error)
+        }
+    }
+}
+
+fn add_workers<R: Copy + Drop, L: Ledger, B: Ledger, N: DeskName>(
+    rt: &R,
+    workers: &mut Vec<Worker<L, B, N, HyperScrape<R>>>,
+    passes: Vec<Pass<L, B, N>>,
+) -> Result<(), AllocError> {
     let mut id: CollectorId = 0;
     for pass in passes {
         id = id.saturating_add(1);
@@ -66,7 +107,7 @@ fn workers_of<R: Copy + Drop, L: Ledger, B: Ledger, N: DeskName>(
             turn: None,
         })?;
     }
-    Ok(workers)
+    Ok(())
 }
 
 /// A device with its limit of time.
