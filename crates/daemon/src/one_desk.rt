@@ -1,17 +1,19 @@
 //! The service over one desk.
 ghost use Rattle.std.specs.Prelude.{◌≡◌, IfOk};
+ghost use Rattle.kept_journal.specs.Keeping.{MeansKeptIn};
 ghost use Rattle.service_tasks.specs.Later.{IsLater};
 
 use crate::running::Served;
-use alloc_desk::{Desk, DeskName, Log, Pass};
+use alloc_desk::{Desk, Log, Pass};
 use allocation_core::Core;
 use durable_journal::Device;
 use event_loops::{Gate, Times};
 use file_configs::ReadFiles;
 use http_get::FetchSeveral;
+use kept_journal::{DeskJournal, JournalName, Kept};
 use sd_server::{Handler, ListTexts};
 use service_state::{ConfigPages, Kept, ServiceState};
-use service_tasks::{Configuration, Crew, Ending, Office, Service, Shared};
+use service_tasks::{Configuration, Crew, Ending, Office, Service, Shared, kept_of};
 use std::alloc::{AllocError, AllocGlobal, Global};
 use std::io;
 use std::net::{Net, TcpListener, TcpStream};
@@ -49,7 +51,7 @@ where
         + Drop,
     L: Ledger + Send + Sync,
     B: Ledger + Send + Sync,
-    N: DeskName + Send + Sync,
+    N: JournalName + Send + Sync,
     S: FetchSeveral + ReadFiles + Send + Drop,
     F: Device + Send,
     C: Configuration + Send + Drop,
@@ -57,10 +59,16 @@ where
     requires calls { (calls.name ≡ L.name) × (calls.parts ≡ L.parts) × (L.parts ≡ SEATS) }
     requires samples { (samples.name ≡ B.name) × (samples.parts ≡ B.parts) × (B.parts ≡ SEATS) }
     requires log { log ≡ N.book }
+    requires keeps { MeansKeptIn F.contents F.kept N.keeps office.old.journal.file }
     ensures { IfOk result (λ r. IsLater N.opening r.0) }
 {
     match Desk::<L, B, N>::open(alloc, core, SEATS, calls, samples, log) {
-        Ok((desk, passes)) => serve_open(rt, alloc, service, office, desk, passes),
+        Ok((desk, passes)) => {
+            let mut journal = office.journal.of_desk(desk.front(rt));
+            let served = serve_open(rt, alloc, service, office, &mut journal, desk, passes);
+            office.journal.take_back(journal);
+            served
+        }
         Err(core) => {
             drop(core);
             Err(AllocError.into())
@@ -74,6 +82,7 @@ fn serve_open<R, L, B, N, S, F, C>(
     alloc: Global,
     service: &Service,
     office: &mut Office<S, F, C>,
+    journal: &mut Option<DeskJournal<F, N>>,
     desk: Desk<L, B, N>,
     mut passes: Vec<Pass<L, B, N>>,
 ) -> io::Result<(Core, Ending)>
@@ -91,7 +100,7 @@ where
         + Drop,
     L: Ledger + Send + Sync,
     B: Ledger + Send + Sync,
-    N: DeskName + Send + Sync,
+    N: JournalName + Send + Sync,
     S: FetchSeveral + ReadFiles + Send + Drop,
     F: Device + Send,
     C: Configuration + Send + Drop,
@@ -105,8 +114,8 @@ where
         drop((desk, asked));
         return Err(AllocError.into());
     };
-    match handler_of(rt, alloc, office, desk, asked) {
-        Ok(handler) => serve_by(rt, service, office, handler, crew),
+    match handler_of(rt, alloc, office, journal, desk, asked) {
+        Ok(handler) => serve_by(rt, service, office, journal, handler, crew),
         Err(AllocError) => {
             drop(crew);
             Err(AllocError.into())
@@ -119,6 +128,7 @@ fn serve_by<R, L, B, N, S, F, C>(
     rt: &R,
     service: &Service,
     office: &mut Office<S, F, C>,
+    journal: &mut Option<DeskJournal<F, N>>,
     handler: Handler<R, L, B, N>,
     mut crew: Crew<L, B, N>,
 ) -> io::Result<(Core, Ending)>
@@ -136,13 +146,13 @@ where
         + Drop,
     L: Ledger + Send + Sync,
     B: Ledger + Send + Sync,
-    N: DeskName + Send + Sync,
+    N: JournalName + Send + Sync,
     S: FetchSeveral + ReadFiles + Send + Drop,
     F: Device + Send,
     C: Configuration + Send + Drop,
     ensures { IfOk result (λ r. IsLater N.opening r.0) }
 {
-    match run(rt, service, office, &handler, &mut crew) {
+    match run(rt, service, office, journal, &handler, &mut crew) {
         Ok(ending) => ended(handler, crew, ending),
         Err(error) => {
             drop((handler, crew));
@@ -152,14 +162,15 @@ where
 }
 
 /// What requests are handled with.
-fn handler_of<R: Wait + Copy, L: Ledger, B: Ledger, N: DeskName, S, F, C>(
+fn handler_of<R: Wait + Copy, L: Ledger, B: Ledger, N: JournalName, S, F: Device, C>(
     rt: &R,
     alloc: Global,
     office: &Office<S, F, C>,
+    journal: &Option<DeskJournal<F, N>>,
     desk: Desk<L, B, N>,
     asked: Pass<L, B, N>,
 ) -> Result<Handler<R, L, B, N>, AllocError> {
-    match Shown::of(rt, alloc, office) {
+    match Shown::of(rt, alloc, office, journal) {
         Ok(shown) => handler_with(rt, alloc, office, shown, desk, asked),
         Err(error) => {
             drop((desk, asked));
@@ -170,20 +181,21 @@ fn handler_of<R: Wait + Copy, L: Ledger, B: Ledger, N: DeskName, S, F, C>(
 
 /// What a handler shows beside its desk.
 #[derive(Drop)]
-struct Shown<N: DeskName> {
-    kept: Option<Arc<Kept>>,
+struct Shown<N: JournalName> {
+    kept: Option<Arc<Kept<N>>>,
     texts: Arc<ListTexts<N>>,
     pages: Arc<ConfigPages>,
     state: Arc<ServiceState>,
 }
 
-impl<N: DeskName> Shown<N> {
-    fn of<R: Wait, S, F, C>(
+impl<N: JournalName> Shown<N> {
+    fn of<R: Wait, S, F: Device, C>(
         rt: &R,
         alloc: Global,
         office: &Office<S, F, C>,
+        journal: &Option<DeskJournal<F, N>>,
     ) -> Result<Shown<N>, AllocError> {
-        let kept = office.kept(rt, alloc)?;
+        let kept = kept_of(rt, alloc, journal)?;
         let texts = shared(alloc, ListTexts::new(alloc))?;
         let pages = Arc::try_clone(&office.pages)?;
         let state = Arc::try_clone(&office.state)?;
@@ -196,7 +208,7 @@ impl<N: DeskName> Shown<N> {
     }
 }
 
-fn handler_with<R: Copy, L: Ledger, B: Ledger, N: DeskName, S, F, C>(
+fn handler_with<R: Copy, L: Ledger, B: Ledger, N: JournalName, S, F, C>(
     rt: &R,
     alloc: Global,
     office: &Office<S, F, C>,
@@ -235,7 +247,7 @@ fn handler_with<R: Copy, L: Ledger, B: Ledger, N: DeskName, S, F, C>(
 }
 
 /// A desk and the pass of its server, as threads share them.
-fn seated<L: Ledger, B: Ledger, N: DeskName>(
+fn seated<L: Ledger, B: Ledger, N: JournalName>(
     alloc: Global,
     desk: Desk<L, B, N>,
     asked: Pass<L, B, N>,
@@ -269,6 +281,7 @@ fn run<R, L, B, N, S, F, C>(
     rt: &R,
     service: &Service,
     office: &mut Office<S, F, C>,
+    journal: &mut Option<DeskJournal<F, N>>,
     handler: &Handler<R, L, B, N>,
     crew: &mut Crew<L, B, N>,
 ) -> io::Result<Ending>
@@ -286,7 +299,7 @@ where
         + Drop,
     L: Ledger + Send + Sync,
     B: Ledger + Send + Sync,
-    N: DeskName + Send + Sync,
+    N: JournalName + Send + Sync,
     S: FetchSeveral + ReadFiles + Send + Drop,
     F: Device + Send,
     C: Configuration + Send + Drop,
@@ -302,7 +315,7 @@ where
                 handler,
                 gate: &gate,
             };
-            match served.run(office, crew) {
+            match served.run(office, journal, crew) {
                 Ok(()) => Ok(shared.ending()),
                 Err(error) => Err(error),
             }
@@ -314,7 +327,7 @@ where
 }
 
 /// What the threads over a handler's desk share.
-fn shared_by<R: Wait + Copy, L: Ledger, B: Ledger, N: DeskName, S, F, C>(
+fn shared_by<R: Wait + Copy, L: Ledger, B: Ledger, N: JournalName, S, F, C>(
     rt: &R,
     service: &Service,
     office: &Office<S, F, C>,
@@ -326,7 +339,7 @@ fn shared_by<R: Wait + Copy, L: Ledger, B: Ledger, N: DeskName, S, F, C>(
 }
 
 /// Closes the desk of a handler and a crew whose threads have ended.
-fn ended<R: Drop, L: Ledger, B: Ledger, N: DeskName>(
+fn ended<R: Drop, L: Ledger, B: Ledger, N: JournalName>(
     handler: Handler<R, L, B, N>,
     crew: Crew<L, B, N>,
     ending: Ending,
@@ -346,7 +359,7 @@ fn ended<R: Drop, L: Ledger, B: Ledger, N: DeskName>(
 }
 
 /// Closes the desk of a handler whose threads have ended.
-fn closed<R: Drop, L: Ledger, B: Ledger, N: DeskName>(
+fn closed<R: Drop, L: Ledger, B: Ledger, N: JournalName>(
     handler: Handler<R, L, B, N>,
     passes: Vec<Pass<L, B, N>>,
 ) -> io::Result<Core>
@@ -364,14 +377,14 @@ fn closed<R: Drop, L: Ledger, B: Ledger, N: DeskName>(
 }
 
 /// The desk of a handler, and the pass of its server.
-fn desk_of<R: Drop, L: Ledger, B: Ledger, N: DeskName>(
+fn desk_of<R: Drop, L: Ledger, B: Ledger, N: JournalName>(
     handler: Handler<R, L, B, N>,
 ) -> (Arc<Desk<L, B, N>>, Arc<Mutex<Pass<L, B, N>>>) {
     (handler.desk, handler.pass)
 }
 
 /// A desk with all its passes, where no thread has it or its server's pass any more.
-fn brought_back<L: Ledger, B: Ledger, N: DeskName>(
+fn brought_back<L: Ledger, B: Ledger, N: JournalName>(
     desk: Arc<Desk<L, B, N>>,
     pass: Arc<Mutex<Pass<L, B, N>>>,
     mut passes: Vec<Pass<L, B, N>>,

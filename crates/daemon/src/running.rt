@@ -1,13 +1,14 @@
 //! The threads over one desk.
 ghost use Rattle.std.specs.Thread.{IsSend};
 
-use alloc_desk::{DeskName, Pass};
+use alloc_desk::Pass;
 use durable_journal::Device;
 use event_loops::Gate;
 use file_configs::ReadFiles;
 use http_get::FetchSeveral;
+use kept_journal::{DeskJournal, JournalName};
 use sd_server::{DEFAULT_LOOPS, Handler, serve_by_loops};
-use service_tasks::{Configuration, Crew, JournalFile, Office, Schedule, Shared, Watch};
+use service_tasks::{Configuration, Crew, Office, Schedule, Shared, Watch};
 use std::alloc::{AllocGlobal, Global};
 use std::net::{Net, TcpListener, TcpStream};
 use std::random::RandomSource;
@@ -20,7 +21,7 @@ use std::{io, thread};
 
 /// A desk that is served: what its threads share, and its server.
 #[derive(Drop)]
-pub(crate) struct Served<'a, R, L: Ledger, B: Ledger, N: DeskName> {
+pub(crate) struct Served<'a, R, L: Ledger, B: Ledger, N: JournalName> {
     pub(crate) rt: R,
     pub(crate) alloc: Global,
     pub(crate) shared: &'a Shared<R, L, B, N>,
@@ -43,19 +44,23 @@ where
         + Drop,
     L: Ledger + Send + Sync,
     B: Ledger + Send + Sync,
-    N: DeskName + Send + Sync,
+    N: JournalName + Send + Sync,
 {
     /// Runs the threads: that which keeps the journal ends once all others have.
     pub(crate) fn run<
         S: FetchSeveral + ReadFiles + Send + Drop,
         F: Device + Send,
         C: Configuration + Send + Drop,
-    >(&self, office: &mut Office<S, F, C>, crew: &mut Crew<L, B, N>) -> io::Result<()> {
+    >(
+        &self,
+        office: &mut Office<S, F, C>,
+        journal: &mut Option<DeskJournal<F, N>>,
+        crew: &mut Crew<L, B, N>,
+    ) -> io::Result<()> {
         let Office {
             listener,
             schedule,
             watch,
-            journal,
             ..
         } = office;
         let Crew {
@@ -63,11 +68,10 @@ where
             keeper,
             refresher,
         } = crew;
-        let file = &mut journal.file;
         let is_last = AtomicBool::new(false);
         let ((), served) = thread::join(
             &self.rt,
-            || self.shared.keep(keeper, file, &is_last),
+            || self.shared.keep(keeper, journal, &is_last),
             || -> io::Result<()>
                 requires { IsSend L.row × IsSend B.row × IsSend N.row × IsSend S.row × IsSend C.row }
             {
@@ -123,7 +127,7 @@ where
     }
 }
 
-impl<R: Wait + Clock + Eprint + Copy, L: Ledger, B: Ledger, N: DeskName> Served<'_, R, L, B, N> {
+impl<R: Wait + Clock + Eprint + Copy, L: Ledger, B: Ledger, N: JournalName> Served<'_, R, L, B, N> {
     /// Opens rounds and reallocates until the desk is to be closed. Where the service is to end, no request is taken from then on.
     fn schedule<C: Configuration>(&self, pass: &mut Pass<L, B, N>, schedule: &mut Schedule<C>) {
         self.shared.keep_schedule(pass, schedule);

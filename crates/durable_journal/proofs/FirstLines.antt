@@ -1,6 +1,6 @@
 -- The first line of a journal that is written in pieces: what it opens, how it begins, and what then stands in the file.
 use Rattle.std.proofs.Common.{◌≡◌, ℕ, ◌+◌, true, List, [], ◌∷◌, ◌++◌, length, Option, Some, None, IfSome, Result, Ok, Err, IfOk, refl, sym, ap, subst, ◌∙◌, arith, append_assoc, append-nil, length-append}
-use Rattle.std.specs.Prelude.{option_and_then, option_map, codes, nat_eq}
+use Rattle.std.specs.Prelude.{option_and_then, option_map, codes, nat_eq, if◌then◌else◌}
 use Rattle.std.specs.Io.Buffered.{writer_contents}
 use Rattle.std.specs.Io.Iter.{u64_saturate}
 use Rattle.std.specs.Io.KnownBytes.{Appends, append_known}
@@ -9,22 +9,23 @@ use Rattle.json.specs.Json as json
 use Rattle.json.specs.Print.{escape_byte, print, print_from}
 use Rattle.json.specs.Tree.{json_tokens}
 use Rattle.serde_json.specs.Data.{Data, Members, no_members, member, null, boolean, number, string, array, object, put}
-use Rattle.serde_json.specs.Written.{blank, blank_members, members_outline, outline}
+use Rattle.serde_json.specs.Written.{blank, members_outline, outline}
 use Rattle.json_values.specs.Texts.{json_of}
 use Rattle.json_pieces.specs.Texts.{IsTextOf}
 use Rattle.allocation_core.specs.State.{IsCount, State}
 use Rattle.core_history.specs.History.{ReadsBack, history_data, history_in}
+use Rattle.core_history.specs.Laws.{RenewedReadBack}
 use Rattle.replay_lines.specs.Configurations.{opened}
 use Rattle.sealed_lines.specs.Chains.{behind, seal, sealed, start}
 use Rattle.sealed_lines.specs.Running.{Digests, EndsAs}
-use Rattle.durable_journal.specs.Beginnings.{BeginsMarked, IsBegun, Opens, OpensWhole, value_of}
-use Rattle.durable_journal.specs.Configured.{goes_on, with_history}
+use Rattle.durable_journal.specs.Beginnings.{BeginsMarked, IsBegun, Opens, OpensRenewed, OpensWhole, value_of}
+use Rattle.durable_journal.specs.Configured.{goes_on, has_jobs, renewed_value, with_history}
 use Rattle.durable_journal.specs.Marks.{SaysMarked, mark_data, mark_name, mark_text, marked}
 use Rattle.durable_journal.specs.Pieces.{Grows, appends_join}
 use Rattle.durable_journal.specs.declared.beginning.Begun.{Begun}
 use Rattle.durable_journal.specs.declared.beginning.FirstLine.{FirstLine}
 use Rattle.durable_journal.specs.declared.sealing.Sealing.{Sealing}
-use Rattle.durable_journal.proofs.Histories.{again_by, renewed_opens}
+use Rattle.durable_journal.proofs.Histories.{again_by, renewed_goes_on, renewed_opens}
 use Rattle.durable_journal.proofs.Marked.{marked_levels, says_opens}
 use Rattle.durable_journal.proofs.Opening.{opened_as, opened_data, shallow}
 
@@ -113,6 +114,21 @@ renewed_first_again document m (Err e) count given reads = tt
 renewed_first_again document m (Ok None) count given reads = tt
 renewed_first_again document m (Ok (Some first)) count given reads =
     λ line text jobs good jobs_are same. renewed_line_opens document m first count (sym given) line text ∙ again_by m document (history_in (history_data m)) jobs (reads good) jobs_are same
+
+pub renewed_first_whole :
+    {E : Type 0} (document : List ℕ) (m : State) (r : Result (Option FirstLine) E) → RenewedReadBack → has_jobs m.fleet.jobs document ≡ true → IsCount m.report_rounds → IfOk r (λ x. option_map value_of x ≡ option_and_then marked (option_and_then (with_history m) (json_of document)))
+    → IfOk r (λ x. IfSome x (λ first. ReadsBack m (history_in (history_data m)))) → IfOk r (λ x. IfSome x (OpensRenewed m))
+renewed_first_whole document m (Err e) back has count given reads = tt
+renewed_first_whole document m (Ok None) back has count given reads = tt
+renewed_first_whole document m (Ok (Some first)) back has count given reads =
+    λ before jobs ascending is line text. renewed_line_opens document m first count (sym given) line text ∙ renewed_goes_on back document m before jobs has reads ascending is
+
+-- the value, where the jobs of the document are the state's
+pub renewed_given :
+    {E : Type 0} (document : List ℕ) (m : State) (r : Result (Option FirstLine) E) → has_jobs m.fleet.jobs document ≡ true → IfOk r (λ x. option_map value_of x ≡ option_and_then marked (option_and_then (with_history m) (json_of document)))
+    → IfOk r (λ x. option_map value_of x ≡ renewed_value m document)
+renewed_given document m r has given =
+    subst (λ (v : Option Data). IfOk r (λ x. option_map value_of x ≡ v)) (sym (ap (λ b. if b then option_and_then marked (option_and_then (with_history m) (json_of document)) else None) has)) given
 
 -- ---- what stands in the file
 

@@ -1,7 +1,7 @@
 -- A line with the history of a state: how deep it is, and what it opens.
-use Rattle.std.proofs.Common.{◌≡◌, ◌≤◌, ℕ, Bool, true, ◌&&◌, List, length, Option, Some, None, String, BTreeMap, Global, Result, Ok, refl, sym, ap, subst, ◌∙◌, arith}
+use Rattle.std.proofs.Common.{◌≡◌, ◌<◌, ◌≤◌, ℕ, Bool, false, true, ◌&&◌, AllPairs, List, length, Option, Some, None, String, BTreeMap, Global, Result, Ok, refl, sym, ap, subst, ◌∙◌, arith}
 use Rattle.std.specs.Prelude.{◌^◌, option_map, option_and_then, codes, if◌then◌else◌, unwrap_or}
-use Rattle.std.specs.Option.{ok_or}
+use Rattle.std.specs.Option.{ok_or, option_map_or}
 use Rattle.std.specs.Result.{result_ok}
 use Rattle.std.proofs.lemmas.Bool.{le-leb, lt-ltb}
 use Rattle.serde_json.specs.Data.{Data, Members, null, boolean, number, string, array, object, put, depth, members_depth}
@@ -19,17 +19,19 @@ use Rattle.fleet.specs.declared.collector.Collector.{Collector}
 use Rattle.fleet.specs.declared.job.JobSpec.{JobSpec}
 use Rattle.fleet.specs.declared.known_target.KnownTarget.{KnownTarget}
 use Rattle.fleet_events.proofs.Forms.{target_levels, reach_levels, limits_levels}
-use Rattle.allocation_core.specs.State.{IsCount, State, counted, current_pairs, restored}
+use Rattle.allocation_core.specs.Renewed.{renewed}
+use Rattle.allocation_core.specs.State.{IsCount, State, counted, current_pairs, restored, with_rounds}
 use Rattle.core_history.specs.Parts.{job_data, known_data, collector_data, fleet_data}
 use Rattle.price_certificate.specs.Document.{document_data}
 use Rattle.core_history.specs.History.{ReadsBack, history_by, history_data, history_in, slots_of, slots_said}
+use Rattle.core_history.specs.Laws.{RenewedReadBack}
 use Rattle.core_history.specs.Rounds.{rounds_or_one}
 use Rattle.core_history.specs.declared.error.HistoryError.{HistoryError}
 use Rattle.sd_documents.specs.Config.{config_said}
 use Rattle.sd_documents.specs.Reading.{◌>>=◌}
 use Rattle.sd_documents.specs.declared.error.SdError.TheVariants.{NotJson}
 use Rattle.replay_lines.specs.Configurations.{jobs_in, opened, opened_by, opened_from, resumed_with, same_jobs, specs_of}
-use Rattle.durable_journal.specs.Configured.{goes_on, with_history}
+use Rattle.durable_journal.specs.Configured.{goes_on, has_jobs, with_history}
 use Rattle.durable_journal.specs.Marks.{SaysMarked}
 use Rattle.durable_journal.proofs.Marked.{put_levels, says_opens}
 use Rattle.durable_journal.proofs.Opening.{opened_data, opened_parts, shallow}
@@ -130,3 +132,30 @@ again_by m document said jobs reads jobs_are same =
     let read : State = restored m.fleet (current_pairs m) (slots_of m.fleet (slots_said m.served.slots)) m.problem m.plan m.round 1 in
     ap (λ (o : Option (List JobSpec)). option_and_then (λ js. opened_by (Some m.report_rounds) (resumed_with js said)) o) jobs_are ∙ ap (λ (s : Result State HistoryError). opened_by (Some m.report_rounds) (resumed_with jobs s)) reads
     ∙ ap (λ b. opened_by (Some m.report_rounds) (if b then Some read else None)) same
+
+-- ---- what the line of a renewed state opens
+
+rounds_last : (m : State) (jobs : List JobSpec) (report_rounds : ℕ) → with_rounds report_rounds (renewed m jobs 1) ≡ renewed m jobs report_rounds
+unfolding renewed
+rounds_last m jobs report_rounds = refl
+
+same_fleet : (m : State) (jobs : List JobSpec) (report_rounds : ℕ) → (renewed m jobs report_rounds).fleet ≡ (renewed m jobs 1).fleet
+unfolding renewed
+same_fleet m jobs report_rounds = refl
+
+resumed_as : (n : State) (report_rounds : ℕ) (said : Result State HistoryError) (found : Option (List JobSpec)) → said ≡ Ok n → option_map_or (same_jobs n.fleet.jobs) found false ≡ true
+    → option_and_then (λ jobs. opened_by (Some report_rounds) (resumed_with jobs said)) found ≡ Some (with_rounds report_rounds n)
+resumed_as n report_rounds said None reads has = cc
+resumed_as n report_rounds said (Some jobs) reads has =
+    ap (λ (s : Result State HistoryError). opened_by (Some report_rounds) (resumed_with jobs s)) reads ∙ ap (λ b. opened_by (Some report_rounds) (if b then Some n else None)) has
+
+pub renewed_goes_on :
+    RenewedReadBack → (document : List ℕ) (m before : State) (jobs : List JobSpec) → has_jobs m.fleet.jobs document ≡ true → ReadsBack m (history_in (history_data m)) → AllPairs (λ (a b : ℕ × ℕ). a.0 < b.0) (current_pairs before)
+    → m ≡ renewed before jobs m.report_rounds → goes_on m document ≡ Some m
+renewed_goes_on back document m before jobs has reads ascending is =
+    let n : State = renewed before jobs 1 in
+    let said : Result State HistoryError = history_in (history_data m) in
+    let one : said ≡ Ok n = back before jobs m.report_rounds said ascending (subst (λ (x : State). ReadsBack x said) is reads) in
+    let fleet : m.fleet ≡ n.fleet = ap (λ (x : State). x.fleet) is ∙ same_fleet before jobs m.report_rounds in
+    let own : has_jobs n.fleet.jobs document ≡ true = subst (λ (x : FleetState). has_jobs x.jobs document ≡ true) fleet has in
+    resumed_as n m.report_rounds said (jobs_in document) one own ∙ ap (λ (x : State). Some x) (rounds_last before jobs m.report_rounds ∙ sym is)

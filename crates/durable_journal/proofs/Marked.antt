@@ -1,6 +1,6 @@
 -- A line with the mark opens what it opens without it.
 use Rattle.std.proofs.Common.{◌≡◌, ◌≤◌, ℕ, Bool, true, false, cond, not, ◌||◌, List, length, Option, Some, None, IfSome, Result, Ok, Err, IfOk, Ordering, Less, Equal, Greater, nat_cmp, refl, sym, ap, subst, ◌∙◌, arith}
-use Rattle.std.specs.Prelude.{option_and_then, option_map, codes, nat_eq, unwrap_or}
+use Rattle.std.specs.Prelude.{option_map, codes, nat_eq, unwrap_or}
 use Rattle.std.specs.Cmp.Lexicographic.{slice_cmp}
 use Rattle.std.specs.List.{list_any, starts_with}
 use Rattle.std.specs.Ordering.{match_ordering}

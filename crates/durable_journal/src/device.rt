@@ -7,7 +7,10 @@ use std::io::Write;
 /// What keeps the bytes of a journal. They can only grow: nothing here cuts them or goes back in them. Contracts see the bytes that it was
 /// given, and those that it has whatever becomes of the machine, each where they are known.
 pub trait Device: Write {
-    ghost use Rattle.std.specs.Prelude.{Option, List, ℕ};
+    ghost use Rattle.std.specs.Prelude.{Bool, Option, List, ℕ};
+
+    // whether the bytes that it has, and those that it keeps, are known
+    ghost tells: { Bool };
 
     ghost kept: { Self → Option (List ℕ) };
 

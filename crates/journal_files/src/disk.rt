@@ -29,7 +29,9 @@ impl Write for Disk {
 }
 
 impl Device for Disk {
-    ghost use Rattle.std.specs.Prelude.{None};
+    ghost use Rattle.std.specs.Prelude.{None, false};
+
+    ghost tells = { false };
 
     ghost kept = { λ _. None };
 

@@ -3,12 +3,16 @@
 //! A journal begins as `PATH.next`. Once it is on the device the last journal becomes `PATH.N`, and then the new one takes its place. So
 //! whenever the machine stops, there is `PATH`, or else `PATH.next` is whole. Meanwhile nobody else has them: they are his who has the
 //! lock of `PATH.lock`, which keeps its name.
+ghost use Rattle.std.specs.Prelude.{◌≡◌, IfOk};
+ghost use Rattle.durable_journal.specs.Beginnings.{IsBegunAnew};
+
 use crate::disk::Disk;
 use crate::fault::Fault;
 use crate::guarding::{check_file, goal_of};
-use durable_journal::{Archive, Begun, FirstLine};
+use durable_journal::{Archive, Begun, Device, FirstLine};
 use std::alloc::{AllocError, AllocGlobal, Global};
 use std::fs::{DirEntry, File, OpenOptions};
+use std::io::Write;
 use std::os::unix::fs::OpenOptionsExt;
 use std::path::Path;
 use std::rt::Files;
@@ -79,13 +83,19 @@ impl<R> Journals<R> {
 
 impl<R: Files<File = File> + AllocGlobal + Clone + Drop> Journals<R> {
     /// Begins the next journal with this line and puts it in the place of the last one, which is at this path.
-    pub(crate) fn change(&self, path: &str, first: &FirstLine) -> io::Result<Begun<Disk>> {
+    pub(crate) fn change(&self, path: &str, first: &FirstLine) -> io::Result<Begun<Disk>>
+        ensures form { IfOk result (IsBegunAnew ⟦<Disk as Device>⟧.tells ⟦<Disk as Write>⟧.contents first.now) }
+        ensures kept { IfOk result (λ b. ⟦<Disk as Device>⟧.kept b.file ≡ ⟦<Disk as Write>⟧.contents b.file) }
+    {
         let next = next_path(self.alloc, path)?;
         self.change_to(path, next.as_str(), first)
     }
 
     /// Begins the next journal at a path of its own.
-    fn change_to(&self, path: &str, next: &str, first: &FirstLine) -> io::Result<Begun<Disk>> {
+    fn change_to(&self, path: &str, next: &str, first: &FirstLine) -> io::Result<Begun<Disk>>
+        ensures form { IfOk result (IsBegunAnew ⟦<Disk as Device>⟧.tells ⟦<Disk as Write>⟧.contents first.now) }
+        ensures kept { IfOk result (λ b. ⟦<Disk as Device>⟧.kept b.file ≡ ⟦<Disk as Write>⟧.contents b.file) }
+    {
         let begun = begin_next(&self.rt, self.alloc, next, first)?;
         match self.put_in_place(path, next) {
             Ok(()) => Ok(begun),
@@ -187,7 +197,10 @@ fn begin_next<R: Files<File = File>>(
     alloc: Global,
     next: &str,
     first: &FirstLine,
-) -> io::Result<Begun<Disk>> {
+) -> io::Result<Begun<Disk>>
+    ensures form { IfOk result (IsBegunAnew ⟦<Disk as Device>⟧.tells ⟦<Disk as Write>⟧.contents first.now) }
+    ensures kept { IfOk result (λ b. ⟦<Disk as Device>⟧.kept b.file ≡ ⟦<Disk as Write>⟧.contents b.file) }
+{
     let file = open_journal(rt, next)?;
     match empty(&file) {
         Ok(()) => first.begin(alloc, Disk::new(file)),

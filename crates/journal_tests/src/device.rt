@@ -24,7 +24,9 @@ impl Write for Memory {
 }
 
 impl Device for Memory {
-    ghost use Rattle.std.specs.Prelude.{None};
+    ghost use Rattle.std.specs.Prelude.{None, false};
+
+    ghost tells = { false };
 
     ghost kept = { λ _. None };
 

@@ -1,10 +1,11 @@
 //! The thread that keeps the journal in a file.
-use crate::journal_file::JournalFile;
+ghost use Rattle.kept_journal.specs.Written.{AreNews};
+
 use crate::logging::{log_error_of, log_warning};
 use crate::shared::Shared;
-use alloc_desk::{DeskName, Pass};
-use durable_journal::{Device, Lines, journal_lines};
-use service_state::Kept;
+use alloc_desk::Pass;
+use durable_journal::Device;
+use kept_journal::{DeskJournal, JournalName, Kept, News};
 use std::alloc::AllocError;
 use std::sync::Wait;
 use std::sync::atomic::{AtomicBool, Ordering};
@@ -12,153 +13,124 @@ use std::sync::ledger::Ledger;
 use std::time::{Clock, Duration, Instant};
 use std::{io, thread};
 
-/// How many entries are written at once at most.
-const MOST_AT_ONCE: usize = 4_096;
-
 /// How long the thread waits at most for somebody who waits for an entry, in milliseconds.
 const LOOK: u64 = 50;
 
-/// A thread that keeps the journal, with its right to read it.
-#[derive(Drop)]
-struct Keeper<'a, L: Ledger, B: Ledger, N: DeskName, F> {
-    pass: &'a mut Pass<L, B, N>,
-    file: &'a mut JournalFile<F>,
-    kept: &'a Kept,
-    /// Whether all others have ended, so that no entry comes any more.
-    is_last: &'a AtomicBool,
+/// What became of a turn of the thread that keeps the journal.
+enum Turn {
+    /// So many entries were written.
+    Wrote(usize),
+    /// There was no memory to write some.
+    NoMemory,
 }
 
-/// What is to be written of a journal.
-#[derive(Drop)]
-struct News {
-    /// How many entries.
-    entries: usize,
-    lines: Lines,
-}
-
-impl<R: Wait + Clock + Eprint + Copy, L: Ledger, B: Ledger, N: DeskName> Shared<R, L, B, N> {
+impl<R: Wait + Clock + Eprint + Copy, L: Ledger, B: Ledger, N: JournalName> Shared<R, L, B, N> {
     /// Keeps the journal, where there is a file for it, until all others have ended.
     pub fn keep<F: Device>(
         &self,
         pass: &mut Pass<L, B, N>,
-        file: &mut Option<JournalFile<F>>,
+        journal: &mut Option<DeskJournal<F, N>>,
         is_last: &AtomicBool,
     ) {
-        if let (Some(file), Some(kept)) = (file, &self.kept) {
-            if file.is_broken {
-                return;
+        if let (Some(journal), Some(kept)) = (journal, &self.kept) {
+            if !journal.file().is_broken() {
+                self.keep_journal(pass, journal, kept, is_last);
             }
-            self.keep_journal(&mut Keeper {
-                pass,
-                file,
-                kept,
-                is_last,
-            });
         }
     }
 
     /// Writes what is new in the journal, until all others have ended or the device fails. What finds no memory is tried again.
-    fn keep_journal<F: Device>(&self, keeper: &mut Keeper<'_, L, B, N, F>) {
-        let mut written = 0;
+    fn keep_journal<F: Device>(
+        &self,
+        pass: &mut Pass<L, B, N>,
+        journal: &mut DeskJournal<F, N>,
+        kept: &Kept<N>,
+        is_last: &AtomicBool,
+    ) {
+        let mut is_begun = false;
         for _ in self.rt.forever() {
-            let is_last = keeper.is_last.load(Ordering::SeqCst);
-            let step = match self.news(keeper, written) {
-                Ok(news) => {
-                    let kept = self.keep_news(keeper, written, &news);
-                    drop(news);
-                    kept
+            let is_last = is_last.load(Ordering::SeqCst);
+            match self.keep_more(pass, journal, kept, is_begun) {
+                Ok(Turn::Wrote(0)) if is_last => return,
+                Ok(Turn::Wrote(0)) => {
+                    is_begun = true;
+                    kept.wait_for_wish(&self.rt, Duration::from_millis(LOOK));
                 }
-                Err(AllocError) => self.wait_for_memory(is_last),
-            };
-            match step {
-                Ok(0) if is_last => return,
-                Ok(0) => {
-                    keeper
-                        .kept
-                        .wait_for_wish(&self.rt, Duration::from_millis(LOOK));
+                Ok(Turn::Wrote(_)) => is_begun = true,
+                Ok(Turn::NoMemory) if is_last => {
+                    return self.give_up(journal, kept, AllocError.into());
                 }
-                Ok(more) => written = written.saturating_add(more),
-                Err(error) => return self.give_up(keeper, error),
+                Ok(Turn::NoMemory) => self.wait_for_memory(),
+                Err(error) => return self.give_up(journal, kept, error),
             }
         }
     }
 
-    /// The lines of some entries from a position on. What was refused has none.
-    fn news<F>(
+    /// Writes what is new.
+    fn keep_more<F: Device>(
         &self,
-        keeper: &mut Keeper<'_, L, B, N, F>,
-        from: usize,
-    ) -> Result<News, AllocError> {
-        let entries = self
-            .desk
-            .entries(&self.rt, self.alloc, keeper.pass, from, MOST_AT_ONCE)?;
-        let lines = journal_lines(self.alloc, keeper.file.chain, entries.as_slice());
-        let count = entries.len();
-        drop(entries);
-        Ok(News {
-            entries: count,
-            lines: lines?,
-        })
+        pass: &mut Pass<L, B, N>,
+        journal: &mut DeskJournal<F, N>,
+        kept: &Kept<N>,
+        is_begun: bool,
+    ) -> io::Result<Turn> {
+        match journal.news(&self.rt, &self.desk, pass, self.alloc) {
+            Ok(news) => {
+                let entries = news.entries();
+                let written = self.keep_news(journal, kept, &news, is_begun);
+                drop(news);
+                match written {
+                    Ok(()) => Ok(Turn::Wrote(entries)),
+                    Err(error) => Err(error),
+                }
+            }
+            Err(AllocError) => Ok(Turn::NoMemory),
+        }
     }
 
-    /// Writes the lines of the entries from a position on, and says how many those are.
+    /// Writes these lines, where there are any, and tells who waits. At first the device is to keep what the file had before.
     fn keep_news<F: Device>(
         &self,
-        keeper: &mut Keeper<'_, L, B, N, F>,
-        from: usize,
+        journal: &mut DeskJournal<F, N>,
+        kept: &Kept<N>,
         news: &News,
-    ) -> io::Result<usize> {
-        if news.entries > 0 {
-            keeper.kept.begin(&self.rt);
-            self.write_lines(keeper, &news.lines)?;
-            keeper
-                .kept
-                .keep(&self.rt, from.saturating_add(news.entries) as u64);
+        is_begun: bool,
+    ) -> io::Result<()>
+        requires { AreNews journal.old news.now }
+    {
+        if is_begun && news.entries() == 0 {
+            return Ok(());
         }
-        Ok(news.entries)
-    }
-
-    /// Writes lines, if there are some.
-    fn write_lines<F: Device>(
-        &self,
-        keeper: &mut Keeper<'_, L, B, N, F>,
-        lines: &Lines,
-    ) -> io::Result<()> {
-        if !lines.bytes.is_empty() {
-            self.append(keeper, lines)?;
-            self.state.count_written(lines.bytes.len() as u64);
-            self.is_long.store(keeper.file.is_long(), Ordering::SeqCst);
+        kept.begin(&self.rt);
+        let begun = Instant::now(&self.rt).ok();
+        let written = journal.write(news);
+        if news.bytes() > 0 {
+            self.state.count_write(&self.rt, begun);
         }
+        let durable = written?;
+        self.state.count_written(news.bytes());
+        self.is_long
+            .store(journal.file().is_long(), Ordering::SeqCst);
+        kept.keep(&self.rt, durable);
         Ok(())
     }
 
-    /// Appends lines, and tells how long that took.
-    fn append<F: Device>(
-        &self,
-        keeper: &mut Keeper<'_, L, B, N, F>,
-        lines: &Lines,
-    ) -> io::Result<()> {
-        let begun = Instant::now(&self.rt).ok();
-        let appended = keeper.file.append(lines);
-        self.state.count_write(&self.rt, begun);
-        appended
-    }
-
-    /// Nothing is written until there is memory, for which the last turn does not wait.
-    fn wait_for_memory(&self, is_last: bool) -> io::Result<usize> {
-        if is_last {
-            return Err(AllocError.into());
-        }
+    /// Nothing is written until there is memory.
+    fn wait_for_memory(&self) {
         log_warning(&self.rt, "no memory to write the journal, tried again");
         thread::sleep(&self.rt, Duration::from_millis(LOOK));
-        Ok(0)
     }
 
     /// The device failed: nothing is kept any more.
-    fn give_up<F>(&self, keeper: &mut Keeper<'_, L, B, N, F>, error: io::Error) {
+    fn give_up<F: Device>(
+        &self,
+        journal: &mut DeskJournal<F, N>,
+        kept: &Kept<N>,
+        error: io::Error,
+    ) {
         log_error_of(&self.rt, "the journal cannot be written", &error);
-        keeper.file.is_broken = true;
+        journal.break_down();
         self.state.break_down();
-        keeper.kept.fail(&self.rt);
+        kept.fail(&self.rt);
     }
 }

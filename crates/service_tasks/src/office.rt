@@ -12,7 +12,7 @@ use http_get::FetchSeveral;
 use journal_files::round_age;
 use lists::List;
 use sd_documents::Job;
-use service_state::{ConfigPages, Kept, RoundStart, ServiceState};
+use service_state::{ConfigPages, RoundStart, ServiceState};
 use std::alloc::{AllocError, Global};
 use std::io;
 use std::net::TcpListener;
@@ -99,7 +99,7 @@ impl<S: FetchSeveral + Drop, F: Drop, C: Configuration + Drop> Office<S, F, C> {
     /// Whether there is a journal's file, and nothing can be kept in it any more.
     pub(crate) fn is_broken(&self) -> bool {
         match &self.journal.file {
-            Some(file) => file.is_broken,
+            Some(file) => file.is_broken(),
             None => false,
         }
     }
@@ -290,18 +290,6 @@ impl<S, F, C> Office<S, F, C> {
             Some(file) => file.is_long(),
             None => false,
         }
-    }
-
-    /// What tells how much of the journal is kept, where there is a file for it.
-    pub fn kept(&self, rt: &impl Wait, alloc: Global) -> Result<Option<Arc<Kept>>, AllocError> {
-        let Some(file) = &self.journal.file else {
-            return Ok(None);
-        };
-        let kept = Arc::new(alloc, Kept::new(alloc))?;
-        if file.is_broken {
-            kept.fail(rt);
-        }
-        Ok(Some(kept))
     }
 }
 

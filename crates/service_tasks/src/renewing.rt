@@ -4,15 +4,15 @@ ghost use Rattle.service_tasks.specs.Later.{IsLater};
 
 use crate::configuration::Configuration;
 use crate::journal::Journal;
-use crate::journal_file::JournalFile;
 use crate::logging::{log_error_of, log_info, log_warning, log_warning_of};
 use crate::office::{Office, sources_of};
 use crate::service::Service;
 use crate::source::Source;
 use allocation_core::{Core, JobSpec, NotRenewed, ReportRounds};
-use durable_journal::{Archive, FirstLine, with_epoch};
+use durable_journal::{Archive, Device, FirstLine, with_epoch};
 use http_get::FetchSeveral;
 use journal_files::{NamedCollector, with_names};
+use kept_journal::JournalFile;
 use lists::copies;
 use replay_lines::{are_jobs_of, resume};
 use std::alloc::{AllocError, Global};
@@ -31,7 +31,7 @@ pub fn continued<R: Clock + Eprint + Copy, S, F, A, C>(
 ) -> io::Result<Core>
 where
     S: FetchSeveral + Drop,
-    F: Drop,
+    F: Device + Drop,
     A: Archive<F>,
     C: Configuration + Drop,
     ensures { IfOk result (IsLater core) }
@@ -70,7 +70,7 @@ fn reloaded<R: Clock + Eprint + Copy, S, F, A, C>(
 ) -> io::Result<Core>
 where
     S: FetchSeveral + Drop,
-    F: Drop,
+    F: Device + Drop,
     A: Archive<F>,
     C: Configuration + Drop,
     ensures { IfOk result (IsLater core) }
@@ -174,7 +174,7 @@ fn copied_jobs(alloc: Global, core: &Core) -> Result<Vec<JobSpec>, AllocError> {
 /// The allocator under the jobs of a service, with reports booked of so many rounds, and whether it is: it is as it was where both are
 /// its own, and else renewed.
 #[tactic(auto, using(crate::proofs::Laters::later_refl))]
-fn under<R: Clock + Eprint + Copy, F: Drop, A: Archive<F>>(
+fn under<R: Clock + Eprint + Copy, F: Device + Drop, A: Archive<F>>(
     rt: &R,
     alloc: Global,
     service: &Service,
@@ -207,7 +207,7 @@ fn under<R: Clock + Eprint + Copy, F: Drop, A: Archive<F>>(
 
 /// The allocator renewed under its own jobs, with reports booked of as many rounds as before.
 #[tactic(auto, using(crate::proofs::Laters::later_refl))]
-fn renewed<R: Clock + Eprint + Copy, F: Drop, A: Archive<F>>(
+fn renewed<R: Clock + Eprint + Copy, F: Device + Drop, A: Archive<F>>(
     rt: &R,
     alloc: Global,
     service: &Service,
@@ -240,7 +240,7 @@ fn renewed<R: Clock + Eprint + Copy, F: Drop, A: Archive<F>>(
 /// The allocator renewed under some jobs, with its journal begun anew, in this epoch, where there is one, and whether it is. Where it is not
 /// renewed it is as it was.
 #[tactic(auto, using(crate::proofs::Laters::renewed_is_later, crate::proofs::Laters::later_refl))]
-fn renewed_under<R: Clock + Eprint + Copy, F: Drop, A: Archive<F>>(
+fn renewed_under<R: Clock + Eprint + Copy, F: Device + Drop, A: Archive<F>>(
     rt: &R,
     alloc: Global,
     service: &Service,
@@ -271,7 +271,7 @@ fn renewed_under<R: Clock + Eprint + Copy, F: Drop, A: Archive<F>>(
 }
 
 /// Begins the journal of a renewed allocator, where the service has a journal. Where the device fails, nothing is kept any more.
-fn begin_journal<R: Clock + Eprint + Copy, F: Drop, A: Archive<F>>(
+fn begin_journal<R: Clock + Eprint + Copy, F: Device + Drop, A: Archive<F>>(
     rt: &R,
     alloc: Global,
     service: &Service,
@@ -328,6 +328,6 @@ fn break_down<R: Clock + Eprint + Copy, F>(
         return Err(error);
     }
     log_error_of(rt, "another journal cannot be begun", &error);
-    file.is_broken = true;
+    file.break_down();
     Ok(())
 }
