@@ -1,6 +1,5 @@
 //! A session over its desk.
-ghost use Rattle.std.specs.Prelude.{◌≡◌, ◌<◌, ◌≤◌, List, IfOk, OnOk};
-ghost use Rattle.journal_entries.specs.declared.entry.Entry.{Entry};
+ghost use Rattle.std.specs.Prelude.{◌≡◌, ◌<◌, ◌≤◌, IfOk, OnOk};
 ghost use Rattle.alloc_desk.specs.declared.limits.TheConstants.{MOST_PASSES};
 ghost use Rattle.session_command.specs.Totals.{IsEnded, IsReached};
 
@@ -63,7 +62,6 @@ where
     requires calls { (calls.name ≡ L.name) × (calls.parts ≡ L.parts) × (L.parts ≡ seats) }
     requires samples { (samples.name ≡ B.name) × (samples.parts ≡ B.parts) × (B.parts ≡ seats) }
     requires log { log ≡ N.book }
-    requires free { (entries : List Entry) → N.keeps entries }
 {
     match Desk::<L, B, N>::open(alloc, core, seats, calls, samples, log) {
         Ok((desk, passes)) => run_open(rt, alloc, session, desk, passes, text),
@@ -97,7 +95,6 @@ where
     L: Ledger + Send + Sync,
     B: Ledger + Send + Sync,
     N: JournalName + Send + Sync,
-    requires { (entries : List Entry) → N.keeps entries }
 {
     let Some(asked) = passes.pop() else {
         drop((desk, passes));
@@ -163,9 +160,7 @@ fn handler_of<R: Copy, L: Ledger, B: Ledger, N: JournalName>(
     session: &Session,
     desk: Desk<L, B, N>,
     pass: Pass<L, B, N>,
-) -> Result<Handler<R, L, B, N>, AllocError>
-    requires { (entries : List Entry) → N.keeps entries }
-{
+) -> Result<Handler<R, L, B, N>, AllocError> {
     let shown = match Shown::of(alloc, session) {
         Ok(shown) => shown,
         Err(error) => {
