@@ -5,12 +5,14 @@
 mod answers;
 mod parts;
 mod requests;
+mod terms;
 
 use answers::{granted, lease, told, verdict};
 use requests::posted;
 use std::alloc::{AllocError, Global};
 use std::io;
 use std::io::Read;
+use terms::{read, seat};
 
 fn main(rt: HostRuntime) -> io::Result<()> {
     let mut rows = String::new(rt.alloc());
@@ -48,6 +50,8 @@ fn said(alloc: Global, row: &str) -> Result<String, AllocError> {
         "lease" => lease(alloc, text),
         "told" => told(alloc, text),
         "verdict" => verdict(alloc, text),
+        "read" => read(alloc, text),
+        "seat" => seat(alloc, text),
         _ => posted(alloc, reader, text),
     }
 }

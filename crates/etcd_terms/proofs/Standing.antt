@@ -18,7 +18,7 @@ use Rattle.etcd_terms.specs.declared.seat.Ahead.{Ahead}
 use Rattle.etcd_terms.specs.declared.seat.Ahead.TheVariants.{Unknown, Left, Has}
 use Rattle.etcd_terms.specs.Laws.{AsksAScript}
 use Rattle.etcd_terms.specs.Runs.{AreTrue, HasNext, IsAhead, IsEnd, IsFound, IsFree, IsSeen, IsUnwritten, Stands, Turn, Wishes, Hears, Ends, done_all, is_looking, requests_of, script}
-use Rattle.etcd_terms.specs.Seats.{ahead_of, ended, filled, heard, is_filled, is_granted, is_left, is_unknown, judged, kept, left_at, may, may_fill, settled, up, verdict_of}
+use Rattle.etcd_terms.specs.Seats.{ahead_of, ended, filled, heard, is_filled, is_granted, is_left, is_unknown, judged, kept, leads_verdict, left_at, may, may_fill, settled, up, verdict_of}
 
 up_is : (n : ℕ) → n < 4294967295 → up n ≡ suc n
 up_is n below = omega (arith, below)
@@ -369,29 +369,30 @@ found_ahead t store asked s (f ∷ more) st is below found =
     let unwritten : IsUnwritten (s.going + 1) asked = subst (IsAhead store asked (s.going + 1)) is st.ahead in
     record { leads = st.leads; epoch = st.epoch; some = st.some; numbers = below; «end» = st.«end»; ahead = (found, unwritten); later = st.later }
 
-kept_good : (t : ℕ) (store : Store) (asked : List Request) (s : Seat) (answer : Answer) (wish : Wish) → Live t store asked s (Some wish) → (is_looking (Some wish) → IsFound store (s.going + 1) (ahead_of (found_at 2 answer)))
-    → Good t store asked (kept s answer wish)
-kept_good t store asked s answer (Append block) live found = inr live.0
-kept_good t store asked s answer Cut live found = inr live.0
-kept_good t store asked s answer Look live found = inr (found_ahead t store asked s (found_at 2 answer) (still_stands t store asked (record s { asked = None }) s.asked live.0) live.1.0 live.1.1 (found tt))
-kept_good t store asked s answer Clear live found = inr live.0
-kept_good t store asked s answer (Fill block) live found = inr live.0
-kept_good t store asked s answer Switch live found = inr live.0
-kept_good t store asked s answer (Forget epoch) live found = inr live.0
+kept_good : (t : ℕ) (term : List ℕ) (store : Store) (asked : List Request) (s : Seat) (answer : Answer) (wish : Wish) → Live t store asked s (Some wish) → verdict_of term s answer wish ≡ Kept
+    → (is_looking (Some wish) → leads_verdict term s.going answer ≡ Kept → IsFound store (s.going + 1) (ahead_of (found_at 2 answer))) → Good t store asked (kept s answer wish)
+kept_good t term store asked s answer (Append block) live is found = inr live.0
+kept_good t term store asked s answer Cut live is found = inr live.0
+kept_good t term store asked s answer Look live is found =
+    inr (found_ahead t store asked s (found_at 2 answer) (still_stands t store asked (record s { asked = None }) s.asked live.0) live.1.0 live.1.1 (found tt is))
+kept_good t term store asked s answer Clear live is found = inr live.0
+kept_good t term store asked s answer (Fill block) live is found = inr live.0
+kept_good t term store asked s answer Switch live is found = inr live.0
+kept_good t term store asked s answer (Forget epoch) live is found = inr live.0
 
-judged_good : (t : ℕ) (store : Store) (asked : List Request) (s : Seat) (answer : Answer) (wish : Wish) (v : Verdict) → s.asked ≡ Some wish → Live t store asked s (Some wish)
-    → (is_looking (Some wish) → IsFound store (s.going + 1) (ahead_of (found_at 2 answer))) → Good t store asked (judged s answer wish v)
-judged_good t store asked s answer wish Kept e live found = kept_good t store asked s answer wish live found
-judged_good t store asked s answer wish Deposed e live found = inl (refl, refl)
-judged_good t store asked s answer wish NotKnown e live found = inr (subst (Live t store asked s) (sym e) live)
+judged_good : (t : ℕ) (term : List ℕ) (store : Store) (asked : List Request) (s : Seat) (answer : Answer) (wish : Wish) (v : Verdict) → verdict_of term s answer wish ≡ v → s.asked ≡ Some wish → Live t store asked s (Some wish)
+    → (is_looking (Some wish) → leads_verdict term s.going answer ≡ Kept → IsFound store (s.going + 1) (ahead_of (found_at 2 answer))) → Good t store asked (judged s answer wish v)
+judged_good t term store asked s answer wish Kept is e live found = kept_good t term store asked s answer wish live is found
+judged_good t term store asked s answer wish Deposed is e live found = inl (refl, refl)
+judged_good t term store asked s answer wish NotKnown is e live found = inr (subst (Live t store asked s) (sym e) live)
 
 live_heard : (t : ℕ) (term : List ℕ) (store : Store) (asked : List Request) (s : Seat) (answer : Answer) (o : Option Wish) → s.asked ≡ o → Live t store asked s o
-    → (is_looking o → IsFound store (s.going + 1) (ahead_of (found_at 2 answer))) → Good t store asked (option_map_or (λ wish. judged s answer wish (verdict_of term s answer wish)) o s)
+    → (is_looking o → leads_verdict term s.going answer ≡ Kept → IsFound store (s.going + 1) (ahead_of (found_at 2 answer))) → Good t store asked (option_map_or (λ wish. judged s answer wish (verdict_of term s answer wish)) o s)
 live_heard t term store asked s answer None e live found = inr (subst (Live t store asked s) (sym e) live)
-live_heard t term store asked s answer (Some wish) e live found = judged_good t store asked s answer wish (verdict_of term s answer wish) e live found
+live_heard t term store asked s answer (Some wish) e live found = judged_good t term store asked s answer wish (verdict_of term s answer wish) refl e live found
 
-heard_good : (t : ℕ) (term : List ℕ) (store : Store) (asked : List Request) (s : Seat) (answer : Answer) → Good t store asked s → (is_looking s.asked → IsFound store (s.going + 1) (ahead_of (found_at 2 answer)))
-    → Good t store asked (heard term s answer)
+heard_good : (t : ℕ) (term : List ℕ) (store : Store) (asked : List Request) (s : Seat) (answer : Answer) → Good t store asked s
+    → (is_looking s.asked → leads_verdict term s.going answer ≡ Kept → IsFound store (s.going + 1) (ahead_of (found_at 2 answer))) → Good t store asked (heard term s answer)
 heard_good t term store asked s answer (inl over) found =
     subst (Good t store asked) (sym (ap (λ (o : Option Wish). option_map_or (λ wish. judged s answer wish (verdict_of term s answer wish)) o s) over.1)) (inl over)
 heard_good t term store asked s answer (inr live) found = live_heard t term store asked s answer s.asked refl live found

@@ -5,12 +5,13 @@ use Rattle.etcd_laws.specs.Stores.{Request, Write, Remove, Switch as Switches, F
 use Rattle.etcd_laws.specs.Scripts.{writes_in}
 use Rattle.etcd_answers.specs.Verdicts.{found_at}
 use Rattle.etcd_answers.specs.declared.answer.Answer.{Answer}
+use Rattle.etcd_answers.specs.declared.verdict.Verdict.TheVariants.{Kept}
 use Rattle.etcd_terms.specs.declared.seat.Seat.{Seat}
 use Rattle.etcd_terms.specs.declared.seat.Wish.{Wish}
 use Rattle.etcd_terms.specs.declared.seat.Wish.TheVariants.{Append, Cut, Look, Clear, Fill, Switch, Forget}
 use Rattle.etcd_terms.specs.declared.seat.Ahead.{Ahead}
 use Rattle.etcd_terms.specs.declared.seat.Ahead.TheVariants.{Unknown, Left, Has}
-use Rattle.etcd_terms.specs.Seats.{ahead_of, ended, filled, heard, is_granted, left_at, up, wished}
+use Rattle.etcd_terms.specs.Seats.{ahead_of, ended, filled, heard, is_granted, leads_verdict, left_at, up, wished}
 
 -- what comes to a seat: a wish of its instance; any answer, whatever it says and whenever it comes; the end of its lease
 pub data Turn : Type 0 where
@@ -111,9 +112,9 @@ abbrev pub done_all : Store → List Request → Store
 done_all store [] = store
 done_all store (r ∷ requests) = done_all (after store r) requests
 
--- Of all answers, only those to looks are taken to be true, and only where they tell what stands in the next epoch.
+-- Of all answers, only those to looks are taken to be true, and only where they tell that the term leads and what stands in the next epoch.
 abbrev pub AreTrue : ℕ → List ℕ → Store → Seat → List Turn → Type 0
 AreTrue t term store s [] = Unit {0}
 AreTrue t term store s (Wishes wish ∷ turns) = AreTrue t term (done_all store (asked_in t s (Wishes wish))) (wished s wish) turns
-AreTrue t term store s (Hears answer ∷ turns) = (is_looking s.asked → IsFound store (s.going + 1) (ahead_of (found_at 2 answer))) × AreTrue t term store (heard term s answer) turns
+AreTrue t term store s (Hears answer ∷ turns) = (is_looking s.asked → leads_verdict term s.going answer ≡ Kept → IsFound store (s.going + 1) (ahead_of (found_at 2 answer))) × AreTrue t term store (heard term s answer) turns
 AreTrue t term store s (Ends ∷ turns) = AreTrue t term store (ended s) turns
