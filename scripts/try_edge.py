@@ -68,9 +68,19 @@ def has(service, figure, value):
     return comes(lambda: service.figure(figure) == value, 20)
 
 
+def reload_told(service):
+    """How a reload is answered, once the service has begun: until then it is told to ask again."""
+    for _ in range(100):
+        status, told = service.ask("POST", "/-/reload")
+        if "ask again" not in told:
+            break
+        time.sleep(0.1)
+    return status
+
+
 def reloaded(service, new):
     service.write(new)
-    return service.ask("POST", "/-/reload")[0]
+    return reload_told(service)
 
 
 def held(service, job, name="a"):
@@ -741,7 +751,7 @@ def lifecycles(folder):
         inner = f"{folder}/{index}"
         os.mkdir(inner)
         service = started(inner, [static("n", 1)], lifecycle=lifecycle)
-        answered = [service.ask("POST", path)[0] for path in ("/-/reload", "/-/quit")]
+        answered = [reload_told(service), service.ask("POST", "/-/quit")[0]]
         tell(f"lifecycle {json.dumps(lifecycle)}: reload {reload}, quit {quit}", answered == [reload, quit], answered)
         if quit != 200:
             service.it.kill()
