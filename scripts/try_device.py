@@ -312,4 +312,28 @@ def fails(folder):
     tell("it ends", service.quit() == (200, 0))
 
 
-run_parts((answers, waits, names, half_renewals, fails), sys.argv[1:])
+def hangs(folder):
+    """Where the device does not come back, who asks is told so at once, until it does."""
+    library = library_in(folder)
+    if library is None:
+        return
+    service = Watched(folder, library)
+    service.published()
+    first = []
+    asks = threading.Thread(target=lambda: first.append(service.ask("POST", "/collectors", {"name": "b", "reach": []})))
+    service.begins("holds")
+    asks.start()
+    hung = comes(lambda: service.ask("GET", "/-/ready")[0] == 503, 10)
+    asks.join(5)
+    tell("it is not ready then, and who waited is told that nothing is kept", (hung, first) == (True, [(503, '{"refused":"NotKept"}')]), first)
+    began = time.monotonic()
+    told = [service.ask("POST", "/collectors", {"name": "c", "reach": []}), service.ask("GET", "/jobs/n/targets?collector_id=a")]
+    took = time.monotonic() - began
+    tell("who asks meanwhile is told at once", [status for status, _ in told] == [503, 503] and took < 2, f"{told} after {took:.2f} seconds")
+    service.ends("holds")
+    tell("once it comes back it is ready", comes(lambda: service.ask("GET", "/-/ready")[0] == 200, 10))
+    tell("and goes on", service.ask("POST", "/collectors", {"name": "d", "reach": []})[0] == 200 and service.has_kept(is_join("d")))
+    tell("it ends", service.quit() == (200, 0))
+
+
+run_parts((answers, waits, names, half_renewals, fails, hangs), sys.argv[1:])

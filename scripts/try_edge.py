@@ -168,18 +168,34 @@ def uncovered(folder):
     time.sleep(1)
     service.ask("DELETE", "/collectors/1")
     tell("before a reallocation nobody holds what was held by one that left", comes(lambda: of("n") == (0, 4), 5), of("n"))
+    told = [service.figure(f'allocd_targets{what}{{job="n"}}') for what in ("_covered", "_uncovered", "_taken")]
+    tell("so do the figures say", told == [0, 4, 0], told)
     ends(service)
+
+
+FORGED = 'two\nlevel=error msg="forged"'
+LINE = re.compile(r'ts=\S+ level=(info|warn|error) msg="[^"]*"( [a-z_]+=("([^"\\]|\\.)*"|[^\s"]+))*$')
 
 
 def texts(folder):
-    forged = {"name": 'two\nlevel=error msg="forged"', "reach": []}
-    service = started(folder, [static("n", 1)], collectors=[{"name": "a", "reach": ANY}, forged])
+    """Whatever names say, a page has no further markup, and the log a line for each thing that is told."""
+    forged = {"name": FORGED, "reach": []}
+    jobs = [static("n", 1), {"job_name": f"job {FORGED}", "http_sd_configs": [url(f"/{'%0A'}level=error", port=1)]}]
+    service = started(folder, jobs, collectors=[{"name": "a", "reach": ANY}, forged])
     service.ask("POST", "/collectors", {"name": "<script>x</script>\"&'", "reach": []})
+    service.ask("POST", "/collectors", {"name": f"posted {FORGED}", "reach": []})
+    for way in (f"/collectors/{urllib.parse.quote('posted ' + FORGED, safe='')}", f"/collectors/{urllib.parse.quote('no ' + FORGED, safe='')}"):
+        service.ask("POST", f"{way}/drain", {})
     page = service.ask("GET", "/")[1]
     tell("a collector's name is no markup", "<script>x" not in page and "&lt;script&gt;x" in page)
+    comes(lambda: service.figure(f'allocd_refresh_failures_total{{source="job {json.dumps(FORGED)[1:-1]}/1"}}'), 10)
+    tell("a reload that takes the job away is told", reloaded(service, config([static(f"other {FORGED}", 2)], collectors=[{"name": f"c {FORGED}", "reach": ANY}])) == 200)
+    time.sleep(0.5)
     ends(service)
     with open(f"{folder}/log") as it:
-        tell("no name makes two lines of the log", not any(line.startswith("level=error") for line in it))
+        lines = it.read().splitlines()
+    told = [line for line in lines if not LINE.match(line)]
+    tell("no name makes two lines of the log", len(lines) > 8 and not told, told)
 
 
 class Page(html.parser.HTMLParser):
@@ -974,6 +990,59 @@ def stalls(folder):
     ends(service)
 
 
+def settles(folder):
+    """Changes are gathered for as long as `settle` says, from the first one on."""
+    service = started(folder, [static("n", 2)], settle="2s")
+    has(service, "allocd_allocation", 1)
+    began = time.monotonic()
+    service.ask("POST", "/collectors", {"name": "b", "reach": ANY})
+    service.ask("PUT", "/collectors/1/limits", {"limits": {"n": 1}})
+    time.sleep(0.7)
+    service.ask("PUT", "/collectors/1/limits", {"limits": {"n": 1}})
+    has(service, "allocd_allocation", 2)
+    took = time.monotonic() - began
+    tell("it reallocates so long after the first change", 1.8 < took < 3.5, f"{took:.2f} seconds")
+    ends(service)
+
+
+def absent_over_reloads(folder):
+    """Who asks for nothing leaves, however often the configuration is read again meanwhile."""
+    settings = lambda turn: config([static("n", 2)], collector_timeout="2s", settle=f"{50 + turn}ms")
+    service = Service(folder, settings(0), f"{folder}/journal")
+    service.is_up()
+    service.ask("POST", "/collectors", {"name": "b", "reach": ANY})
+    for name in "ab":
+        service.ask("GET", f"/jobs/n/targets?collector_id={name}")
+    for turn in range(1, 12):
+        service.ask("GET", "/jobs/n/targets?collector_id=a")
+        reloaded(service, settings(turn))
+        time.sleep(0.6)
+    joined = [it["name"] for it in json.loads(service.ask("GET", "/collectors")[1])]
+    tell("who asked is there, and who did not has left", joined == ["a"], joined)
+    ends(service)
+    told = [event["event"] for event, _ in replayed(f"{folder}/journal")[1] if event.get("collector") == 2]
+    tell("after it was drained", [kind for kind in told if kind in ("drain", "leave")] == ["drain", "leave"], told)
+
+
+def many_ids(folder):
+    """A collector is one whatever its number."""
+    service = started(folder, [static("n", 1)])
+    it = http.client.HTTPConnection("127.0.0.1", service.port, timeout=30)
+
+    def ask(method, path, body=None):
+        it.request(method, path, body=body and json.dumps(body), headers={"content-type": "application/json"})
+        answer = it.getresponse()
+        return answer.status, json.loads(answer.read())
+
+    joined = [ask("POST", "/collectors", {"name": "b", "reach": []})[1]["answer"] == f"Joined {number}" and ask("DELETE", f"/collectors/{number}")[0] == 200 for number in range(2, 1102)]
+    tell("1,100 join and leave, one after the other", all(joined), joined.count(False))
+    ask("POST", "/collectors", {"name": "b", "reach": ANY})
+    told = [ask(*words) for words in (("PUT", "/collectors/1102/limits", {"limits": {"n": 1}}), ("POST", "/collectors/1102/drain", {}), ("POST", "/collectors/1102/release", {}), ("DELETE", "/collectors/1102"))]
+    tell("to the next happens what is asked", told == [(200, {"answer": answer}) for answer in ("LimitsSet", "Draining", "Released 0", "Left")], told)
+    it.close()
+    ends(service)
+
+
 def rounds(folder):
     service = started(folder, [static("n", 1)], interval="1s")
     first, began = service.figure("allocd_round"), time.monotonic()
@@ -1541,5 +1610,5 @@ def files(folder):
 SOURCE = http.server.ThreadingHTTPServer(("127.0.0.1", 0), Source)
 SOURCE.daemon_threads = True
 threading.Thread(target=SOURCE.serve_forever, daemon=True).start()
-PARTS = (settings, relabels, reloads, uncovered, texts, page, job_pages, collector_pages, searches, since, series, figures, every_figure, turned_away, process, takes, talks, requests, lifecycles, held_rows, stalls, rounds, rounds_kept, silences, yaml, lists_of_reports, round_books, entity_tags, acknowledge, spreads, moves, spreads_by_job, evens, evens_in_turn, names, files)
+PARTS = (settings, relabels, reloads, uncovered, texts, page, job_pages, collector_pages, searches, since, series, figures, every_figure, turned_away, process, takes, talks, requests, lifecycles, held_rows, stalls, settles, absent_over_reloads, many_ids, rounds, rounds_kept, silences, yaml, lists_of_reports, round_books, entity_tags, acknowledge, spreads, moves, spreads_by_job, evens, evens_in_turn, names, files)
 run_parts(PARTS, sys.argv[1:])
