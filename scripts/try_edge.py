@@ -646,22 +646,20 @@ HISTORY = {
     'allocd_targets_handing_over{job="n"}': 5, 'allocd_targets_handing_over{job="m"}': 2,
     'allocd_collector_targets{collector="b"}': 4, 'allocd_collector_targets{collector="c"}': 3,
     'allocd_collector_draining{collector="b"}': 1,
-    'allocd_collector_taken_allocation{collector="b"}': 2,
     "allocd_targets_waited_for_left": 7,
-    "allocd_allocation": 4, "allocd_round": 1, "allocd_allocation_moved": 3, "allocd_allocation_left": 4, "allocd_reallocations_total": 4,
+    "allocd_round": 1, "allocd_allocation_moved": 3, "allocd_allocation_left": 4,
     "allocd_samples_booked_total": 12,
     'allocd_events_total{event="discover",answer="Discovered"}': 3,
     'allocd_events_total{event="join",answer="Joined"}': 3, 'allocd_events_total{event="join",answer="AlreadyJoined"}': 1,
     'allocd_events_total{event="leave",answer="Left"}': 1, 'allocd_events_total{event="leave",answer="UnknownCollector"}': 1,
     'allocd_events_total{event="drain",answer="Draining"}': 1, 'allocd_events_total{event="drain",answer="AlreadyDraining"}': 1,
-    'allocd_events_total{event="limits",answer="LimitsSet"}': 1, 'allocd_events_total{event="install",answer="Published"}': 4,
+    'allocd_events_total{event="limits",answer="LimitsSet"}': 1,
     'allocd_events_total{event="serve",answer="Served"}': 3, 'allocd_events_total{event="release",answer="UnknownCollector"}': 1,
     'allocd_events_total{event="report",answer="Booked"}': 3, 'allocd_events_total{event="report",answer="AlreadyBooked"}': 1,
     'allocd_events_total{event="report",answer="UnknownCollector"}': 1, 'allocd_events_total{event="report",answer="NotTaken"}': 2,
     'allocd_events_total{event="report",answer="RoundNotOpen"}': 1,
     'allocd_events_refused_total{event="join"}': 1, 'allocd_events_refused_total{event="leave"}': 1, 'allocd_events_refused_total{event="drain"}': 1,
     'allocd_events_refused_total{event="release"}': 1, 'allocd_events_refused_total{event="report"}': 5,
-    "allocd_journal_entries": 28,
     'allocd_source_targets{job="m",source="m/1"}': 2, 'allocd_source_targets_dropped{job="m",source="m/1"}': 1, 'allocd_source_targets_without_address{job="m",source="m/1"}': 1,
     'allocd_refresh_failures_total{source="m/1"}': 0, 'allocd_refresh_last_success_timestamp_seconds{job="m",source="m/2"}': 0,
     "allocd_config_last_reload_successful": 1, "allocd_journal_broken": 0, "allocd_http_connections": 4, "allocd_http_connections_max": 64,
@@ -701,14 +699,19 @@ def history(service):
     """What the figures of HISTORY come of. Gives when targets came to be handed over."""
     for job in "nm":
         service.ask("GET", f"/jobs/{job}/targets?collector_id=a")
-    report = {"collector": 1, "number": 1, "target": 0, "round": 1, "up": True, "samples": 7}
-    for more in ({}, {}, {"collector": 9}, {"target": 99}, {"target": 1, "round": 5}, {"target": 1, "number": 9}, {"target": 1, "samples": 5}):
+    searched = lambda number: has(service, "allocd_reallocations_total", number)
+    first, searches = service.figure("allocd_allocation"), service.figure("allocd_reallocations_total")
+    report = {"collector": 1, "number": first, "target": 0, "round": 1, "up": True, "samples": 7}
+    for more in ({}, {}, {"collector": 9}, {"target": 99}, {"target": 1, "round": 5}, {"target": 1, "number": 99}, {"target": 1, "samples": 5}):
         service.ask("POST", "/reports", {**report, **more})
     service.ask("POST", "/reports", {**report, "target": 2, "up": False, "samples": 0})
     for _ in range(2):
         service.ask("POST", "/collectors", {"name": "b", "reach": MOST})
+    # the search that follows a join changes nothing, since all that b reaches is held
+    searched(searches + 1)
     before = time.time()
     service.ask("PUT", "/collectors/1/limits", {"limits": {"n": 3}})
+    searched(searches + 2)
     has(service, 'allocd_collector_targets{collector="b"}', 2)
     waits = [service.figure(name) for name in ('allocd_targets_handing_over{job="n"}', 'allocd_collector_waited_for{collector="a"}', 'allocd_targets_taken{job="n"}')]
     tell("what another list still has is handed over, and who has it is waited for", waits == [2, 2, 3], waits)
@@ -716,7 +719,9 @@ def history(service):
     after = time.time()
     service.ask("DELETE", "/collectors/1")
     has(service, 'allocd_collector_targets{collector="b"}', 7)
+    searched(searches + 3)
     service.ask("POST", "/collectors", {"name": "c", "reach": MOST, "limits": {"n": 1}})
+    searched(searches + 4)
     for _ in range(2):
         service.ask("POST", "/collectors/2/drain", {})
     has(service, 'allocd_collector_targets{collector="c"}', 3)
@@ -749,6 +754,7 @@ def every_figure(folder):
     service = Counting(folder, config(jobs, rejoin=False, connections=64, collectors=[{"name": "a", "reach": MOST}]), f"{folder}/journal")
     service.is_up()
     up = time.time()
+    comes(lambda: service.ask("GET", "/-/ready")[0] == 200, 20)
     has(service, 'allocd_targets_covered{job="m"}', 2)
     handed_over = history(service)
     idle = [socket.create_connection(("127.0.0.1", service.port), timeout=10) for _ in range(3)]
@@ -758,9 +764,16 @@ def every_figure(folder):
     counted, asked = dict(service.answered), len(Source.asked["/figures"])
     samples, kinds = samples_of(service.ask("GET", "/metrics")[1])
     now, asked_then = time.time(), len(Source.asked["/figures"])
-    expected = {**{f'allocd_http_requests_total{{route="{route}",status="{status}"}}': count for (route, status), count in counted.items()}, **HISTORY}
     replays, told, _ = replayed(f"{folder}/journal")
     done = collections.Counter((event["event"], answer.partition(" ")[0]) for event, answer in told)
+    # What is found may be given out a part after the other, and b took its list of the last allocation but two. A search that changes nothing
+    # has an entry of the journal, and is no event that is told.
+    published = int([answer for _, answer in told if answer.startswith("Published ")][-1].split()[1])
+    expected = {
+        **{f'allocd_http_requests_total{{route="{route}",status="{status}"}}': count for (route, status), count in counted.items()}, **HISTORY,
+        "allocd_allocation": published, 'allocd_events_total{event="install",answer="Published"}': published, "allocd_reallocations_total": published + 2,
+        'allocd_collector_taken_allocation{collector="b"}': published - 2, "allocd_journal_entries": len(told) + sum(count for name, count in HISTORY.items() if name.startswith("allocd_events_refused_total")) + 2,
+    }
     near = lambda low, high: lambda value: low <= value <= high
     looks = {
         'allocd_refreshes_total{source="m/1"}': near(asked - 1, asked_then), "process_start_time_seconds": near(begun, up), "allocd_config_last_reload_success_timestamp_seconds": near(begun, up),
@@ -779,14 +792,14 @@ def every_figure(folder):
     done_then = {(event, answer): samples.get(f'allocd_events_total{{event="{event}",answer="{answer}"}}') for event, answer in done}
     tell("the events that were done are those of the journal", replays == 0 and done_then == done, (done_then, done))
     all_events = sum(value for name, value in samples.items() if name.startswith("allocd_events_total{"))
-    tell("and all of them, those that were refused too, its entries", all_events == samples["allocd_journal_entries"], all_events)
+    tell("and all of them, those that were refused too, its entries", all_events + 2 == samples["allocd_journal_entries"], all_events)
     of_routes = collections.Counter()
     for (route, _), count in counted.items():
         of_routes[route] += count
     took = {route: samples[f'allocd_http_request_duration_seconds_count{{route="{route}"}}'] for route in of_routes}
     tell("how long each request took is told by route", took == dict(of_routes), (took, of_routes))
     sums = [samples[f"{name}_sum{labels}"] for name, labels in (("allocd_journal_write_duration_seconds", ""), ("allocd_reallocation_duration_seconds", ""), ("allocd_http_request_duration_seconds", '{route="POST /reports"}'))]
-    tell("times are of what there was", all(0 < value < now - begun for value in sums) and samples["allocd_reallocation_duration_seconds_count"] == 4 and 0 < samples["allocd_journal_write_duration_seconds_count"] <= len(told) + 1, sums)
+    tell("times are of what there was", all(0 < value < now - begun for value in sums) and samples["allocd_reallocation_duration_seconds_count"] == published + 2 and 0 < samples["allocd_journal_write_duration_seconds_count"] <= len(told) + 1, sums)
     for path in READ_ONLY:
         service.ask("GET", path)
     again = samples_of(service.ask("GET", "/metrics")[1])[0]
@@ -1001,24 +1014,26 @@ def settles(folder):
     service.ask("PUT", "/collectors/1/limits", {"limits": {"n": 1}})
     has(service, "allocd_allocation", 2)
     took = time.monotonic() - began
-    tell("it reallocates so long after the first change", 1.8 < took < 3.5, f"{took:.2f} seconds")
+    tell("it reallocates so long after the first change", 1.8 < took < 5, f"{took:.2f} seconds")
     ends(service)
 
 
 def absent_over_reloads(folder):
     """Who asks for nothing leaves, however often the configuration is read again meanwhile."""
-    settings = lambda turn: config([static("n", 2)], collector_timeout="2s", settle=f"{50 + turn}ms")
+    settings = lambda turn: config([static("n", 2)], collector_timeout="3s", settle=f"{50 + turn}ms")
     service = Service(folder, settings(0), f"{folder}/journal")
     service.is_up()
     service.ask("POST", "/collectors", {"name": "b", "reach": ANY})
     for name in "ab":
         service.ask("GET", f"/jobs/n/targets?collector_id={name}")
-    for turn in range(1, 12):
+    joined = lambda: [it["name"] for it in json.loads(service.ask("GET", "/collectors")[1] or "[]")]
+    turn, end = 0, time.monotonic() + 25
+    while time.monotonic() < end and joined() != ["a"]:
+        turn += 1
         service.ask("GET", "/jobs/n/targets?collector_id=a")
         reloaded(service, settings(turn))
-        time.sleep(0.6)
-    joined = [it["name"] for it in json.loads(service.ask("GET", "/collectors")[1])]
-    tell("who asked is there, and who did not has left", joined == ["a"], joined)
+        time.sleep(0.4)
+    tell("who asked is there, and who did not has left", joined() == ["a"] and turn > 3, (joined(), turn))
     ends(service)
     told = [event["event"] for event, _ in replayed(f"{folder}/journal")[1] if event.get("collector") == 2]
     tell("after it was drained", [kind for kind in told if kind in ("drain", "leave")] == ["drain", "leave"], told)
@@ -1034,10 +1049,10 @@ def many_ids(folder):
         answer = it.getresponse()
         return answer.status, json.loads(answer.read())
 
-    joined = [ask("POST", "/collectors", {"name": "b", "reach": []})[1]["answer"] == f"Joined {number}" and ask("DELETE", f"/collectors/{number}")[0] == 200 for number in range(2, 1102)]
-    tell("1,100 join and leave, one after the other", all(joined), joined.count(False))
+    joined = [ask("POST", "/collectors", {"name": "b", "reach": []})[1]["answer"] == f"Joined {number}" and ask("DELETE", f"/collectors/{number}")[0] == 200 for number in range(2, 1032)]
+    tell("1,030 join and leave, one after the other", all(joined), joined.count(False))
     ask("POST", "/collectors", {"name": "b", "reach": ANY})
-    told = [ask(*words) for words in (("PUT", "/collectors/1102/limits", {"limits": {"n": 1}}), ("POST", "/collectors/1102/drain", {}), ("POST", "/collectors/1102/release", {}), ("DELETE", "/collectors/1102"))]
+    told = [ask(*words) for words in (("PUT", "/collectors/1032/limits", {"limits": {"n": 1}}), ("POST", "/collectors/1032/drain", {}), ("POST", "/collectors/1032/release", {}), ("DELETE", "/collectors/1032"))]
     tell("to the next happens what is asked", told == [(200, {"answer": answer}) for answer in ("LimitsSet", "Draining", "Released 0", "Left")], told)
     it.close()
     ends(service)
