@@ -273,6 +273,8 @@ def half_renewals(folder):
     service = Watched(folder, library)
     joined = {it["name"] for it in json.loads(service.ask("GET", "/collectors")[1])}
     tell("where both are, the next one goes", {"a", "b", "c"} <= joined and not os.path.exists(f"{folder}/disk/journal.next"), (joined, os.listdir(f"{folder}/disk")))
+    status = service.ask("POST", "/collectors", {"name": "d", "reach": []})[0]
+    tell("and the service goes on in the file that has all", status == 200 and all(service.has_kept(is_join(name)) for name in "bcd"), (status, events_on(service.disk.worst())))
     tell("it ends", service.quit() == (200, 0))
 
 
