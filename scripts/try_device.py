@@ -73,7 +73,7 @@ class Disk:
         found = {}
         for name, file in self.names.items():
             text = b""
-            if id(file) in paths:
+            if os.path.exists(paths.get(id(file), "")):
                 with open(paths[id(file)], "rb") as it:
                     text = it.read(file.kept)
             found[name] = text
