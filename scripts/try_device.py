@@ -314,6 +314,34 @@ def fails(folder):
     tell("it ends", service.quit() == (200, 0))
 
 
+def fails_at_the_end(folder):
+    """Where the device fails just as another configuration is to be followed, no other journal is begun behind what it lacks."""
+    library = library_in(folder)
+    if library is None:
+        return
+    service = Watched(folder, library, config(give_up="1h"))
+    service.published()
+    told = []
+    asks = threading.Thread(target=lambda: told.append(service.ask("POST", "/collectors", {"name": "b", "reach": []})))
+    service.begins("holds")
+    asks.start()
+    time.sleep(0.3)
+    service.write(config(("n", "m"), give_up="1h"))
+    reload = service.ask("POST", "/-/reload")[0]
+    service.begins("fails")
+    service.ends("holds")
+    asks.join(30)
+    status = [it[0] for it in told]
+    tell("a reload is taken, and who waited is not told that it is kept", reload == 200 and status in ([503], [None]), (reload, told))
+    broken = comes(lambda: service.figure("allocd_journal_broken") == 1, 20)
+    service.ends("fails")
+    time.sleep(1)
+    told = [service.ask(*words)[0] for words in (("POST", "/collectors", {"name": "c", "reach": []}), ("GET", "/-/ready"))]
+    tell("nothing goes on then", (broken, told) == (True, [503] * 2), (broken, told))
+    tell("and there is no other journal", sorted(it for it in os.listdir(f"{folder}/disk") if it != "journal.lock") == ["journal"], os.listdir(f"{folder}/disk"))
+    tell("it ends", service.quit() == (200, 0))
+
+
 def hangs(folder):
     """Where the device does not come back, who asks is told so at once, until it does."""
     library = library_in(folder)
@@ -338,4 +366,4 @@ def hangs(folder):
     tell("it ends", service.quit() == (200, 0))
 
 
-run_parts((answers, waits, names, half_renewals, fails, hangs), sys.argv[1:])
+run_parts((answers, waits, names, half_renewals, fails, fails_at_the_end, hangs), sys.argv[1:])
