@@ -1004,9 +1004,11 @@ def stalls(folder):
 
 
 def settles(folder):
-    """Changes are gathered for as long as `settle` says, from the first one on."""
-    service = started(folder, [static("n", 2)], settle="2s")
+    """Changes are gathered for as long as `settle` says, from the first one on, also where it was read again."""
+    service = started(folder, [static("n", 2)])
     has(service, "allocd_allocation", 1)
+    reloaded(service, config([static("n", 2)], settle="2s"))
+    time.sleep(0.5)
     began = time.monotonic()
     service.ask("POST", "/collectors", {"name": "b", "reach": ANY})
     service.ask("PUT", "/collectors/1/limits", {"limits": {"n": 1}})
