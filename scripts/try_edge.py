@@ -1003,20 +1003,26 @@ def stalls(folder):
     ends(service)
 
 
+def logged_at(folder, what):
+    """When the log tells of something for the first time, in seconds of the day, or None."""
+    with open(f"{folder}/log") as it:
+        found = re.search(rf"^ts=\S+T(\d+):(\d+):(\S+)Z .*{what}", it.read(), re.M)
+    return found and 3600 * int(found[1]) + 60 * int(found[2]) + float(found[3])
+
+
 def settles(folder):
     """Changes are gathered for as long as `settle` says, from the first one on, also where it was read again."""
     service = started(folder, [static("n", 2)])
     has(service, "allocd_allocation", 1)
     reloaded(service, config([static("n", 2)], settle="2s"))
-    time.sleep(0.5)
-    began = time.monotonic()
-    service.ask("POST", "/collectors", {"name": "b", "reach": ANY})
-    service.ask("PUT", "/collectors/1/limits", {"limits": {"n": 1}})
-    time.sleep(0.7)
-    service.ask("PUT", "/collectors/1/limits", {"limits": {"n": 1}})
+    comes(lambda: service.ask("GET", "/-/ready")[0] == 200, 20)
+    began = time.time() % 86400
+    for _ in range(2):
+        service.ask("PUT", "/collectors/1/limits", {"limits": {"n": 1}})
+        time.sleep(0.7)
     has(service, "allocd_allocation", 2)
-    took = time.monotonic() - began
-    tell("it reallocates so long after the first change", 1.8 < took < 5, f"{took:.2f} seconds")
+    took = (logged_at(folder, "allocation=2 ") - began) % 86400
+    tell("it reallocates so long after the first change", 1.8 < took < 2.6, f"{took:.2f} seconds")
     ends(service)
 
 
