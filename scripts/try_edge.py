@@ -804,12 +804,16 @@ def every_figure(folder):
     tell("how long each request took is told by route", took == dict(of_routes), (took, of_routes))
     sums = [samples[f"{name}_sum{labels}"] for name, labels in (("allocd_journal_write_duration_seconds", ""), ("allocd_reallocation_duration_seconds", ""), ("allocd_http_request_duration_seconds", '{route="POST /reports"}'))]
     tell("times are of what there was", all(0 < value < now - begun for value in sums) and samples["allocd_reallocation_duration_seconds_count"] == published + 2 and 0 < samples["allocd_journal_write_duration_seconds_count"] <= len(told) + 1, sums)
-    for path in READ_ONLY:
-        service.ask("GET", path)
+    pages = {path: service.ask("GET", path)[1] for path in READ_ONLY}
     again = samples_of(service.ask("GET", "/metrics")[1])[0]
     moves_by_itself = ("allocd_http_", "allocd_refresh", "process_", "allocd_log_")
     changed = {name: (samples.get(name), value) for name, value in again.items() if samples.get(name) != value and not name.startswith(moves_by_itself)}
     tell("a page that is read changes no figure but those of requests", not changed, changed)
+    foot = re.search(r"; (\d+) refreshes of sources, (\d+) in vain; (\d+) reallocations; (\d+) samples booked", pages["/"])
+    told = [int(number) for number in foot.groups()]
+    asked = [[sum(value for name, value in of.items() if name.startswith(f"allocd_refresh{what}_total")) for of in (samples, again)] for what in ("es", "_failures")]
+    holds = all(low - 1 <= number <= high + 1 for number, (low, high) in zip(told, asked)) and told[2:] == [samples["allocd_reallocations_total"], samples["allocd_samples_booked_total"]]
+    tell("the foot of the page has the same", holds, (told, asked))
     for it in idle:
         it.close()
     service.it.kill()
