@@ -1,7 +1,8 @@
 #!/usr/bin/env python3
 """What there is to read before one of the great claims means what it says: the definitions in specs/ that it stands on, by their
 names. It follows names through imports, and stops at the types that the code declares and at the words of the toolchain's library
-and of the kit's crates, which it lists. Comments, blank lines and imports are not counted.
+and of the kit's crates, which it lists. Comments, blank lines and imports are not counted. Of a promise of the running service it
+begins with the words of the contracts of the functions that carry it, as these import them.
 
 usage: scripts/count_definitions.py                prints the parts, a table for each claim
        scripts/count_definitions.py --write FILE   writes them between the marks of a document (docs/trust/TRUST.md)
@@ -22,15 +23,26 @@ CLAIMS = [
     ("The whole headline", "all steps of the machine, every published allocation and every booked report", ["AlwaysBest", "AlwaysMost", "AlwaysBooked"]),
     ("Events from a first line", "what is promised of events from whatever state a first line opens", ["IsPromised"]),
 ]
+# What the running service promises: which public function carries it, and which contracts, or clauses of them, say it.
+PROMISES = [
+    ("A list that was answered", "what a list was answered is of the one history that the journal has, and kept before", "sd_server Handler::entry",
+     [("sd_server", "handler.rt", "entry", {"kept", "moves"}), ("sd_server", "collector_lists.rt", "collector", None)]),
+    ("An event that was answered", "what an event was answered is the answer to an entry of the one history that the journal has, and kept before", "sd_server Handler::entry",
+     [("sd_server", "handler.rt", "entry", {"kept", "moves"}), ("sd_server", "handler.rt", "entered", None)]),
+    ("The journal's file", "over all desks, reloads and renewals the file leads to the allocator that is served", "daemon serve",
+     [("daemon", "serving.rt", "serve", None), ("daemon", "one_desk.rt", "serve_desk", None), ("service_tasks", "renewing.rt", "continued", None)]),
+]
 HEAD = re.compile(r"(?:abbrev |unfoldable )?pub (?:record |rec )?([^\s:({]+)")
 WORD = re.compile(r"◌\S+?◌|[A-Za-z_][\w'-]*")
 USE = re.compile(r"^(?:abbrev |unfoldable |pub )*use (Rattle\.[\w.]+?)(?:\.\{([^}]*)\})?$", re.M)
+USED_BY_CODE = re.compile(r"^ghost use (Rattle\.[\w.]+?)\.\{([^}]*)\};$", re.M)
+CLAUSE = re.compile(r"\s+(?:ensures|requires)\*? (\w*) *\{(.*)\}$")
 
 
-def imports_of(text):
+def imports_of(text, use=USE):
     """For each name that stands in a file by an import: its module, and its name there."""
     found = {}
-    for base, names in USE.findall(text):
+    for base, names in use.findall(text):
         for name in filter(None, map(str.strip, names.split(","))):
             there, _, here = name.partition(" as ")
             found[(here or there).strip()] = base, there.strip()
@@ -47,8 +59,14 @@ def read_all():
             continue
         text = file.read_text()
         imports[crate, module] = imports_of(text)
+        is_inside = False
         for line in text.splitlines():
             line = re.sub(r"(^|\s)--.*", "", line).rstrip()
+            # in a block with parameters, definitions stand two columns further on
+            is_inside = line.startswith("module ") or is_inside and (not line or line[0] == " ")
+            if line.startswith("module "):
+                continue
+            line = line[2:] if is_inside else line
             if not line or line.startswith(("use ", "pub use ", "infix", "pub mod ")):
                 continue
             head = HEAD.match(line)
@@ -101,11 +119,43 @@ def outside_in_words(outside):
     return ", ".join(types), ", ".join(f"`{it}`" for it in sorted(library))
 
 
+def clauses_of(crate, file, function):
+    """The clauses of a function's contract by their names, in order, and what its file imports for them."""
+    text = (ROOT / crate / "src" / file).read_text()
+    heads = re.findall(rf"^(?: *(?:pub(?:\(crate\))? )?fn {function}\b[\s\S]*?)(?:^ *\{{$|\{{\n)", text, re.M)
+    if len(heads) != 1:
+        sys.exit(f"{crate} {file}: {len(heads)} functions are {function}")
+    return [found.groups() for found in map(CLAUSE.match, heads[0].splitlines()) if found], imports_of(text, USED_BY_CODE)
+
+
+def starts_of(definitions, contracts):
+    """The definitions that these contracts name. Of a contract all clauses are read where none has one of the wanted names."""
+    starts = []
+    for crate, file, function, wanted in contracts:
+        clauses, imports = clauses_of(crate, file, function)
+        picked = [text for name, text in clauses if wanted and name in wanted] or [text for _, text in clauses]
+        if not picked:
+            sys.exit(f"{crate} {file}: {function} has no contract")
+        words = {word for text in picked for word in WORD.findall(text)}
+        starts += filter(None, (resolve(definitions, {("", ""): imports}, ("", ""), word)[0] for word in sorted(words)))
+    return list(dict.fromkeys(starts))
+
+
+def promise(definitions, imports, title, says, carrier, contracts):
+    functions = ", ".join(f"`{function}` of `{crate}`" for crate, _, function, _ in contracts)
+    yield from table(definitions, imports, title, f"{says}. `{carrier.split(' ')[1]}` of `{carrier.split(' ')[0]}` carries it; by the contracts of {functions}", starts_of(definitions, contracts))
+
+
 def part(definitions, imports, title, says, names):
     # a name that several crates have is told with its crate
     starts = [key for key in definitions if key[2] in names or f"{key[0]}.{key[2]}" in names]
     if len(starts) != len(names):
         sys.exit(f"{title}: {names} are {starts}")
+    shown = ", ".join(f"`{it.rpartition('.')[2]}`" for it in names)
+    yield from table(definitions, imports, title, f"{says}: {shown}", starts)
+
+
+def table(definitions, imports, title, says, starts):
     seen, outside = closure(definitions, imports, starts)
     lines = sum(definitions[key][0] for key in seen)
     modules = collections.defaultdict(list)
@@ -114,8 +164,7 @@ def part(definitions, imports, title, says, names):
             modules[key[:2]].append(key[2])
     yield f"### {title}: {len(seen)} definitions, {lines} lines\n\n"
     crates = len({crate for crate, _ in modules})
-    shown = ", ".join(f"`{it.rpartition('.')[2]}`" for it in names)
-    yield f"{says[0].upper() + says[1:]}: {shown}, in {len(modules)} files of {crates} crate{'s' * (crates > 1)}.\n\n"
+    yield f"{says[0].upper() + says[1:]}, in {len(modules)} files of {crates} crate{'s' * (crates > 1)}.\n\n"
     yield "| File | Lines | Definitions |\n|---|---|---|\n"
     for (crate, module), found in sorted(modules.items()):
         count = sum(definitions[crate, module, name][0] for name in found)
@@ -127,6 +176,7 @@ def part(definitions, imports, title, says, names):
 def main():
     definitions, imports = read_all()
     text = "".join("".join(part(definitions, imports, *claim)) for claim in CLAIMS)
+    text += "".join("".join(promise(definitions, imports, *it)) for it in PROMISES)
     text += f"All of `specs/`: {len(definitions)} definitions, {sum(lines for lines, _ in definitions.values())} lines.\n"
     if len(sys.argv) == 3 and sys.argv[1] == "--write":
         write_part(sys.argv[2], "counted definitions", text)

@@ -6,6 +6,7 @@ names as text, the pages, their links and their form, since when targets are hel
 starts, sources that fall silent beside others, YAML, lists of reports, entity tags, lists that are acknowledged, loads that are made even, sources by name, files of targets. It needs
 Linux and the program (ALLOCD_PROGRAM, or dist/allocd)."""
 
+import collections
 import html.parser
 import http.client
 import http.server
@@ -167,18 +168,34 @@ def uncovered(folder):
     time.sleep(1)
     service.ask("DELETE", "/collectors/1")
     tell("before a reallocation nobody holds what was held by one that left", comes(lambda: of("n") == (0, 4), 5), of("n"))
+    told = [service.figure(f'allocd_targets{what}{{job="n"}}') for what in ("_covered", "_uncovered", "_taken")]
+    tell("so do the figures say", told == [0, 4, 0], told)
     ends(service)
+
+
+FORGED = 'two\nlevel=error msg="forged"'
+LINE = re.compile(r'ts=\S+ level=(info|warn|error) msg="[^"]*"( [a-z_]+=("([^"\\]|\\.)*"|[^\s"]+))*$')
 
 
 def texts(folder):
-    forged = {"name": 'two\nlevel=error msg="forged"', "reach": []}
-    service = started(folder, [static("n", 1)], collectors=[{"name": "a", "reach": ANY}, forged])
+    """Whatever names say, a page has no further markup, and the log a line for each thing that is told."""
+    forged = {"name": FORGED, "reach": []}
+    jobs = [static("n", 1), {"job_name": f"job {FORGED}", "http_sd_configs": [url(f"/{'%0A'}level=error", port=1)]}]
+    service = started(folder, jobs, collectors=[{"name": "a", "reach": ANY}, forged])
     service.ask("POST", "/collectors", {"name": "<script>x</script>\"&'", "reach": []})
+    service.ask("POST", "/collectors", {"name": f"posted {FORGED}", "reach": []})
+    for way in (f"/collectors/{urllib.parse.quote('posted ' + FORGED, safe='')}", f"/collectors/{urllib.parse.quote('no ' + FORGED, safe='')}"):
+        service.ask("POST", f"{way}/drain", {})
     page = service.ask("GET", "/")[1]
     tell("a collector's name is no markup", "<script>x" not in page and "&lt;script&gt;x" in page)
+    comes(lambda: service.figure(f'allocd_refresh_failures_total{{source="job {json.dumps(FORGED)[1:-1]}/1"}}'), 10)
+    tell("a reload that takes the job away is told", reloaded(service, config([static(f"other {FORGED}", 2)], collectors=[{"name": f"c {FORGED}", "reach": ANY}])) == 200)
+    time.sleep(0.5)
     ends(service)
     with open(f"{folder}/log") as it:
-        tell("no name makes two lines of the log", not any(line.startswith("level=error") for line in it))
+        lines = it.read().splitlines()
+    told = [line for line in lines if not LINE.match(line)]
+    tell("no name makes two lines of the log", len(lines) > 8 and not told, told)
 
 
 class Page(html.parser.HTMLParser):
@@ -620,6 +637,212 @@ def figures(folder):
     ends(service)
 
 
+# What a history of joins, lists, reports and departures comes to: each figure of the page by its name and labels. A number is its value, 0 where a family of
+# `ALL_ELSE` has a sample that is not here; else what is told of it is looked at by `every_figure`.
+HISTORY = {
+    'allocd_targets{job="n"}': 5, 'allocd_targets{job="m"}': 2, 'allocd_targets{job="u"}': 1,
+    'allocd_targets_covered{job="n"}': 5, 'allocd_targets_covered{job="m"}': 2,
+    'allocd_targets_uncovered{job="u"}': 1,
+    'allocd_targets_handing_over{job="n"}': 5, 'allocd_targets_handing_over{job="m"}': 2,
+    'allocd_collector_targets{collector="b"}': 4, 'allocd_collector_targets{collector="c"}': 3,
+    'allocd_collector_draining{collector="b"}': 1,
+    "allocd_targets_waited_for_left": 7,
+    "allocd_round": 1, "allocd_allocation_moved": 3, "allocd_allocation_left": 4,
+    "allocd_samples_booked_total": 12,
+    'allocd_events_total{event="discover",answer="Discovered"}': 3,
+    'allocd_events_total{event="join",answer="Joined"}': 3, 'allocd_events_total{event="join",answer="AlreadyJoined"}': 1,
+    'allocd_events_total{event="leave",answer="Left"}': 1, 'allocd_events_total{event="leave",answer="UnknownCollector"}': 1,
+    'allocd_events_total{event="drain",answer="Draining"}': 1, 'allocd_events_total{event="drain",answer="AlreadyDraining"}': 1,
+    'allocd_events_total{event="limits",answer="LimitsSet"}': 1,
+    'allocd_events_total{event="serve",answer="Served"}': 3, 'allocd_events_total{event="release",answer="UnknownCollector"}': 1,
+    'allocd_events_total{event="report",answer="Booked"}': 3, 'allocd_events_total{event="report",answer="AlreadyBooked"}': 1,
+    'allocd_events_total{event="report",answer="UnknownCollector"}': 1, 'allocd_events_total{event="report",answer="NotTaken"}': 2,
+    'allocd_events_total{event="report",answer="RoundNotOpen"}': 1,
+    'allocd_events_refused_total{event="join"}': 1, 'allocd_events_refused_total{event="leave"}': 1, 'allocd_events_refused_total{event="drain"}': 1,
+    'allocd_events_refused_total{event="release"}': 1, 'allocd_events_refused_total{event="report"}': 5,
+    'allocd_source_targets{job="m",source="m/1"}': 2, 'allocd_source_targets_dropped{job="m",source="m/1"}': 1, 'allocd_source_targets_without_address{job="m",source="m/1"}': 1,
+    'allocd_refresh_failures_total{source="m/1"}': 0, 'allocd_refresh_last_success_timestamp_seconds{job="m",source="m/2"}': 0,
+    "allocd_config_last_reload_successful": 1, "allocd_journal_broken": 0, "allocd_http_connections": 4, "allocd_http_connections_max": 64,
+    "allocd_http_connections_turned_away_total": 0, "allocd_http_accept_failures_total": 0, "allocd_log_lines_lost_total": 0,
+}
+ALL_ELSE = ("allocd_events_refused_total", "allocd_targets_covered", "allocd_targets_uncovered", "allocd_targets_handing_over", "allocd_targets_taken", "allocd_collector_targets",
+            "allocd_collector_draining", "allocd_collector_taken_allocation", "allocd_collector_waited_for", "allocd_reports_up", "allocd_reports_down", "allocd_reports_missing",
+            "allocd_source_targets", "allocd_source_targets_dropped", "allocd_source_targets_without_address")
+# Of which route a request of the history is.
+ROUTES = {
+    ("GET", "/jobs/n/targets?collector_id=a"): "/jobs/{job}/targets?collector_id", ("GET", "/jobs/m/targets?collector_id=a"): "/jobs/{job}/targets?collector_id",
+    ("GET", "/jobs/n/targets?collector_id=b"): "/jobs/{job}/targets?collector_id",
+    ("POST", "/collectors"): "POST /collectors", ("DELETE", "/collectors/1"): "DELETE /collectors/{id}", ("DELETE", "/collectors/77"): "DELETE /collectors/{id}",
+    ("POST", "/collectors/2/drain"): "POST /collectors/{id}/drain", ("POST", "/collectors/77/release"): "POST /collectors/{id}/release",
+    ("PUT", "/collectors/1/limits"): "PUT /collectors/{id}/limits", ("POST", "/reports"): "POST /reports", ("GET", "/nothing"): "none",
+    ("GET", "/metrics"): "/metrics", ("GET", "/-/healthy"): "/-/healthy", ("GET", "/-/ready"): "/-/ready", ("GET", "/jobs"): "/jobs", ("GET", "/"): "/",
+    ("GET", "/scrape_configs"): "/scrape_configs", ("GET", "/jobs/n/targets"): "/jobs/{job}/targets", ("GET", "/jobs/n/uncovered"): "/jobs/{job}/uncovered",
+    ("GET", "/allocations"): "/allocations", ("GET", "/certificate"): "/certificate",
+}
+
+
+class Counting(Service):
+    """A service that is asked, and how it answered: how often by route and status."""
+
+    def __init__(self, *words):
+        self.answered = collections.Counter()
+        super().__init__(*words)
+
+    def ask(self, method, path, body=None):
+        status, text = super().ask(method, path, body)
+        if status is not None:
+            self.answered[ROUTES[method, path], status] += 1
+        return status, text
+
+
+def history(service):
+    """What the figures of HISTORY come of. Gives when targets came to be handed over."""
+    for job in "nm":
+        service.ask("GET", f"/jobs/{job}/targets?collector_id=a")
+    searched = lambda number: has(service, "allocd_reallocations_total", number)
+    first, searches = service.figure("allocd_allocation"), service.figure("allocd_reallocations_total")
+    report = {"collector": 1, "number": first, "target": 0, "round": 1, "up": True, "samples": 7}
+    for more in ({}, {}, {"collector": 9}, {"target": 99}, {"target": 1, "round": 5}, {"target": 1, "number": 99}, {"target": 1, "samples": 5}):
+        service.ask("POST", "/reports", {**report, **more})
+    service.ask("POST", "/reports", {**report, "target": 2, "up": False, "samples": 0})
+    for _ in range(2):
+        service.ask("POST", "/collectors", {"name": "b", "reach": MOST})
+    # the search that follows a join changes nothing, since all that b reaches is held
+    searched(searches + 1)
+    before = time.time()
+    service.ask("PUT", "/collectors/1/limits", {"limits": {"n": 3}})
+    searched(searches + 2)
+    has(service, 'allocd_collector_targets{collector="b"}', 2)
+    waits = [service.figure(name) for name in ('allocd_targets_handing_over{job="n"}', 'allocd_collector_waited_for{collector="a"}', 'allocd_targets_taken{job="n"}')]
+    tell("what another list still has is handed over, and who has it is waited for", waits == [2, 2, 3], waits)
+    service.ask("GET", "/jobs/n/targets?collector_id=b")
+    after = time.time()
+    service.ask("DELETE", "/collectors/1")
+    has(service, 'allocd_collector_targets{collector="b"}', 7)
+    searched(searches + 3)
+    service.ask("POST", "/collectors", {"name": "c", "reach": MOST, "limits": {"n": 1}})
+    searched(searches + 4)
+    for _ in range(2):
+        service.ask("POST", "/collectors/2/drain", {})
+    has(service, 'allocd_collector_targets{collector="c"}', 3)
+    for method, path in (("DELETE", "/collectors/77"), ("POST", "/collectors/77/release"), ("GET", "/nothing")):
+        service.ask(method, path)
+    return before, after
+
+
+def samples_of(text):
+    """The samples of a page by name and labels, and the kinds of its families."""
+    samples = {name: float(value) for name, value in re.findall(r"^([^#\s]\S*(?:\{.*\})?) (\S+)$", text, re.M)}
+    return samples, dict(re.findall(r"^# TYPE (\S+) (\S+)$", text, re.M))
+
+
+def family_of(name, kinds):
+    """The family of a sample."""
+    bare = name.partition("{")[0]
+    return bare if bare in kinds else re.sub("_(bucket|sum|count)$", "", bare)
+
+
+MOST = [{"allow": False, "label": "job", "test": "equals", "value": "u"}, *ANY]
+
+
+def every_figure(folder):
+    """Each figure after a known history has the value that follows from it, and there is none that no row knows."""
+    Source.lists["/figures"] = [f"127.0.0.1:{port}" for port in (7001, 7002, 7003, 7004)]
+    rules = [{"action": "drop", "source_labels": ["__address__"], "regex": ".*:7001"}, {"target_label": "__address__", "source_labels": ["__address__"], "regex": ".*:7002", "replacement": ""}]
+    jobs = [static("n", 5), {"job_name": "m", "http_sd_configs": [url("/figures", "300ms"), url("/none", "300ms", port=1)], "relabel_configs": rules}, static("u", 1, 9500)]
+    begun = int(time.time())
+    service = Counting(folder, config(jobs, rejoin=False, connections=64, collectors=[{"name": "a", "reach": MOST}]), f"{folder}/journal")
+    service.is_up()
+    up = time.time()
+    comes(lambda: service.ask("GET", "/-/ready")[0] == 200, 20)
+    has(service, 'allocd_targets_covered{job="m"}', 2)
+    handed_over = history(service)
+    idle = [socket.create_connection(("127.0.0.1", service.port), timeout=10) for _ in range(3)]
+    # connections that were closed go within a moment, and events are counted before they are in the file
+    comes(lambda: service.figure("allocd_http_connections") == 4 and service.figure("allocd_journal_written_bytes_total") == len(lines_of(f"{folder}/journal")) - first_line(folder), 10)
+    # the next request for the figures is counted once it is answered
+    counted, asked = dict(service.answered), len(Source.asked["/figures"])
+    samples, kinds = samples_of(service.ask("GET", "/metrics")[1])
+    now, asked_then = time.time(), len(Source.asked["/figures"])
+    replays, told, _ = replayed(f"{folder}/journal")
+    done = collections.Counter((event["event"], answer.partition(" ")[0]) for event, answer in told)
+    # What is found may be given out a part after the other, and b took its list of the last allocation but two. A search that changes nothing
+    # has an entry of the journal, and is no event that is told.
+    published = int([answer for _, answer in told if answer.startswith("Published ")][-1].split()[1])
+    expected = {
+        **{f'allocd_http_requests_total{{route="{route}",status="{status}"}}': count for (route, status), count in counted.items()}, **HISTORY,
+        "allocd_allocation": published, 'allocd_events_total{event="install",answer="Published"}': published, "allocd_reallocations_total": published + 2,
+        'allocd_collector_taken_allocation{collector="b"}': published - 2, "allocd_journal_entries": len(told) + sum(count for name, count in HISTORY.items() if name.startswith("allocd_events_refused_total")) + 2,
+    }
+    near = lambda low, high: lambda value: low <= value <= high
+    looks = {
+        'allocd_refreshes_total{source="m/1"}': near(asked - 1, asked_then), "process_start_time_seconds": near(begun, up), "allocd_config_last_reload_success_timestamp_seconds": near(begun, up),
+        'allocd_refresh_last_success_timestamp_seconds{job="m",source="m/1"}': near(now - 5, now), "allocd_targets_handing_over_since_seconds": near(int(handed_over[0]), handed_over[1]),
+        'allocd_collector_last_take_timestamp_seconds{collector="b"}': near(int(handed_over[0]), handed_over[1]), 'allocd_collector_last_take_timestamp_seconds{collector="c"}': near(0, 0),
+        'allocd_refreshes_total{source="m/2"}': near(2, 5 * (now - begun)), 'allocd_refresh_failures_total{source="m/2"}': lambda value: value == samples['allocd_refreshes_total{source="m/2"}'],
+        "allocd_journal_written_bytes_total": lambda value: value == len(lines_of(f"{folder}/journal")) - first_line(folder),
+        f'allocd_build_info{{version="{run(["--version"])[1].decode().split()[1]}"}}': near(1, 1),
+        # of the time of processors the first look may be at none
+        **{f"process_{name}": near(name != "cpu_seconds_total", 1e15) for name in PROCESS},
+    }
+    wrong = {name: value for name, value in samples.items() if kinds[family_of(name, kinds)] != "histogram" and not figure_holds(name, value, family_of(name, kinds), expected, looks)}
+    tell("each figure has the value that follows, and there is none that no row knows", not wrong, {name: (value, expected.get(name)) for name, value in wrong.items()})
+    missing = (set(expected) | set(looks)) - set(samples) - {f"process_{name}" for name in PROCESS}
+    tell("each of them is there", not missing, missing)
+    done_then = {(event, answer): samples.get(f'allocd_events_total{{event="{event}",answer="{answer}"}}') for event, answer in done}
+    tell("the events that were done are those of the journal", replays == 0 and done_then == done, (done_then, done))
+    all_events = sum(value for name, value in samples.items() if name.startswith("allocd_events_total{"))
+    tell("and all of them, those that were refused too, its entries", all_events + 2 == samples["allocd_journal_entries"], all_events)
+    of_routes = collections.Counter()
+    for (route, _), count in counted.items():
+        of_routes[route] += count
+    took = {route: samples[f'allocd_http_request_duration_seconds_count{{route="{route}"}}'] for route in of_routes}
+    tell("how long each request took is told by route", took == dict(of_routes), (took, of_routes))
+    sums = [samples[f"{name}_sum{labels}"] for name, labels in (("allocd_journal_write_duration_seconds", ""), ("allocd_reallocation_duration_seconds", ""), ("allocd_http_request_duration_seconds", '{route="POST /reports"}'))]
+    tell("times are of what there was", all(0 < value < now - begun for value in sums) and samples["allocd_reallocation_duration_seconds_count"] == published + 2 and 0 < samples["allocd_journal_write_duration_seconds_count"] <= len(told) + 1, sums)
+    for path in READ_ONLY:
+        service.ask("GET", path)
+    again = samples_of(service.ask("GET", "/metrics")[1])[0]
+    moves_by_itself = ("allocd_http_", "allocd_refresh", "process_", "allocd_log_")
+    changed = {name: (samples.get(name), value) for name, value in again.items() if samples.get(name) != value and not name.startswith(moves_by_itself)}
+    tell("a page that is read changes no figure but those of requests", not changed, changed)
+    for it in idle:
+        it.close()
+    service.it.kill()
+    service.ended()
+
+
+def turned_away(folder):
+    """Who finds no place is answered so, and counted."""
+    service = Service(folder, config([static("n", 1)], connections=64))
+    service.is_up()
+    held = [socket.create_connection(("127.0.0.1", service.port), timeout=30) for _ in range(64)]
+    for it in held:
+        it.sendall(post(b"/collectors", b"{", 1000))
+    comes(lambda: service.ask("GET", "/jobs")[0] == 503, 10)
+    more = [service.ask("GET", "/jobs") for _ in range(2)]
+    for it in held:
+        it.close()
+    told = 1 + sum(it == (503, '{"refused":"Busy"}') for it in more)
+    tell("where each place has a body that does not end a further client is told so", told == 3, more)
+    tell("and counted", has(service, "allocd_http_connections_turned_away_total", 3), service.figure("allocd_http_connections_turned_away_total"))
+    ends(service)
+
+
+def first_line(folder):
+    """How many bytes the first line of a journal has."""
+    return lines_of(f"{folder}/journal").index(b"\n") + 1
+
+
+def figure_holds(name, value, family, expected, looks):
+    """Whether a figure is what it is to be."""
+    if name in looks:
+        return looks[name](value)
+    if name in expected:
+        return value == expected[name]
+    return value == 0 and (family in ALL_ELSE or family == "allocd_http_requests_total")
+
+
 def post(path, body, length=None, more=b"", method=b"POST"):
     """A request with a body, on a connection that it ends. `length`: what its head says of it."""
     length = len(body) if length is None else length
@@ -777,6 +1000,63 @@ def stalls(folder):
         follows = comes(lambda: "b" in json.loads(service.ask("GET", "/jobs")[1]), 30)
         took = time.monotonic() - begun
         tell("it is followed within 15 seconds", follows and took < 15, f"{took:.1f} seconds")
+    ends(service)
+
+
+def settles(folder):
+    """Changes are gathered for as long as `settle` says, from the first one on, also where it was read again."""
+    service = started(folder, [static("n", 2)])
+    has(service, "allocd_allocation", 1)
+    reloaded(service, config([static("n", 2)], settle="2s"))
+    time.sleep(0.5)
+    began = time.monotonic()
+    service.ask("POST", "/collectors", {"name": "b", "reach": ANY})
+    service.ask("PUT", "/collectors/1/limits", {"limits": {"n": 1}})
+    time.sleep(0.7)
+    service.ask("PUT", "/collectors/1/limits", {"limits": {"n": 1}})
+    has(service, "allocd_allocation", 2)
+    took = time.monotonic() - began
+    tell("it reallocates so long after the first change", 1.8 < took < 5, f"{took:.2f} seconds")
+    ends(service)
+
+
+def absent_over_reloads(folder):
+    """Who asks for nothing leaves, however often the configuration is read again meanwhile."""
+    settings = lambda turn: config([static("n", 2)], collector_timeout="3s", settle=f"{50 + turn}ms")
+    service = Service(folder, settings(0), f"{folder}/journal")
+    service.is_up()
+    service.ask("POST", "/collectors", {"name": "b", "reach": ANY})
+    for name in "ab":
+        service.ask("GET", f"/jobs/n/targets?collector_id={name}")
+    joined = lambda: [it["name"] for it in json.loads(service.ask("GET", "/collectors")[1] or "[]")]
+    turn, end = 0, time.monotonic() + 25
+    while time.monotonic() < end and joined() != ["a"]:
+        turn += 1
+        service.ask("GET", "/jobs/n/targets?collector_id=a")
+        reloaded(service, settings(turn))
+        time.sleep(0.4)
+    tell("who asked is there, and who did not has left", joined() == ["a"] and turn > 3, (joined(), turn))
+    ends(service)
+    told = [event["event"] for event, _ in replayed(f"{folder}/journal")[1] if event.get("collector") == 2]
+    tell("after it was drained", [kind for kind in told if kind in ("drain", "leave")] == ["drain", "leave"], told)
+
+
+def many_ids(folder):
+    """A collector is one whatever its number."""
+    service = started(folder, [static("n", 1)])
+    it = http.client.HTTPConnection("127.0.0.1", service.port, timeout=30)
+
+    def ask(method, path, body=None):
+        it.request(method, path, body=body and json.dumps(body), headers={"content-type": "application/json"})
+        answer = it.getresponse()
+        return answer.status, json.loads(answer.read())
+
+    joined = [ask("POST", "/collectors", {"name": "b", "reach": []})[1]["answer"] == f"Joined {number}" and ask("DELETE", f"/collectors/{number}")[0] == 200 for number in range(2, 1032)]
+    tell("1,030 join and leave, one after the other", all(joined), joined.count(False))
+    ask("POST", "/collectors", {"name": "b", "reach": ANY})
+    told = [ask(*words) for words in (("PUT", "/collectors/1032/limits", {"limits": {"n": 1}}), ("POST", "/collectors/1032/drain", {}), ("POST", "/collectors/1032/release", {}), ("DELETE", "/collectors/1032"))]
+    tell("to the next happens what is asked", told == [(200, {"answer": answer}) for answer in ("LimitsSet", "Draining", "Released 0", "Left")], told)
+    it.close()
     ends(service)
 
 
@@ -1347,5 +1627,5 @@ def files(folder):
 SOURCE = http.server.ThreadingHTTPServer(("127.0.0.1", 0), Source)
 SOURCE.daemon_threads = True
 threading.Thread(target=SOURCE.serve_forever, daemon=True).start()
-PARTS = (settings, relabels, reloads, uncovered, texts, page, job_pages, collector_pages, searches, since, series, figures, process, takes, talks, requests, lifecycles, held_rows, stalls, rounds, rounds_kept, silences, yaml, lists_of_reports, round_books, entity_tags, acknowledge, spreads, moves, spreads_by_job, evens, evens_in_turn, names, files)
+PARTS = (settings, relabels, reloads, uncovered, texts, page, job_pages, collector_pages, searches, since, series, figures, every_figure, turned_away, process, takes, talks, requests, lifecycles, held_rows, stalls, settles, absent_over_reloads, many_ids, rounds, rounds_kept, silences, yaml, lists_of_reports, round_books, entity_tags, acknowledge, spreads, moves, spreads_by_job, evens, evens_in_turn, names, files)
 run_parts(PARTS, sys.argv[1:])

@@ -29,6 +29,7 @@ ROWS = (
     ("edge/figures", b"allocd_events_total", b"allocd_events_totam"),
     ("edge/requests", b"UnknownCollector", b"UnknownCollectos"),
     ("fetches/nowhere", b" booked ", b" bookee "),
+    ("device/fails", b"NotKept", b"NotKepu"),
     ("supervise", b"allocd ends. Goodbye", b"allocd ends. Goodbyf"),
     ("wrong_uses", b"unknown member", b"unknown membes"),
     ("losses", b"another service has this journal", b"another service had this journal"),
