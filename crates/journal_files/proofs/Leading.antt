@@ -1,5 +1,5 @@
 -- What is found of a file is a journal.
-use Rattle.std.proofs.Common.{◌≡◌, ℕ, ◌+◌, ◌<◌, Bool, true, false, cond, ◌||◌, ◌&&◌, List, [], ◌∷◌, ◌++◌, length, take, Option, Some, None, Result, Ok, Err, inl, inr, refl, sym, ap, subst, ◌∙◌, arith, nat_le}
+use Rattle.std.proofs.Common.{◌≡◌, ℕ, ◌+◌, ◌<◌, Bool, true, false, cond, ◌&&◌, List, [], ◌∷◌, ◌++◌, length, take, Option, Some, None, Result, Ok, Err, inl, inr, refl, sym, ap, subst, ◌∙◌, arith, nat_le}
 use Rattle.std.specs.Prelude.{◌==◌, is_some}
 use Rattle.std.specs.Option.{option_map_or}
 use Rattle.allocation_core.specs.Runs.{state_of}
@@ -24,9 +24,9 @@ use Rattle.durable_journal.specs.Journals.{IsJournal}
 use Rattle.durable_journal.specs.Lines.{whole_part}
 use Rattle.durable_journal.specs.Marks.{found_as, found_in, is_journal_text, settled_in}
 use Rattle.durable_journal.specs.declared.recovering.Recovered.{Recovered}
-use Rattle.durable_journal.specs.declared.recovering.Recovered.TheVariants.{Altered, Found, Other, TooLong}
+use Rattle.durable_journal.specs.declared.recovering.Recovered.TheVariants.{Found, Other, TooLong}
 use Rattle.durable_journal.specs.declared.recovering.TheConstants.{MOST_JOURNAL}
-use Rattle.journal_files.specs.Leading.{FoundLead, LeadsTo, begins_fed, has_empty_line}
+use Rattle.journal_files.specs.Leading.{FoundLead, begins_fed, has_empty_line}
 use Rattle.journal_files.proofs.WholeLines.{IsWritten, no_feed_more, whole_taken, whole_written}
 
 -- ---- the file

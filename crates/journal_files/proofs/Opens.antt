@@ -1,5 +1,5 @@
 -- The allocator that is opened.
-use Rattle.std.proofs.Common.{◌≡◌, ℕ, Bool, List, Option, Some, Result, Ok, Err, IfOk, subst, sym}
+use Rattle.std.proofs.Common.{ℕ, Bool, List, Option, Result, Ok, Err, IfOk, subst, sym}
 use Rattle.fleet.specs.declared.job.JobSpec.{JobSpec}
 use Rattle.journal_files.specs.Opening.{AllocatorOf, IsAllocator, IsBegunAs, IsOpened}
 use Rattle.journal_files.specs.Starting.{Asked, StartsIn}

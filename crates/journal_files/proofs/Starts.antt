@@ -1,9 +1,8 @@
 -- What an allocator begins with.
-use Rattle.std.proofs.Common.{◌≡◌, ◌∙◌, ◌<◌, ◌+◌, ◌-◌, ◌||◌, ℕ, zero, suc, cond, Bool, true, false, List, [], ◌∷◌, ◌++◌, AllPairs, length, take, Option, None, Some, IfSome, Result, Ok, Err, IfOk, ap, arith, refl, subst, sym}
+use Rattle.std.proofs.Common.{◌≡◌, ◌∙◌, ◌<◌, ◌-◌, ℕ, zero, suc, cond, Bool, false, List, [], ◌∷◌, ◌++◌, AllPairs, length, take, Option, None, Some, IfSome, Result, Ok, Err, IfOk, ap, arith, refl, subst, sym}
 use Rattle.std.specs.Prelude.{◌==◌, codes, decimal, option_and_then, option_map}
 use Rattle.std.specs.List.{list_any, onto_first}
 use Rattle.std.specs.Option.{option_map_or}
-use Rattle.std.proofs.lemmas.Bool.{ne_eqb}
 use Rattle.allocation_core.specs.Renewed.{renewed}
 use Rattle.allocation_core.specs.State.{State, current_pairs}
 use Rattle.fleet.specs.declared.job.JobSpec.{JobSpec}
@@ -18,7 +17,7 @@ use Rattle.sealed_lines.specs.Lines.{HasNoFeed, lines_in}
 use Rattle.sealed_lines.specs.declared.chain.Chain.{Chain}
 use Rattle.sealed_lines.proofs.SealedTexts.{any_append, or_both}
 use Rattle.sealed_lines.proofs.Texts.{or_false}
-use Rattle.durable_journal.specs.Beginnings.{Opens, OpensRenewed, value_of}
+use Rattle.durable_journal.specs.Beginnings.{Opens, value_of}
 use Rattle.durable_journal.specs.Epochs.{with_epoch}
 use Rattle.durable_journal.specs.Marks.{found_in, marked}
 use Rattle.durable_journal.specs.declared.beginning.FirstLine.{FirstLine}

@@ -4,7 +4,6 @@ use Rattle.allocation_core.specs.Runs.{state_of}
 use Rattle.allocation_core.specs.State.{State}
 use Rattle.durable_journal.specs.Files.{IsFileOf}
 use Rattle.durable_journal.specs.Journals.{IsJournal}
-use Rattle.durable_journal.specs.Lines.{whole_part}
 use Rattle.durable_journal.specs.Marks.{found_in}
 use Rattle.durable_journal.specs.declared.recovering.Recovered.TheVariants.{Found}
 use Rattle.fleet_events.specs.declared.event.Event.{Event}
