@@ -17,4 +17,5 @@ pub use guarding::is_same_file;
 pub use journals::Journals;
 pub use names::{NamedCollector, with_names};
 pub use opening::{Opened, open_allocator};
+pub use reading::{Journal, Next, Past, Start, Wanted, read_journal};
 pub use rounds::round_age;
