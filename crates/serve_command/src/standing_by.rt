@@ -1,0 +1,250 @@
+//! An instance that stands by, until it leads.
+use crate::instance::Instance;
+use etcd_answers::Granted;
+use etcd_client::{EtcdClient, Watch, grant, keep_lease, revoke};
+use etcd_journal::{Opened, open};
+use event_loops::{Gate, Times};
+use lists::Text;
+use standby::{Followed, Standing, follow, serve_standing};
+use std::alloc::AllocGlobal;
+use std::net::{Net, TcpListener, TcpStream};
+use std::random::RandomSource;
+use std::sync::{Arc, Wait};
+use std::thread::{JoinHandle, Threads};
+use std::time::Clock;
+use std::{io, thread};
+
+/// An instance that leads.
+#[derive(Drop)]
+pub(crate) struct Leading {
+    pub(crate) watch: Arc<Watch>,
+    /// Who keeps the lease alive.
+    pub(crate) keeper: JoinHandle<()>,
+    pub(crate) granted: Granted,
+    pub(crate) opened: Opened<EtcdClient<HostRuntime>>,
+}
+
+/// What standing by comes to.
+#[derive(Drop)]
+enum Stood {
+    /// The instance was told to end.
+    Quits,
+    /// Another was faster, or it is not known who leads.
+    Lost,
+    Leads(Leading),
+}
+
+/// Stands by until this instance leads. None where it was told to end.
+pub(crate) fn wait_to_lead<R>(
+    rt: &R,
+    instance: &Instance,
+    listener: &TcpListener,
+) -> io::Result<Option<Leading>>
+where
+    R: Wait
+        + Threads
+        + Clock
+        + Net<Listener = TcpListener, Stream = TcpStream>
+        + RandomSource
+        + AllocGlobal
+        + Eprint
+        + Sync
+        + Send
+        + Copy
+        + Drop,
+{
+    for _ in rt.forever() {
+        match stand_by(rt, instance, listener)? {
+            Stood::Quits => return Ok(None),
+            Stood::Leads(leading) => return Ok(Some(leading)),
+            Stood::Lost => {}
+        }
+    }
+    unreachable!()
+}
+
+/// Answers requests, and reads along until nobody leads; then claims to lead.
+fn stand_by<R>(rt: &R, instance: &Instance, listener: &TcpListener) -> io::Result<Stood>
+where
+    R: Wait
+        + Threads
+        + Clock
+        + Net<Listener = TcpListener, Stream = TcpStream>
+        + RandomSource
+        + AllocGlobal
+        + Eprint
+        + Sync
+        + Send
+        + Copy
+        + Drop,
+{
+    let gate = Gate::new(instance.alloc, instance.connections, Times::DEFAULT)?;
+    let (served, stood) = thread::join(
+        rt,
+        || answer_then_quit(rt, instance, &gate, listener),
+        || follow_then_stop(rt, instance, &gate),
+    );
+    match served {
+        Ok(()) => stood,
+        Err(error) => {
+            drop(stood);
+            Err(error)
+        }
+    }
+}
+
+/// Answers requests until the gate is stopped. Where no server can be, the instance is to end.
+fn answer_then_quit<R>(
+    rt: &R,
+    instance: &Instance,
+    gate: &Gate,
+    listener: &TcpListener,
+) -> io::Result<()>
+where
+    R: Wait
+        + Clock
+        + Net<Listener = TcpListener, Stream = TcpStream>
+        + RandomSource
+        + AllocGlobal
+        + Copy
+        + Drop,
+{
+    let served = serve_standing(rt, gate, listener, &instance.standing);
+    if served.is_err() {
+        instance.standing.quit();
+    }
+    served
+}
+
+fn follow_then_stop<R>(rt: &R, instance: &Instance, gate: &Gate) -> io::Result<Stood>
+where
+    R: Wait + Clock + AllocGlobal + Eprint + Copy,
+{
+    let stood = follow_and_claim(rt, instance);
+    gate.stop();
+    stood
+}
+
+fn follow_and_claim<R>(rt: &R, instance: &Instance) -> io::Result<Stood>
+where
+    R: Wait + Clock + AllocGlobal + Eprint + Copy,
+{
+    let watch = Arc::new(instance.alloc, Watch::new())?;
+    let mut client = instance.client(&watch)?;
+    match follow(rt, instance.prefix(), &mut client, &instance.standing) {
+        Followed::Quits => Ok(Stood::Quits),
+        Followed::Free => claim(instance, watch, client),
+    }
+}
+
+/// Leads under a lease of its own, if no other is faster.
+fn claim(
+    instance: &Instance,
+    watch: Arc<Watch>,
+    client: EtcdClient<HostRuntime>,
+) -> io::Result<Stood> {
+    let mut client = client;
+    match grant(instance.alloc, &mut client, instance.seconds()) {
+        Ok(Some(granted)) => claim_under(instance, watch, client, granted),
+        Ok(None) => {
+            drop((watch, client));
+            Ok(Stood::Lost)
+        }
+        Err(error) => {
+            drop((watch, client));
+            Err(error.into())
+        }
+    }
+}
+
+fn claim_under(
+    instance: &Instance,
+    watch: Arc<Watch>,
+    client: EtcdClient<HostRuntime>,
+    granted: Granted,
+) -> io::Result<Stood> {
+    match keeper_of(instance, &watch, granted) {
+        Ok(keeper) => match opened(instance, client, granted) {
+            Ok(Some(opened)) => Ok(Stood::Leads(Leading {
+                watch,
+                keeper,
+                granted,
+                opened,
+            })),
+            Ok(None) => {
+                end_lease(instance, &watch, keeper, granted);
+                Ok(Stood::Lost)
+            }
+            Err(error) => {
+                end_lease(instance, &watch, keeper, granted);
+                Err(error)
+            }
+        },
+        Err(error) => {
+            drop(client);
+            Err(error)
+        }
+    }
+}
+
+/// Who keeps a lease alive.
+fn keeper_of(
+    instance: &Instance,
+    watch: &Arc<Watch>,
+    granted: Granted,
+) -> io::Result<JoinHandle<()>> {
+    let host = instance.host;
+    let theirs = Arc::try_clone(watch)?;
+    let mut asks = instance.client(watch)?;
+    let keeper = thread::spawn(&instance.host, move || {
+        keep_lease(&host, &mut asks, granted.lease, granted.seconds, &theirs)
+    })?;
+    Ok(keeper)
+}
+
+/// What stands in the journal, where this instance leads.
+fn opened(
+    instance: &Instance,
+    client: EtcdClient<HostRuntime>,
+    granted: Granted,
+) -> io::Result<Option<Opened<EtcdClient<HostRuntime>>>> {
+    match instance.new_term() {
+        Ok(term) => opened_with(instance, client, granted, &term),
+        Err(error) => {
+            drop(client);
+            Err(error)
+        }
+    }
+}
+
+fn opened_with(
+    instance: &Instance,
+    client: EtcdClient<HostRuntime>,
+    granted: Granted,
+    term: &Text,
+) -> io::Result<Option<Opened<EtcdClient<HostRuntime>>>> {
+    let prefix = instance.prefix();
+    let opened = open(
+        instance.alloc,
+        prefix,
+        term.as_str(),
+        granted.lease,
+        instance.keep,
+        client,
+    )?;
+    Ok(opened)
+}
+
+/// Leads no more, and gives the lease up, so that another may lead at once.
+pub(crate) fn end_lease(
+    instance: &Instance,
+    watch: &Arc<Watch>,
+    keeper: JoinHandle<()>,
+    granted: Granted,
+) {
+    watch.end();
+    let _ = keeper.join(&instance.host);
+    if let Ok(mut client) = instance.client(watch) {
+        let _ = revoke(instance.alloc, &mut client, granted.lease);
+    }
+}
