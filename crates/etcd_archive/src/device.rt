@@ -33,6 +33,14 @@ impl<R, E> EtcdDevice<R, E> {
     }
 }
 
+impl<R: Wait, E: Etcd> EtcdDevice<R, E> {
+    /// Has what is pending kept, and gives the number of the epoch in which it is.
+    fn kept(&self) -> io::Result<u32> {
+        let mut journal = self.journal.lock(&self.rt);
+        kept(&mut *journal, self.epoch, self.pending.as_slice())
+    }
+}
+
 impl<R, E> Write for EtcdDevice<R, E> {
     fn write(&mut self, buf: &[u8]) -> io::Result<usize> {
         self.pending.extend_from_slice(buf)?;
@@ -52,8 +60,7 @@ impl<R: Wait, E: Etcd> Device for EtcdDevice<R, E> {
     ghost kept = { λ _. None };
 
     fn keep(&mut self) -> io::Result<()> {
-        let mut journal = self.journal.lock(&self.rt);
-        let epoch = kept(&mut *journal, self.epoch, self.pending.as_slice())?;
+        let epoch = self.kept()?;
         self.epoch = Some(epoch);
         self.pending.clear();
         Ok(())

@@ -21,13 +21,13 @@ without advertise lease user =
     if is_some lease then Err (NotInEtcd part.Lease) else (
     if is_some user then Err (NotInEtcd part.User) else Ok None))
 
-abbrev pub place_given : Members → Option (List ℕ) → Result (Option Place) SettingsError
-place_given members None = Ok members.journal
-place_given members (Some text) = journal_said text
+abbrev pub place_given : Option Place → Option (List ℕ) → Result (Option Place) SettingsError
+place_given journal None = Ok journal
+place_given journal (Some text) = journal_said text
 
 abbrev pub settings_over : Members → Option Place → Result (Option Settings) SettingsError
 settings_over members None = without members.advertise members.lease members.user
 settings_over members (Some place) = Ok (Some (settings_at place members.advertise members.lease members.user))
 
 abbrev pub settings_said : Members → Option (List ℕ) → Result (Option Settings) SettingsError
-settings_said members given = place_given members given >>= settings_over members
+settings_said members given = place_given members.journal given >>= settings_over members

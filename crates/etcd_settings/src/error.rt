@@ -39,7 +39,8 @@ impl SettingsError {
     {
         match self {
             SettingsError::NotJson | SettingsError::Memory => "document",
-            SettingsError::Shape(member) | SettingsError::NotInEtcd(member) => member.path(),
+            SettingsError::Shape(member) => member.path(),
+            SettingsError::NotInEtcd(member) => member.path(),
             SettingsError::NoPasswordFile => Member::User.path(),
             SettingsError::NoUser => Member::PasswordFile.path(),
         }

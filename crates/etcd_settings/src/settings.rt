@@ -1,7 +1,7 @@
 //! The settings of a journal in etcd.
 ghost use Rattle.std.specs.Prelude.{◌≡◌, option_map};
 ghost use Rattle.etcd_settings.specs.Reading.{Gives};
-ghost use Rattle.etcd_settings.specs.Settings.{settings_at as settings_at_place, settings_said, without as without_etcd};
+ghost use Rattle.etcd_settings.specs.Settings.{place_given as place_given_by, settings_at as settings_at_place, settings_said, without as without_etcd};
 
 use crate::error::{Member, SettingsError};
 use crate::members::{Members, User};
@@ -43,13 +43,27 @@ pub fn settings_of(
         lease,
         user,
     } = members;
-    let place = match given {
-        Some(text) => journal_in(alloc, text)?,
-        None => journal,
-    };
-    match place {
-        Some(place) => Ok(Some(settings_at(place, advertise, lease, user))),
-        None => without(&advertise, lease, &user),
+    match place_given(alloc, journal, given) {
+        Ok(Some(place)) => Ok(Some(settings_at(place, advertise, lease, user))),
+        Ok(None) => without(&advertise, lease, &user),
+        Err(error) => Err(error),
+    }
+}
+
+/// Where the journal is that is given, or else that of the members.
+fn place_given(
+    alloc: Global,
+    journal: Option<Place>,
+    given: Option<&str>,
+) -> Result<Option<Place>, SettingsError>
+    ensures { Gives (λ o. o) result (place_given_by journal (option_map (λ s. s.now) given.entry)) }
+{
+    match given {
+        Some(text) => {
+            drop(journal);
+            journal_in(alloc, text)
+        }
+        None => Ok(journal),
     }
 }
 

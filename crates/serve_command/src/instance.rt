@@ -33,6 +33,9 @@ pub(crate) struct Instance {
     pub(crate) advertise: Text,
     /// As whom etcd is asked.
     login: Option<Login>,
+    /// Where the names of etcd's members are looked up, and where by whoever keeps the lease alive.
+    lookups: Arc<Lookups>,
+    keepers: Arc<Lookups>,
     /// How many epochs are kept that are over.
     pub(crate) keep: u32,
     /// How many connections there may be at once.
@@ -53,7 +56,7 @@ impl Instance {
     where
         R: Files<File = File> + AllocGlobal,
     {
-        match Parts::of(rt, asked, service, &settings) {
+        match Parts::of(rt, machine.host, asked, service, &settings) {
             Ok(parts) => Ok(Instance {
                 host: machine.host,
                 alloc: rt.alloc(),
@@ -61,6 +64,8 @@ impl Instance {
                 settings,
                 advertise: parts.advertise,
                 login: parts.login,
+                lookups: parts.lookups,
+                keepers: parts.keepers,
                 keep: service.keep(),
                 connections: service.connections(),
                 standing: parts.standing,
@@ -72,17 +77,22 @@ impl Instance {
         }
     }
 
-    /// What asks etcd as long as an instance may lead.
+    /// What asks etcd as long as an instance may lead. One at a time is to ask.
     pub(crate) fn client(&self, watch: &Arc<Watch>) -> Result<EtcdClient<HostRuntime>, AllocError> {
-        let lookups = start_lookups(&self.host)?;
-        self.client_by(lookups, watch)
+        self.client_by(&self.lookups, watch)
+    }
+
+    /// The same, for whoever keeps the lease alive.
+    pub(crate) fn keeper(&self, watch: &Arc<Watch>) -> Result<EtcdClient<HostRuntime>, AllocError> {
+        self.client_by(&self.keepers, watch)
     }
 
     fn client_by(
         &self,
-        lookups: Arc<Lookups>,
+        lookups: &Arc<Lookups>,
         watch: &Arc<Watch>,
     ) -> Result<EtcdClient<HostRuntime>, AllocError> {
+        let lookups = Arc::try_clone(lookups)?;
         let endpoints = self.endpoints()?;
         let login = self.login()?;
         let watch = Arc::try_clone(watch)?;
@@ -138,12 +148,15 @@ impl Instance {
 struct Parts {
     advertise: Text,
     login: Option<Login>,
+    lookups: Arc<Lookups>,
+    keepers: Arc<Lookups>,
     standing: Arc<Standing>,
 }
 
 impl Parts {
     fn of<R: Files<File = File> + AllocGlobal>(
         rt: &R,
+        host: HostRuntime,
         asked: &Asked<'_>,
         service: &Service,
         settings: &Settings,
@@ -151,9 +164,13 @@ impl Parts {
         let advertise = advertise_of(rt.alloc(), asked, settings)?;
         let login = login_of(rt, asked.options.config, settings)?;
         let standing = standing_of(rt, asked, service, &advertise)?;
+        let lookups = start_lookups(&host)?;
+        let keepers = start_lookups(&host)?;
         Ok(Parts {
             advertise,
             login,
+            lookups,
+            keepers,
             standing,
         })
     }

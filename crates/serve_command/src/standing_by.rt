@@ -5,13 +5,13 @@ use etcd_client::{EtcdClient, Watch, grant, keep_lease, revoke};
 use etcd_journal::{Opened, open};
 use event_loops::{Gate, Times};
 use lists::Text;
-use standby::{Followed, Standing, follow, serve_standing};
+use standby::{Followed, follow, serve_standing};
 use std::alloc::AllocGlobal;
 use std::net::{Net, TcpListener, TcpStream};
 use std::random::RandomSource;
 use std::sync::{Arc, Wait};
 use std::thread::{JoinHandle, Threads};
-use std::time::Clock;
+use std::time::{Clock, Duration};
 use std::{io, thread};
 
 /// An instance that leads.
@@ -24,7 +24,7 @@ pub(crate) struct Leading {
     pub(crate) opened: Opened<EtcdClient<HostRuntime>>,
 }
 
-/// What standing by comes to.
+/// What following and a claim come to.
 #[derive(Drop)]
 enum Stood {
     /// The instance was told to end.
@@ -34,7 +34,10 @@ enum Stood {
     Leads(Leading),
 }
 
-/// Stands by until this instance leads. None where it was told to end.
+/// How long is waited behind a claim that came to nothing, in milliseconds.
+const PAUSE: u64 = 1_000;
+
+/// Stands by until this instance leads: it answers requests, reads along until nobody leads, and claims to lead. None where it was told to end.
 pub(crate) fn wait_to_lead<R>(
     rt: &R,
     instance: &Instance,
@@ -53,41 +56,16 @@ where
         + Copy
         + Drop,
 {
-    for _ in rt.forever() {
-        match stand_by(rt, instance, listener)? {
-            Stood::Quits => return Ok(None),
-            Stood::Leads(leading) => return Ok(Some(leading)),
-            Stood::Lost => {}
-        }
-    }
-    unreachable!()
-}
-
-/// Answers requests, and reads along until nobody leads; then claims to lead.
-fn stand_by<R>(rt: &R, instance: &Instance, listener: &TcpListener) -> io::Result<Stood>
-where
-    R: Wait
-        + Threads
-        + Clock
-        + Net<Listener = TcpListener, Stream = TcpStream>
-        + RandomSource
-        + AllocGlobal
-        + Eprint
-        + Sync
-        + Send
-        + Copy
-        + Drop,
-{
     let gate = Gate::new(instance.alloc, instance.connections, Times::DEFAULT)?;
-    let (served, stood) = thread::join(
+    let (served, leading) = thread::join(
         rt,
         || answer_then_quit(rt, instance, &gate, listener),
-        || follow_then_stop(rt, instance, &gate),
+        || lead_then_stop(rt, instance, &gate),
     );
     match served {
-        Ok(()) => stood,
+        Ok(()) => leading,
         Err(error) => {
-            drop(stood);
+            drop(leading);
             Err(error)
         }
     }
@@ -116,13 +94,29 @@ where
     served
 }
 
-fn follow_then_stop<R>(rt: &R, instance: &Instance, gate: &Gate) -> io::Result<Stood>
+/// Has the server end once this instance leads, or is to end.
+fn lead_then_stop<R>(rt: &R, instance: &Instance, gate: &Gate) -> io::Result<Option<Leading>>
 where
     R: Wait + Clock + AllocGlobal + Eprint + Copy,
 {
-    let stood = follow_and_claim(rt, instance);
+    let leading = lead_in_time(rt, instance);
     gate.stop();
-    stood
+    leading
+}
+
+/// Follows and claims, until this instance leads or is to end.
+fn lead_in_time<R>(rt: &R, instance: &Instance) -> io::Result<Option<Leading>>
+where
+    R: Wait + Clock + AllocGlobal + Eprint + Copy,
+{
+    for _ in rt.forever() {
+        match follow_and_claim(rt, instance)? {
+            Stood::Quits => return Ok(None),
+            Stood::Leads(leading) => return Ok(Some(leading)),
+            Stood::Lost => thread::sleep(rt, Duration::from_millis(PAUSE)),
+        }
+    }
+    unreachable!()
 }
 
 fn follow_and_claim<R>(rt: &R, instance: &Instance) -> io::Result<Stood>
@@ -195,7 +189,7 @@ fn keeper_of(
 ) -> io::Result<JoinHandle<()>> {
     let host = instance.host;
     let theirs = Arc::try_clone(watch)?;
-    let mut asks = instance.client(watch)?;
+    let mut asks = instance.keeper(watch)?;
     let keeper = thread::spawn(&instance.host, move || {
         keep_lease(&host, &mut asks, granted.lease, granted.seconds, &theirs)
     })?;

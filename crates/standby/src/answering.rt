@@ -176,8 +176,8 @@ fn redirect(alloc: Global, url: Text, closes: bool) -> Result<Response<Full<Byte
         Ok(location) => {
             let mut head = head_with(alloc, StatusCode::TEMPORARY_REDIRECT, closes)?;
             insert(&mut head, LOCATION, location)?;
-            let line = format!(in alloc; "This instance stands by.\n")?;
-            Ok(Response::from_parts(head, Full::new(Bytes::from_string(line)?)))
+            let line = Bytes::from_static(b"This instance stands by.\n");
+            Ok(Response::from_parts(head, Full::new(line)))
         }
         Err(_) => line_response(
             alloc,
