@@ -52,7 +52,19 @@ pub fn serve<R, Q>(
     queue: &LogQueue,
 ) -> ExitCode
 where
-    R: Wait + Clock + Files<File = File> + AllocGlobal + Eprint + Copy,
+    R: Wait
+        + Threads
+        + Clock
+        + Net<Listener = TcpListener, Stream = TcpStream>
+        + Files<File = File>
+        + RandomSource
+        + AllocGlobal
+        + Eprint
+        + Sync
+        + Send
+        + Copy
+        + Drop
+        + 'static,
     Q: Wait
         + Threads
         + Clock
@@ -68,7 +80,7 @@ where
         + Drop,
 {
     let _streams = hold_streams(rt, rt.alloc());
-    let ended = serve_by(queued, machine, options, queue.lost());
+    let ended = serve_by(queued, *rt, machine, options, queue.lost());
     let is_read = queue.close(rt, Duration::from_millis(LAST_LINES));
     match ended {
         Ok(()) => ExitCode::from(0),
@@ -139,8 +151,9 @@ fn written<R: Print>(rt: &R, text: &str) -> Result<(), Fault> {
     Ok(())
 }
 
-fn serve_by<R>(
+fn serve_by<R, H>(
     rt: &R,
+    host: H,
     machine: Machine<'_>,
     options: &ServeOptions<'_>,
     lost_lines: &Arc<AtomicU64>,
@@ -159,6 +172,17 @@ where
         + Send
         + Copy
         + Drop,
+    H: Wait
+        + Threads
+        + Clock
+        + Net<Listener = TcpListener, Stream = TcpStream>
+        + RandomSource
+        + AllocGlobal
+        + Sync
+        + Send
+        + Copy
+        + Drop
+        + 'static,
 {
     let document = read_document(rt, rt.alloc(), options.config)?;
     let etcd = etcd_of(rt.alloc(), options.config, document.as_slice(), options.journal);
@@ -167,6 +191,7 @@ where
         Ok(service) => match etcd {
             Ok(etcd) => serve_service(
                 rt,
+                host,
                 machine,
                 options,
                 document.as_slice(),
@@ -202,8 +227,9 @@ pub(crate) fn service_of(
 }
 
 /// Serves what a document asks for, or tells that it is valid.
-fn serve_service<R>(
+fn serve_service<R, H>(
     rt: &R,
+    host: H,
     machine: Machine<'_>,
     options: &ServeOptions<'_>,
     document: &[u8],
@@ -225,6 +251,17 @@ where
         + Send
         + Copy
         + Drop,
+    H: Wait
+        + Threads
+        + Clock
+        + Net<Listener = TcpListener, Stream = TcpStream>
+        + RandomSource
+        + AllocGlobal
+        + Sync
+        + Send
+        + Copy
+        + Drop
+        + 'static,
 {
     let mut service = service;
     match places_of(rt, options, &mut service) {
@@ -240,7 +277,7 @@ where
                 lost_lines,
                 here,
             };
-            serve_at(rt, machine, &asked, service, journal, etcd)
+            serve_at(rt, host, machine, &asked, service, journal, etcd)
         }
         Err(fault) => {
             drop((service, etcd));
@@ -286,8 +323,9 @@ pub(crate) struct Asked<'a> {
 }
 
 /// Serves at an address, over a journal in etcd or not.
-fn serve_at<R>(
+fn serve_at<R, H>(
     rt: &R,
+    host: H,
     machine: Machine<'_>,
     asked: &Asked<'_>,
     service: Service,
@@ -308,10 +346,21 @@ where
         + Send
         + Copy
         + Drop,
+    H: Wait
+        + Threads
+        + Clock
+        + Net<Listener = TcpListener, Stream = TcpStream>
+        + RandomSource
+        + AllocGlobal
+        + Sync
+        + Send
+        + Copy
+        + Drop
+        + 'static,
 {
     log_begin(rt, asked.options.config, &journal, &service);
     match etcd {
-        Some(settings) => serve_over_etcd(rt, machine, asked, service, journal, settings),
+        Some(settings) => serve_over_etcd(rt, host, machine, asked, service, journal, settings),
         None => serve_over_files(rt, machine, asked, service, journal),
     }
 }
@@ -359,8 +408,9 @@ where
 }
 
 /// Serves over a journal in etcd.
-fn serve_over_etcd<R>(
+fn serve_over_etcd<R, H>(
     rt: &R,
+    host: H,
     machine: Machine<'_>,
     asked: &Asked<'_>,
     service: Service,
@@ -381,11 +431,22 @@ where
         + Send
         + Copy
         + Drop,
+    H: Wait
+        + Threads
+        + Clock
+        + Net<Listener = TcpListener, Stream = TcpStream>
+        + RandomSource
+        + AllocGlobal
+        + Sync
+        + Send
+        + Copy
+        + Drop
+        + 'static,
 {
     let mut service = service;
     match begin(rt, machine, asked, &mut service, true) {
         Ok((device, configuration, listener)) => {
-            match Instance::of(rt, machine, asked, &service, journal, settings) {
+            match Instance::of(rt, host, asked, &service, journal, settings) {
                 Ok(instance) => {
                     serve_in_etcd(rt, &instance, asked, service, configuration, listener, device)
                 }

@@ -19,9 +19,9 @@ use std::thread::Threads;
 use std::time::Clock;
 
 /// Stands by until nobody leads, leads, and serves until the service is to end, or another leads.
-pub(crate) fn serve_in_etcd<R>(
+pub(crate) fn serve_in_etcd<R, H>(
     rt: &R,
-    instance: &Instance,
+    instance: &Instance<H>,
     asked: &Asked<'_>,
     service: Service,
     configuration: ConfigurationFile,
@@ -42,6 +42,17 @@ where
         + Send
         + Copy
         + Drop,
+    H: Wait
+        + Threads
+        + Clock
+        + Net<Listener = TcpListener, Stream = TcpStream>
+        + RandomSource
+        + AllocGlobal
+        + Sync
+        + Send
+        + Copy
+        + Drop
+        + 'static,
 {
     log_standing_by(rt, &listener);
     match wait_to_lead(rt, instance, &listener) {
@@ -66,7 +77,7 @@ fn log_standing_by<R: Clock + Eprint + Copy>(rt: &R, listener: &TcpListener) {
     }
 }
 
-fn log_leading<R: Clock + Eprint + Copy>(rt: &R, leading: &Leading) {
+fn log_leading<R: Clock + Eprint + Copy, H>(rt: &R, leading: &Leading<H>) {
     let epoch = leading.opened.journal.seat.going;
     let blocks = leading.opened.journal.seat.next;
     info!(Logfmt(*rt); epoch, blocks; "leads");

@@ -1,6 +1,5 @@
 //! One instance of several over a journal in etcd.
 use crate::command::Asked;
-use crate::devices::Machine;
 use crate::documents::settings_in;
 use crate::doors::admission_at;
 use crate::password::password_at;
@@ -16,15 +15,17 @@ use standby::Standing;
 use std::alloc::{AllocError, AllocGlobal, Global};
 use std::fs::File;
 use std::io;
-use std::net::SocketAddr;
+use std::net::{Net, SocketAddr, TcpListener, TcpStream};
 use std::random::RandomSource;
 use std::rt::Files;
-use std::sync::Arc;
+use std::sync::{Arc, Wait};
+use std::thread::Threads;
+use std::time::Clock;
 
 /// One instance of several over a journal in etcd.
 #[derive(Drop)]
-pub(crate) struct Instance {
-    pub(crate) host: HostRuntime,
+pub(crate) struct Instance<H> {
+    pub(crate) host: H,
     pub(crate) alloc: Global,
     /// The journal as it is named.
     journal: Option<String>,
@@ -43,22 +44,35 @@ pub(crate) struct Instance {
     pub(crate) standing: Arc<Standing>,
 }
 
-impl Instance {
+impl<H> Instance<H>
+where
+    H: Wait
+        + Threads
+        + Clock
+        + Net<Listener = TcpListener, Stream = TcpStream>
+        + RandomSource
+        + AllocGlobal
+        + Sync
+        + Send
+        + Copy
+        + Drop
+        + 'static,
+{
     /// That of a service over this journal.
     pub(crate) fn of<R>(
         rt: &R,
-        machine: Machine<'_>,
+        host: H,
         asked: &Asked<'_>,
         service: &Service,
         journal: Option<String>,
         settings: Settings,
-    ) -> Result<Instance, Fault>
+    ) -> Result<Instance<H>, Fault>
     where
         R: Files<File = File> + AllocGlobal,
     {
-        match Parts::of(rt, machine.host, asked, service, &settings) {
+        match Parts::of(rt, host, asked, service, &settings) {
             Ok(parts) => Ok(Instance {
-                host: machine.host,
+                host,
                 alloc: rt.alloc(),
                 journal,
                 settings,
@@ -78,12 +92,12 @@ impl Instance {
     }
 
     /// What asks etcd as long as an instance may lead. One at a time is to ask.
-    pub(crate) fn client(&self, watch: &Arc<Watch>) -> Result<EtcdClient<HostRuntime>, AllocError> {
+    pub(crate) fn client(&self, watch: &Arc<Watch>) -> Result<EtcdClient<H>, AllocError> {
         self.client_by(&self.lookups, watch)
     }
 
     /// The same, for whoever keeps the lease alive.
-    pub(crate) fn keeper(&self, watch: &Arc<Watch>) -> Result<EtcdClient<HostRuntime>, AllocError> {
+    pub(crate) fn keeper(&self, watch: &Arc<Watch>) -> Result<EtcdClient<H>, AllocError> {
         self.client_by(&self.keepers, watch)
     }
 
@@ -91,7 +105,7 @@ impl Instance {
         &self,
         lookups: &Arc<Lookups>,
         watch: &Arc<Watch>,
-    ) -> Result<EtcdClient<HostRuntime>, AllocError> {
+    ) -> Result<EtcdClient<H>, AllocError> {
         let lookups = Arc::try_clone(lookups)?;
         let endpoints = self.endpoints()?;
         let login = self.login()?;
@@ -154,13 +168,24 @@ struct Parts {
 }
 
 impl Parts {
-    fn of<R: Files<File = File> + AllocGlobal>(
+    fn of<R, H>(
         rt: &R,
-        host: HostRuntime,
+        host: H,
         asked: &Asked<'_>,
         service: &Service,
         settings: &Settings,
-    ) -> Result<Parts, Fault> {
+    ) -> Result<Parts, Fault>
+    where
+        R: Files<File = File> + AllocGlobal,
+        H: Wait
+            + Threads
+            + Net<Listener = TcpListener, Stream = TcpStream>
+            + AllocGlobal
+            + Send
+            + Copy
+            + Drop
+            + 'static,
+    {
         let advertise = advertise_of(rt.alloc(), asked, settings)?;
         let login = login_of(rt, asked.options.config, settings)?;
         let standing = standing_of(rt, asked, service, &advertise)?;
@@ -227,5 +252,9 @@ fn standing_of<R: Files<File = File> + AllocGlobal>(
     let own = advertise.copy()?;
     let doors = admission_at(rt, path, service.doors(), asked.here)?;
     let standing = Standing::new(alloc, doors, lifecycle, VERSION, own)?;
+    Ok(shared(alloc, standing)?)
+}
+
+fn shared(alloc: Global, standing: Standing) -> Result<Arc<Standing>, AllocError> {
     Ok(Arc::new(alloc, standing)?)
 }

@@ -25,15 +25,15 @@ use std::thread::Threads;
 use std::time::Clock;
 
 /// Serves over the journal of an instance that leads, until the service is to end or another leads. Then its lease is given up.
-pub(crate) fn lead<R>(
+pub(crate) fn lead<R, H>(
     rt: &R,
-    instance: &Instance,
+    instance: &Instance<H>,
     asked: &Asked<'_>,
     service: Service,
     configuration: ConfigurationFile,
     listener: TcpListener,
     device: Devices<R>,
-    leading: Leading,
+    leading: Leading<H>,
 ) -> Result<(), Fault>
 where
     R: Wait
@@ -49,6 +49,17 @@ where
         + Send
         + Copy
         + Drop,
+    H: Wait
+        + Threads
+        + Clock
+        + Net<Listener = TcpListener, Stream = TcpStream>
+        + RandomSource
+        + AllocGlobal
+        + Sync
+        + Send
+        + Copy
+        + Drop
+        + 'static,
 {
     let Leading {
         watch,
@@ -117,14 +128,14 @@ where
 }
 
 /// Serves over the journal that was opened.
-fn serve_led<R>(
+fn serve_led<R, H>(
     rt: &R,
-    instance: &Instance,
+    instance: &Instance<H>,
     service: Service,
     configuration: ConfigurationFile,
     listener: TcpListener,
     device: Devices<R>,
-    opened: Opened<EtcdClient<HostRuntime>>,
+    opened: Opened<EtcdClient<H>>,
 ) -> Result<(), Fault>
 where
     R: Wait
@@ -140,6 +151,17 @@ where
         + Send
         + Copy
         + Drop,
+    H: Wait
+        + Threads
+        + Clock
+        + Net<Listener = TcpListener, Stream = TcpStream>
+        + RandomSource
+        + AllocGlobal
+        + Sync
+        + Send
+        + Copy
+        + Drop
+        + 'static,
 {
     match open_allocator(
         rt,
@@ -158,14 +180,14 @@ where
     }
 }
 
-fn serve_began<R>(
+fn serve_began<R, H>(
     rt: &R,
-    instance: &Instance,
+    instance: &Instance<H>,
     service: Service,
     configuration: ConfigurationFile,
     listener: TcpListener,
     device: Devices<R>,
-    began: Began<R, EtcdClient<HostRuntime>>,
+    began: Began<R, EtcdClient<H>>,
 ) -> Result<(), Fault>
 where
     R: Wait
@@ -181,6 +203,17 @@ where
         + Send
         + Copy
         + Drop,
+    H: Wait
+        + Threads
+        + Clock
+        + Net<Listener = TcpListener, Stream = TcpStream>
+        + RandomSource
+        + AllocGlobal
+        + Sync
+        + Send
+        + Copy
+        + Drop
+        + 'static,
 {
     let Began { opened, archive } = began;
     let mut archive = archive;

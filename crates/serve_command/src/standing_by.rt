@@ -16,33 +16,33 @@ use std::{io, thread};
 
 /// An instance that leads.
 #[derive(Drop)]
-pub(crate) struct Leading {
+pub(crate) struct Leading<H> {
     pub(crate) watch: Arc<Watch>,
     /// Who keeps the lease alive.
     pub(crate) keeper: JoinHandle<()>,
     pub(crate) granted: Granted,
-    pub(crate) opened: Opened<EtcdClient<HostRuntime>>,
+    pub(crate) opened: Opened<EtcdClient<H>>,
 }
 
 /// What following and a claim come to.
 #[derive(Drop)]
-enum Stood {
+enum Stood<H> {
     /// The instance was told to end.
     Quits,
     /// Another was faster, or it is not known who leads.
     Lost,
-    Leads(Leading),
+    Leads(Leading<H>),
 }
 
 /// How long is waited behind a claim that came to nothing, in milliseconds.
 const PAUSE: u64 = 1_000;
 
 /// Stands by until this instance leads: it answers requests, reads along until nobody leads, and claims to lead. None where it was told to end.
-pub(crate) fn wait_to_lead<R>(
+pub(crate) fn wait_to_lead<R, H>(
     rt: &R,
-    instance: &Instance,
+    instance: &Instance<H>,
     listener: &TcpListener,
-) -> io::Result<Option<Leading>>
+) -> io::Result<Option<Leading<H>>>
 where
     R: Wait
         + Threads
@@ -55,6 +55,17 @@ where
         + Send
         + Copy
         + Drop,
+    H: Wait
+        + Threads
+        + Clock
+        + Net<Listener = TcpListener, Stream = TcpStream>
+        + RandomSource
+        + AllocGlobal
+        + Sync
+        + Send
+        + Copy
+        + Drop
+        + 'static,
 {
     let gate = Gate::new(instance.alloc, instance.connections, Times::DEFAULT)?;
     let (served, leading) = thread::join(
@@ -72,9 +83,9 @@ where
 }
 
 /// Answers requests until the gate is stopped. Where no server can be, the instance is to end.
-fn answer_then_quit<R>(
+fn answer_then_quit<R, H>(
     rt: &R,
-    instance: &Instance,
+    instance: &Instance<H>,
     gate: &Gate,
     listener: &TcpListener,
 ) -> io::Result<()>
@@ -95,9 +106,24 @@ where
 }
 
 /// Has the server end once this instance leads, or is to end.
-fn lead_then_stop<R>(rt: &R, instance: &Instance, gate: &Gate) -> io::Result<Option<Leading>>
+fn lead_then_stop<R, H>(
+    rt: &R,
+    instance: &Instance<H>,
+    gate: &Gate,
+) -> io::Result<Option<Leading<H>>>
 where
     R: Wait + Clock + AllocGlobal + Eprint + Copy,
+    H: Wait
+        + Threads
+        + Clock
+        + Net<Listener = TcpListener, Stream = TcpStream>
+        + RandomSource
+        + AllocGlobal
+        + Sync
+        + Send
+        + Copy
+        + Drop
+        + 'static,
 {
     let leading = lead_in_time(rt, instance);
     gate.stop();
@@ -105,9 +131,20 @@ where
 }
 
 /// Follows and claims, until this instance leads or is to end.
-fn lead_in_time<R>(rt: &R, instance: &Instance) -> io::Result<Option<Leading>>
+fn lead_in_time<R, H>(rt: &R, instance: &Instance<H>) -> io::Result<Option<Leading<H>>>
 where
     R: Wait + Clock + AllocGlobal + Eprint + Copy,
+    H: Wait
+        + Threads
+        + Clock
+        + Net<Listener = TcpListener, Stream = TcpStream>
+        + RandomSource
+        + AllocGlobal
+        + Sync
+        + Send
+        + Copy
+        + Drop
+        + 'static,
 {
     for _ in rt.forever() {
         match follow_and_claim(rt, instance)? {
@@ -119,9 +156,20 @@ where
     unreachable!()
 }
 
-fn follow_and_claim<R>(rt: &R, instance: &Instance) -> io::Result<Stood>
+fn follow_and_claim<R, H>(rt: &R, instance: &Instance<H>) -> io::Result<Stood<H>>
 where
     R: Wait + Clock + AllocGlobal + Eprint + Copy,
+    H: Wait
+        + Threads
+        + Clock
+        + Net<Listener = TcpListener, Stream = TcpStream>
+        + RandomSource
+        + AllocGlobal
+        + Sync
+        + Send
+        + Copy
+        + Drop
+        + 'static,
 {
     let watch = Arc::new(instance.alloc, Watch::new())?;
     let mut client = instance.client(&watch)?;
@@ -132,11 +180,24 @@ where
 }
 
 /// Leads under a lease of its own, if no other is faster.
-fn claim(
-    instance: &Instance,
+fn claim<H>(
+    instance: &Instance<H>,
     watch: Arc<Watch>,
-    client: EtcdClient<HostRuntime>,
-) -> io::Result<Stood> {
+    client: EtcdClient<H>,
+) -> io::Result<Stood<H>>
+where
+    H: Wait
+        + Threads
+        + Clock
+        + Net<Listener = TcpListener, Stream = TcpStream>
+        + RandomSource
+        + AllocGlobal
+        + Sync
+        + Send
+        + Copy
+        + Drop
+        + 'static,
+{
     let mut client = client;
     match grant(instance.alloc, &mut client, instance.seconds()) {
         Ok(Some(granted)) => claim_under(instance, watch, client, granted),
@@ -151,12 +212,25 @@ fn claim(
     }
 }
 
-fn claim_under(
-    instance: &Instance,
+fn claim_under<H>(
+    instance: &Instance<H>,
     watch: Arc<Watch>,
-    client: EtcdClient<HostRuntime>,
+    client: EtcdClient<H>,
     granted: Granted,
-) -> io::Result<Stood> {
+) -> io::Result<Stood<H>>
+where
+    H: Wait
+        + Threads
+        + Clock
+        + Net<Listener = TcpListener, Stream = TcpStream>
+        + RandomSource
+        + AllocGlobal
+        + Sync
+        + Send
+        + Copy
+        + Drop
+        + 'static,
+{
     match keeper_of(instance, &watch, granted) {
         Ok(keeper) => match opened(instance, client, granted) {
             Ok(Some(opened)) => Ok(Stood::Leads(Leading {
@@ -182,11 +256,24 @@ fn claim_under(
 }
 
 /// Who keeps a lease alive.
-fn keeper_of(
-    instance: &Instance,
+fn keeper_of<H>(
+    instance: &Instance<H>,
     watch: &Arc<Watch>,
     granted: Granted,
-) -> io::Result<JoinHandle<()>> {
+) -> io::Result<JoinHandle<()>>
+where
+    H: Wait
+        + Threads
+        + Clock
+        + Net<Listener = TcpListener, Stream = TcpStream>
+        + RandomSource
+        + AllocGlobal
+        + Sync
+        + Send
+        + Copy
+        + Drop
+        + 'static,
+{
     let host = instance.host;
     let theirs = Arc::try_clone(watch)?;
     let mut asks = instance.keeper(watch)?;
@@ -197,11 +284,24 @@ fn keeper_of(
 }
 
 /// What stands in the journal, where this instance leads.
-fn opened(
-    instance: &Instance,
-    client: EtcdClient<HostRuntime>,
+fn opened<H>(
+    instance: &Instance<H>,
+    client: EtcdClient<H>,
     granted: Granted,
-) -> io::Result<Option<Opened<EtcdClient<HostRuntime>>>> {
+) -> io::Result<Option<Opened<EtcdClient<H>>>>
+where
+    H: Wait
+        + Threads
+        + Clock
+        + Net<Listener = TcpListener, Stream = TcpStream>
+        + RandomSource
+        + AllocGlobal
+        + Sync
+        + Send
+        + Copy
+        + Drop
+        + 'static,
+{
     match instance.new_term() {
         Ok(term) => opened_with(instance, client, granted, &term),
         Err(error) => {
@@ -211,12 +311,25 @@ fn opened(
     }
 }
 
-fn opened_with(
-    instance: &Instance,
-    client: EtcdClient<HostRuntime>,
+fn opened_with<H>(
+    instance: &Instance<H>,
+    client: EtcdClient<H>,
     granted: Granted,
     term: &Text,
-) -> io::Result<Option<Opened<EtcdClient<HostRuntime>>>> {
+) -> io::Result<Option<Opened<EtcdClient<H>>>>
+where
+    H: Wait
+        + Threads
+        + Clock
+        + Net<Listener = TcpListener, Stream = TcpStream>
+        + RandomSource
+        + AllocGlobal
+        + Sync
+        + Send
+        + Copy
+        + Drop
+        + 'static,
+{
     let prefix = instance.prefix();
     let opened = open(
         instance.alloc,
@@ -230,12 +343,25 @@ fn opened_with(
 }
 
 /// Leads no more, and gives the lease up, so that another may lead at once.
-pub(crate) fn end_lease(
-    instance: &Instance,
+pub(crate) fn end_lease<H>(
+    instance: &Instance<H>,
     watch: &Arc<Watch>,
     keeper: JoinHandle<()>,
     granted: Granted,
-) {
+)
+where
+    H: Wait
+        + Threads
+        + Clock
+        + Net<Listener = TcpListener, Stream = TcpStream>
+        + RandomSource
+        + AllocGlobal
+        + Sync
+        + Send
+        + Copy
+        + Drop
+        + 'static,
+{
     watch.end();
     let _ = keeper.join(&instance.host);
     if let Ok(mut client) = instance.client(watch) {
