@@ -29,12 +29,7 @@ impl<R: Copy, E: Drop> EtcdArchive<R, E> {
     /// The device of an epoch, or of the next one.
     pub(crate) fn device(&self, epoch: Option<u32>) -> Result<EtcdDevice<R, E>, AllocError> {
         let journal = Arc::try_clone(&self.journal)?;
-        Ok(EtcdDevice::of(
-            self.rt,
-            journal,
-            epoch,
-            Vec::new(self.alloc),
-        ))
+        Ok(EtcdDevice::of(self.rt, journal, epoch, Vec::new(self.alloc)))
     }
 }
 

@@ -5,7 +5,7 @@ use crate::devices::{Devices, Machine};
 use crate::documents::{read_document, service_in};
 use crate::doors::admission_at;
 use crate::etcd_words::etcd_of;
-use crate::in_etcd::serve_in_etcd;
+use crate::in_etcd::{Begun, serve_in_etcd};
 use crate::instance::Instance;
 use crate::listening::{listen_address, listener_at};
 use crate::not_followed::{told_valid, warn_of};
@@ -52,19 +52,7 @@ pub fn serve<R, Q>(
     queue: &LogQueue,
 ) -> ExitCode
 where
-    R: Wait
-        + Threads
-        + Clock
-        + Net<Listener = TcpListener, Stream = TcpStream>
-        + Files<File = File>
-        + RandomSource
-        + AllocGlobal
-        + Eprint
-        + Sync
-        + Send
-        + Copy
-        + Drop
-        + 'static,
+    R: Wait + Clock + Files<File = File> + AllocGlobal + Eprint + Copy,
     Q: Wait
         + Threads
         + Clock
@@ -80,7 +68,7 @@ where
         + Drop,
 {
     let _streams = hold_streams(rt, rt.alloc());
-    let ended = serve_by(queued, *rt, machine, options, queue.lost());
+    let ended = serve_by(queued, machine, options, queue.lost());
     let is_read = queue.close(rt, Duration::from_millis(LAST_LINES));
     match ended {
         Ok(()) => ExitCode::from(0),
@@ -151,9 +139,8 @@ fn written<R: Print>(rt: &R, text: &str) -> Result<(), Fault> {
     Ok(())
 }
 
-fn serve_by<R, H>(
+fn serve_by<R>(
     rt: &R,
-    host: H,
     machine: Machine<'_>,
     options: &ServeOptions<'_>,
     lost_lines: &Arc<AtomicU64>,
@@ -172,26 +159,25 @@ where
         + Send
         + Copy
         + Drop,
-    H: Wait
-        + Threads
-        + Clock
-        + Net<Listener = TcpListener, Stream = TcpStream>
-        + RandomSource
-        + AllocGlobal
-        + Sync
-        + Send
-        + Copy
-        + Drop
-        + 'static,
 {
     let document = read_document(rt, rt.alloc(), options.config)?;
-    let etcd = etcd_of(rt.alloc(), options.config, document.as_slice(), options.journal);
+    let etcd = etcd_of(
+        rt.alloc(),
+        options.config,
+        document.as_slice(),
+        options.journal,
+    );
     let is_in_etcd = matches!(&etcd, Ok(Some(_)));
-    match service_of(rt.alloc(), options.config, document.as_slice(), lost_lines, is_in_etcd) {
+    match service_of(
+        rt.alloc(),
+        options.config,
+        document.as_slice(),
+        lost_lines,
+        is_in_etcd,
+    ) {
         Ok(service) => match etcd {
             Ok(etcd) => serve_service(
                 rt,
-                host,
                 machine,
                 options,
                 document.as_slice(),
@@ -227,9 +213,8 @@ pub(crate) fn service_of(
 }
 
 /// Serves what a document asks for, or tells that it is valid.
-fn serve_service<R, H>(
+fn serve_service<R>(
     rt: &R,
-    host: H,
     machine: Machine<'_>,
     options: &ServeOptions<'_>,
     document: &[u8],
@@ -251,17 +236,6 @@ where
         + Send
         + Copy
         + Drop,
-    H: Wait
-        + Threads
-        + Clock
-        + Net<Listener = TcpListener, Stream = TcpStream>
-        + RandomSource
-        + AllocGlobal
-        + Sync
-        + Send
-        + Copy
-        + Drop
-        + 'static,
 {
     let mut service = service;
     match places_of(rt, options, &mut service) {
@@ -277,7 +251,7 @@ where
                 lost_lines,
                 here,
             };
-            serve_at(rt, host, machine, &asked, service, journal, etcd)
+            serve_at(rt, machine, &asked, service, journal, etcd)
         }
         Err(fault) => {
             drop((service, etcd));
@@ -323,9 +297,8 @@ pub(crate) struct Asked<'a> {
 }
 
 /// Serves at an address, over a journal in etcd or not.
-fn serve_at<R, H>(
+fn serve_at<R>(
     rt: &R,
-    host: H,
     machine: Machine<'_>,
     asked: &Asked<'_>,
     service: Service,
@@ -346,21 +319,10 @@ where
         + Send
         + Copy
         + Drop,
-    H: Wait
-        + Threads
-        + Clock
-        + Net<Listener = TcpListener, Stream = TcpStream>
-        + RandomSource
-        + AllocGlobal
-        + Sync
-        + Send
-        + Copy
-        + Drop
-        + 'static,
 {
     log_begin(rt, asked.options.config, &journal, &service);
     match etcd {
-        Some(settings) => serve_over_etcd(rt, host, machine, asked, service, journal, settings),
+        Some(settings) => serve_over_etcd(rt, machine, asked, service, journal, settings),
         None => serve_over_files(rt, machine, asked, service, journal),
     }
 }
@@ -408,9 +370,8 @@ where
 }
 
 /// Serves over a journal in etcd.
-fn serve_over_etcd<R, H>(
+fn serve_over_etcd<R>(
     rt: &R,
-    host: H,
     machine: Machine<'_>,
     asked: &Asked<'_>,
     service: Service,
@@ -431,24 +392,19 @@ where
         + Send
         + Copy
         + Drop,
-    H: Wait
-        + Threads
-        + Clock
-        + Net<Listener = TcpListener, Stream = TcpStream>
-        + RandomSource
-        + AllocGlobal
-        + Sync
-        + Send
-        + Copy
-        + Drop
-        + 'static,
 {
     let mut service = service;
     match begin(rt, machine, asked, &mut service, true) {
         Ok((device, configuration, listener)) => {
-            match Instance::of(rt, host, asked, &service, journal, settings) {
+            match Instance::of(rt, machine, asked, &service, journal, settings) {
                 Ok(instance) => {
-                    serve_in_etcd(rt, &instance, asked, service, configuration, listener, device)
+                    let begun = Begun {
+                        service,
+                        configuration,
+                        listener,
+                        device,
+                    };
+                    serve_in_etcd(rt, &instance, asked, begun)
                 }
                 Err(fault) => {
                     drop((service, device, configuration, listener));
@@ -523,8 +479,7 @@ where
     warn_of(rt, rt.alloc(), asked.document)?;
     let alloc = rt.alloc();
     let here = asked.here;
-    let configuration =
-        ConfigurationFile::new(host, alloc, asked.options, here, most, is_in_etcd)?;
+    let configuration = ConfigurationFile::new(host, alloc, asked.options, here, most, is_in_etcd)?;
     let listener = listener_at(rt, here)?;
     Ok((configuration, listener))
 }

@@ -1,5 +1,6 @@
 //! One instance of several over a journal in etcd.
 use crate::command::Asked;
+use crate::devices::Machine;
 use crate::documents::settings_in;
 use crate::doors::admission_at;
 use crate::password::password_at;
@@ -9,23 +10,20 @@ use etcd_requests::term_text;
 use etcd_settings::Settings;
 use journal_files::Fault;
 use lists::{Plain, Text};
-use scrape_client::{Lookups, start_lookups};
+use scrape_client::Lookups;
 use service_tasks::Service;
 use standby::Standing;
 use std::alloc::{AllocError, AllocGlobal, Global};
 use std::fs::File;
 use std::io;
-use std::net::{Net, SocketAddr, TcpListener, TcpStream};
+use std::net::SocketAddr;
 use std::random::RandomSource;
 use std::rt::Files;
-use std::sync::{Arc, Wait};
-use std::thread::Threads;
-use std::time::Clock;
+use std::sync::Arc;
 
 /// One instance of several over a journal in etcd.
 #[derive(Drop)]
-pub(crate) struct Instance<H> {
-    pub(crate) host: H,
+pub(crate) struct Instance {
     pub(crate) alloc: Global,
     /// The journal as it is named.
     journal: Option<String>,
@@ -44,35 +42,21 @@ pub(crate) struct Instance<H> {
     pub(crate) standing: Arc<Standing>,
 }
 
-impl<H> Instance<H>
-where
-    H: Wait
-        + Threads
-        + Clock
-        + Net<Listener = TcpListener, Stream = TcpStream>
-        + RandomSource
-        + AllocGlobal
-        + Sync
-        + Send
-        + Copy
-        + Drop
-        + 'static,
-{
+impl Instance {
     /// That of a service over this journal.
     pub(crate) fn of<R>(
         rt: &R,
-        host: H,
+        machine: Machine<'_>,
         asked: &Asked<'_>,
         service: &Service,
         journal: Option<String>,
         settings: Settings,
-    ) -> Result<Instance<H>, Fault>
+    ) -> Result<Instance, Fault>
     where
         R: Files<File = File> + AllocGlobal,
     {
-        match Parts::of(rt, host, asked, service, &settings) {
+        match Parts::of(rt, machine, asked, service, &settings) {
             Ok(parts) => Ok(Instance {
-                host,
                 alloc: rt.alloc(),
                 journal,
                 settings,
@@ -92,25 +76,34 @@ where
     }
 
     /// What asks etcd as long as an instance may lead. One at a time is to ask.
-    pub(crate) fn client(&self, watch: &Arc<Watch>) -> Result<EtcdClient<H>, AllocError> {
-        self.client_by(&self.lookups, watch)
+    pub(crate) fn client<R: Copy>(
+        &self,
+        rt: &R,
+        watch: &Arc<Watch>,
+    ) -> Result<EtcdClient<R>, AllocError> {
+        self.client_by(rt, &self.lookups, watch)
     }
 
     /// The same, for whoever keeps the lease alive.
-    pub(crate) fn keeper(&self, watch: &Arc<Watch>) -> Result<EtcdClient<H>, AllocError> {
-        self.client_by(&self.keepers, watch)
+    pub(crate) fn keeper<R: Copy>(
+        &self,
+        rt: &R,
+        watch: &Arc<Watch>,
+    ) -> Result<EtcdClient<R>, AllocError> {
+        self.client_by(rt, &self.keepers, watch)
     }
 
-    fn client_by(
+    fn client_by<R: Copy>(
         &self,
+        rt: &R,
         lookups: &Arc<Lookups>,
         watch: &Arc<Watch>,
-    ) -> Result<EtcdClient<H>, AllocError> {
+    ) -> Result<EtcdClient<R>, AllocError> {
         let lookups = Arc::try_clone(lookups)?;
         let endpoints = self.endpoints()?;
         let login = self.login()?;
         let watch = Arc::try_clone(watch)?;
-        Ok(EtcdClient::new(self.host, lookups, endpoints, login, watch))
+        Ok(EtcdClient::new(*rt, lookups, endpoints, login, watch))
     }
 
     fn endpoints(&self) -> Result<Vec<Text>, AllocError> {
@@ -147,9 +140,9 @@ where
     }
 
     /// The text of a term that nobody else has.
-    pub(crate) fn new_term(&self) -> io::Result<Text> {
+    pub(crate) fn new_term<R: RandomSource>(&self, rt: &R) -> io::Result<Text> {
         let mut bytes = [0; 16];
-        self.host.fill_bytes(&mut bytes)?;
+        rt.fill_bytes(&mut bytes)?;
         let number = u128::from_le_bytes(bytes);
         let instance = format!(in self.alloc; "{number:032x}")?;
         let term = term_text(self.alloc, self.advertise.as_str(), instance.as_str())?;
@@ -168,29 +161,17 @@ struct Parts {
 }
 
 impl Parts {
-    fn of<R, H>(
+    fn of<R: Files<File = File> + AllocGlobal>(
         rt: &R,
-        host: H,
+        machine: Machine<'_>,
         asked: &Asked<'_>,
         service: &Service,
         settings: &Settings,
-    ) -> Result<Parts, Fault>
-    where
-        R: Files<File = File> + AllocGlobal,
-        H: Wait
-            + Threads
-            + Net<Listener = TcpListener, Stream = TcpStream>
-            + AllocGlobal
-            + Send
-            + Copy
-            + Drop
-            + 'static,
-    {
+    ) -> Result<Parts, Fault> {
         let advertise = advertise_of(rt.alloc(), asked, settings)?;
         let login = login_of(rt, asked.options.config, settings)?;
         let standing = standing_of(rt, asked, service, &advertise)?;
-        let lookups = start_lookups(&host)?;
-        let keepers = start_lookups(&host)?;
+        let (lookups, keepers) = lookups_of(machine)?;
         Ok(Parts {
             advertise,
             login,
@@ -198,6 +179,19 @@ impl Parts {
             keepers,
             standing,
         })
+    }
+}
+
+/// Where the names of etcd's members are looked up.
+fn lookups_of(machine: Machine<'_>) -> Result<(Arc<Lookups>, Arc<Lookups>), Fault> {
+    match machine.etcd {
+        Some(etcd) => {
+            let asks = Arc::try_clone(&etcd.asks)?;
+            let keeps = Arc::try_clone(&etcd.keeps)?;
+            Ok((asks, keeps))
+        }
+        // The configuration was changed since it was read first.
+        None => Err(Fault::Machine(io::ErrorKind::NotFound.into())),
     }
 }
 

@@ -4,9 +4,9 @@ use crate::configuration::ConfigurationFile;
 use crate::devices::Devices;
 use crate::documents::read_document;
 use crate::doors::admission_at;
+use crate::in_etcd::Begun;
 use crate::instance::Instance;
 use crate::running::{log_address, log_end};
-use crate::standing_by::{Leading, end_lease};
 use etcd_archive::{Began, open_allocator};
 use etcd_client::EtcdClient;
 use etcd_journal::Opened;
@@ -24,16 +24,13 @@ use std::sync::Wait;
 use std::thread::Threads;
 use std::time::Clock;
 
-/// Serves over the journal of an instance that leads, until the service is to end or another leads. Then its lease is given up.
-pub(crate) fn lead<R, H>(
+/// Serves over the journal of an instance that leads, until the service is to end or another leads. Where the instance was told to end meanwhile it does not begin.
+pub(crate) fn lead<R>(
     rt: &R,
-    instance: &Instance<H>,
+    instance: &Instance,
     asked: &Asked<'_>,
-    service: Service,
-    configuration: ConfigurationFile,
-    listener: TcpListener,
-    device: Devices<R>,
-    leading: Leading<H>,
+    begun: Begun<R>,
+    opened: Opened<EtcdClient<R>>,
 ) -> Result<(), Fault>
 where
     R: Wait
@@ -49,26 +46,19 @@ where
         + Send
         + Copy
         + Drop,
-    H: Wait
-        + Threads
-        + Clock
-        + Net<Listener = TcpListener, Stream = TcpStream>
-        + RandomSource
-        + AllocGlobal
-        + Sync
-        + Send
-        + Copy
-        + Drop
-        + 'static,
 {
-    let Leading {
-        watch,
-        keeper,
-        granted,
-        opened,
-    } = leading;
+    if instance.standing.is_quitting() {
+        drop((begun, opened));
+        return Ok(());
+    }
+    let Begun {
+        service,
+        configuration,
+        listener,
+        device,
+    } = begun;
     let service = service_now(rt, asked, service);
-    let served = serve_led(
+    serve_led(
         rt,
         instance,
         service,
@@ -76,14 +66,7 @@ where
         listener,
         device,
         opened,
-    );
-    let is_over = watch.is_over();
-    end_lease(instance, &watch, keeper, granted);
-    drop(watch);
-    match served {
-        Err(Fault::Machine(_)) if is_over => Err(Fault::Deposed),
-        other => other,
-    }
+    )
 }
 
 /// The service of the configuration as it is now. Where that has faults, the one that was read before.
@@ -128,14 +111,14 @@ where
 }
 
 /// Serves over the journal that was opened.
-fn serve_led<R, H>(
+fn serve_led<R>(
     rt: &R,
-    instance: &Instance<H>,
+    instance: &Instance,
     service: Service,
     configuration: ConfigurationFile,
     listener: TcpListener,
     device: Devices<R>,
-    opened: Opened<EtcdClient<H>>,
+    opened: Opened<EtcdClient<R>>,
 ) -> Result<(), Fault>
 where
     R: Wait
@@ -151,17 +134,6 @@ where
         + Send
         + Copy
         + Drop,
-    H: Wait
-        + Threads
-        + Clock
-        + Net<Listener = TcpListener, Stream = TcpStream>
-        + RandomSource
-        + AllocGlobal
-        + Sync
-        + Send
-        + Copy
-        + Drop
-        + 'static,
 {
     match open_allocator(
         rt,
@@ -172,7 +144,15 @@ where
         service.jobs(),
         service.scrape_interval(),
     ) {
-        Ok(began) => serve_began(rt, instance, service, configuration, listener, device, began),
+        Ok(began) => serve_began(
+            rt,
+            instance,
+            service,
+            configuration,
+            listener,
+            device,
+            began,
+        ),
         Err(fault) => {
             drop((service, configuration, listener, device));
             Err(fault)
@@ -180,14 +160,14 @@ where
     }
 }
 
-fn serve_began<R, H>(
+fn serve_began<R>(
     rt: &R,
-    instance: &Instance<H>,
+    instance: &Instance,
     service: Service,
     configuration: ConfigurationFile,
     listener: TcpListener,
     device: Devices<R>,
-    began: Began<R, EtcdClient<H>>,
+    began: Began<R, EtcdClient<R>>,
 ) -> Result<(), Fault>
 where
     R: Wait
@@ -203,17 +183,6 @@ where
         + Send
         + Copy
         + Drop,
-    H: Wait
-        + Threads
-        + Clock
-        + Net<Listener = TcpListener, Stream = TcpStream>
-        + RandomSource
-        + AllocGlobal
-        + Sync
-        + Send
-        + Copy
-        + Drop
-        + 'static,
 {
     let Began { opened, archive } = began;
     let mut archive = archive;

@@ -22,4 +22,4 @@ mod standard_streams;
 mod standing_by;
 
 pub use command::serve;
-pub use devices::Machine;
+pub use devices::{EtcdLookups, Machine, etcd_lookups};

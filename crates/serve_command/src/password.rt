@@ -26,7 +26,5 @@ pub(crate) fn password_at<R: Files<File = File> + AllocGlobal>(
 }
 
 fn told<R: AllocGlobal>(rt: &R, path: &str, file: &str, why: &str) -> Result<Text, Fault> {
-    Err(Fault::Told(format!(in rt.alloc();
-        "{path}: allocator.etcd_password_file: {file}: {why}"
-    )?))
+    Err(Fault::Told(format!(in rt.alloc(); "{path}: allocator.etcd_password_file: {file}: {why}")?))
 }

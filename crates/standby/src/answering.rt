@@ -54,11 +54,7 @@ fn reply_to<R: Wait>(
 }
 
 /// What a request asks for, where it is let in. None where it asks whether this instance leads.
-fn asked(
-    alloc: Global,
-    standing: &Standing,
-    head: &Head,
-) -> Result<Option<Ask>, RequestError> {
+fn asked(alloc: Global, standing: &Standing, head: &Head) -> Result<Option<Ask>, RequestError> {
     if is_leading(head) {
         return match standing.doors.refusal(None, &head.headers) {
             Some(error) => Err(error),
@@ -151,11 +147,7 @@ fn url_at(alloc: Global, leader: &str, target: &Uri) -> Result<Text, AllocError>
 }
 
 /// The line that tells who leads.
-fn leading_line<R: Wait>(
-    rt: &R,
-    alloc: Global,
-    standing: &Standing,
-) -> Result<Text, AllocError> {
+fn leading_line<R: Wait>(rt: &R, alloc: Global, standing: &Standing) -> Result<Text, AllocError> {
     let version = standing.version;
     match standing.leader(rt)? {
         Some(leader) => {

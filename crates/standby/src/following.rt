@@ -27,12 +27,7 @@ pub enum Followed {
 }
 
 /// Reads along until nobody leads, or the instance is to end.
-pub fn follow<R, E>(
-    rt: &R,
-    prefix: &str,
-    etcd: &mut E,
-    standing: &Standing,
-) -> Followed
+pub fn follow<R, E>(rt: &R, prefix: &str, etcd: &mut E, standing: &Standing) -> Followed
 where
     R: Wait + Clock + AllocGlobal + Eprint + Copy,
     E: Etcd,

@@ -28,11 +28,6 @@ impl<R: Wait + Clock + Drop, I: Drop> Service<Request<Incoming<I>>> for Standing
 
     fn call(&self, req: Request<Incoming<I>>) -> Self::Future {
         let (head, _body) = req.into_parts();
-        ready(response_to(
-            &self.rt,
-            self.alloc,
-            &self.standing,
-            &head,
-        ))
+        ready(response_to(&self.rt, self.alloc, &self.standing, &head))
     }
 }
