@@ -73,7 +73,7 @@ module _ (span : Span) (event : Event) (answer : Answer) (P : History → Type 0
   answered_at (inl x) holds =
       let entered = x.1 in
       let seen : IsPrefix entered.earlier span.after =
-          prefix_trans entered.earlier (entered.earlier ++ entry_of event x.0 ∷ []) span.after (entry_of event x.0 ∷ [], refl) entered.stands in
+      prefix_trans entered.earlier (entered.earlier ++ entry_of event x.0 ∷ []) span.after (entry_of event x.0 ∷ [], refl) entered.stands in
       record { moment = entered.earlier; begun = entered.begun; seen = seen; holds = holds entered.earlier seen (x.2 ∙ entered.told.1.answer) }
   answered_at (inr s) holds = record { moment = s.moment; begun = s.begun; seen = s.seen; holds = holds s.moment s.seen s.holds.0 }
 

@@ -356,7 +356,14 @@ where
 fn beside_handler<R: Clock + RandomSource + AllocGlobal + Copy>(
     rt: &R,
     time: &Handle,
-) -> io::Result<(Arc<Routes>, http1::Builder<TokioTimer<R>>, Handle, Connections)> {
+) -> io::Result<
+    (
+        Arc<Routes>,
+        http1::Builder<TokioTimer<R>>,
+        Handle,
+        Connections,
+    ),
+> {
     let (routes, connections) = routes_and_connections(rt.alloc())?;
     match timed_builder(rt, time) {
         Ok((http, time)) => Ok((routes, http, time, connections)),
