@@ -820,20 +820,33 @@ def every_figure(folder):
     service.ended()
 
 
+def half_sent(service):
+    """A connection with a request whose body does not end."""
+    it = socket.create_connection(("127.0.0.1", service.port), timeout=30)
+    it.sendall(post(b"/collectors", b"{", 1000))
+    return it
+
+
 def turned_away(folder):
     """Who finds no place is answered so, and counted."""
     service = Service(folder, config([static("n", 1)], connections=64))
     service.is_up()
-    held = [socket.create_connection(("127.0.0.1", service.port), timeout=30) for _ in range(64)]
-    for it in held:
-        it.sendall(post(b"/collectors", b"{", 1000))
-    comes(lambda: service.ask("GET", "/jobs")[0] == 503, 10)
+    held = [half_sent(service) for _ in range(64)]
+
+    def is_full():
+        if service.ask("GET", "/jobs")[0] == 503:
+            return True
+        # (one whose head had not been read yet counted as idle, and gave its place up)
+        held.append(half_sent(service))
+        return False
+
+    full = comes(is_full, 10)
     more = [service.ask("GET", "/jobs") for _ in range(2)]
     for it in held:
         it.close()
-    told = 1 + sum(it == (503, '{"refused":"Busy"}') for it in more)
-    tell("where each place has a body that does not end a further client is told so", told == 3, more)
-    tell("and counted", has(service, "allocd_http_connections_turned_away_total", 3), service.figure("allocd_http_connections_turned_away_total"))
+    tell("where each place has a body that does not end a further client is told so", full and more == [(503, '{"refused":"Busy"}')] * 2, more)
+    counted = comes(lambda: (service.figure("allocd_http_connections_turned_away_total") or 0) >= 3)
+    tell("and counted", counted, service.figure("allocd_http_connections_turned_away_total"))
     ends(service)
 
 
