@@ -833,19 +833,21 @@ def turned_away(folder):
     service.is_up()
     held = [half_sent(service) for _ in range(64)]
 
-    def is_full():
-        if service.ask("GET", "/jobs")[0] == 503:
-            return True
-        # (one whose head had not been read yet counted as idle, and gave its place up)
-        held.append(half_sent(service))
-        return False
+    told = []
 
-    full = comes(is_full, 10)
-    more = [service.ask("GET", "/jobs") for _ in range(2)]
+    def is_told():
+        answer = service.ask("GET", "/jobs")
+        if answer == (503, '{"refused":"Busy"}'):
+            told.append(answer)
+        else:
+            # (one whose head had not been read yet counted as idle and gave its place up, or one that took a last place was cut)
+            held.append(half_sent(service))
+        return len(told) == 2
+
+    tell("where each place has a body that does not end a further client is told so", comes(is_told, 15), told)
     for it in held:
         it.close()
-    tell("where each place has a body that does not end a further client is told so", full and more == [(503, '{"refused":"Busy"}')] * 2, more)
-    counted = comes(lambda: (service.figure("allocd_http_connections_turned_away_total") or 0) >= 3)
+    counted = comes(lambda: (service.figure("allocd_http_connections_turned_away_total") or 0) >= 2)
     tell("and counted", counted, service.figure("allocd_http_connections_turned_away_total"))
     ends(service)
 
