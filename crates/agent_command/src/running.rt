@@ -4,7 +4,7 @@ use crate::places::Places;
 use agent_core::{Agent, Memory};
 use agent_lists::{Shelf, serve_lists};
 use agent_turns::turn;
-use event_loops::{Gate, Times};
+use event_loops::{Gate, Runtime, Times};
 use log::{error, info};
 use logfmt::Logfmt;
 use scrape_client::Lookups;
@@ -15,7 +15,6 @@ use std::random::RandomSource;
 use std::rt::Files;
 use std::sync::atomic::{AtomicBool, Ordering};
 use std::sync::{Arc, Wait};
-use std::thread::Threads;
 use std::time::{Clock, Duration};
 use std::{io, thread};
 
@@ -39,18 +38,7 @@ pub(crate) fn run<R>(
     memory: Memory,
 ) -> io::Result<()>
 where
-    R: Wait
-        + Threads
-        + Clock
-        + Net<Listener = TcpListener, Stream = TcpStream>
-        + Files<File = File>
-        + RandomSource
-        + AllocGlobal
-        + Eprint
-        + Sync
-        + Send
-        + Copy
-        + Drop,
+    R: Runtime + Files<File = File> + Eprint,
 {
     let (gate, shelf) = match shared_of(rt) {
         Ok(found) => found,

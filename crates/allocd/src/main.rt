@@ -6,6 +6,7 @@ mod fleet_session;
 
 use agent_command::agent;
 use command_words::{Asked, read_words};
+use event_loops::Runtime;
 use fleet_session::run_session;
 use log_queue::{Queued, start_log};
 use offline_commands::{
@@ -13,17 +14,12 @@ use offline_commands::{
 };
 use scrape_client::start_lookups;
 use serve_command::{Machine, serve};
-use std::alloc::{AllocGlobal, Global};
+use std::alloc::Global;
 use std::env::Args;
 use std::fs::File;
 use std::io::{ErrorKind, Input};
-use std::net::{Net, TcpListener, TcpStream};
 use std::process::ExitCode;
-use std::random::RandomSource;
 use std::rt::Files;
-use std::sync::Wait;
-use std::thread::Threads;
-use std::time::Clock;
 use std::{env, io};
 
 /// What is told of arguments that are no text.
@@ -78,20 +74,7 @@ fn words_of(alloc: Global, arguments: io::Result<Args>) -> io::Result<Vec<String
 /// Does what the words ask for, unless it is to serve or to be an agent.
 fn run_asked<R>(rt: &R, asked: &Asked<'_>) -> ExitCode
 where
-    R: Wait
-        + Threads
-        + Clock
-        + Net<Listener = TcpListener, Stream = TcpStream>
-        + Files<File = File>
-        + RandomSource
-        + AllocGlobal
-        + Input
-        + Print
-        + Eprint
-        + Sync
-        + Send
-        + Copy
-        + Drop,
+    R: Runtime + Files<File = File> + Input + Print + Eprint,
 {
     let alloc = rt.alloc();
     let mut writer = io::writer(rt);

@@ -8,21 +8,17 @@ use crate::running::Served;
 use alloc_desk::{Closed, Desk, Log, Pass};
 use allocation_core::Core;
 use durable_journal::Device;
-use event_loops::{Gate, Times};
+use event_loops::{Gate, Runtime, Times};
 use file_configs::ReadFiles;
 use http_get::FetchSeveral;
 use kept_journal::{DeskJournal, JournalName, Kept};
 use sd_server::{Handler, ListTexts};
 use service_state::{ConfigPages, ServiceState};
 use service_tasks::{Configuration, Crew, Ending, Journal, Office, Service, Shared, kept_of};
-use std::alloc::{AllocError, AllocGlobal, Global};
+use std::alloc::{AllocError, Global};
 use std::io;
-use std::net::{Net, TcpListener, TcpStream};
-use std::random::RandomSource;
 use std::sync::ledger::{Blank, Ledger};
 use std::sync::{Arc, Mutex, Wait};
-use std::thread::Threads;
-use std::time::Clock;
 
 /// How many passes a desk has: of the server, of the schedule, of the journal's file, and of the refresher.
 pub(crate) const SEATS: u32 = 4;
@@ -40,17 +36,7 @@ pub(crate) fn serve_desk<R, L, B, N, S, F, C>(
     log: Log,
 ) -> io::Result<(Core, Ending)>
 where
-    R: Wait
-        + Threads
-        + Clock
-        + Net<Listener = TcpListener, Stream = TcpStream>
-        + RandomSource
-        + AllocGlobal
-        + Eprint
-        + Sync
-        + Send
-        + Copy
-        + Drop,
+    R: Runtime + Eprint,
     L: Ledger + Send + Sync,
     B: Ledger + Send + Sync,
     N: JournalName + Send + Sync,
@@ -89,17 +75,7 @@ fn serve_open<R, L, B, N, S, F, C>(
     mut passes: Vec<Pass<L, B, N>>,
 ) -> io::Result<(Core, Ending)>
 where
-    R: Wait
-        + Threads
-        + Clock
-        + Net<Listener = TcpListener, Stream = TcpStream>
-        + RandomSource
-        + AllocGlobal
-        + Eprint
-        + Sync
-        + Send
-        + Copy
-        + Drop,
+    R: Runtime + Eprint,
     L: Ledger + Send + Sync,
     B: Ledger + Send + Sync,
     N: JournalName + Send + Sync,
@@ -136,17 +112,7 @@ fn serve_by<R, L, B, N, S, F, C>(
     mut crew: Crew<L, B, N>,
 ) -> io::Result<(Core, Ending)>
 where
-    R: Wait
-        + Threads
-        + Clock
-        + Net<Listener = TcpListener, Stream = TcpStream>
-        + RandomSource
-        + AllocGlobal
-        + Eprint
-        + Sync
-        + Send
-        + Copy
-        + Drop,
+    R: Runtime + Eprint,
     L: Ledger + Send + Sync,
     B: Ledger + Send + Sync,
     N: JournalName + Send + Sync,
@@ -297,17 +263,7 @@ fn run<R, L, B, N, S, F, C>(
     crew: &mut Crew<L, B, N>,
 ) -> io::Result<Ending>
 where
-    R: Wait
-        + Threads
-        + Clock
-        + Net<Listener = TcpListener, Stream = TcpStream>
-        + RandomSource
-        + AllocGlobal
-        + Eprint
-        + Sync
-        + Send
-        + Copy
-        + Drop,
+    R: Runtime + Eprint,
     L: Ledger + Send + Sync,
     B: Ledger + Send + Sync,
     N: JournalName + Send + Sync,
@@ -342,17 +298,7 @@ fn run_over<R, L, B, N, S, F, C>(
     shared: &Shared<R, L, B, N>,
 ) -> io::Result<Ending>
 where
-    R: Wait
-        + Threads
-        + Clock
-        + Net<Listener = TcpListener, Stream = TcpStream>
-        + RandomSource
-        + AllocGlobal
-        + Eprint
-        + Sync
-        + Send
-        + Copy
-        + Drop,
+    R: Runtime + Eprint,
     L: Ledger + Send + Sync,
     B: Ledger + Send + Sync,
     N: JournalName + Send + Sync,

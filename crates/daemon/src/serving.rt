@@ -7,18 +7,15 @@ use crate::one_desk::{SEATS, serve_desk};
 use alloc_desk::Log;
 use allocation_core::Core;
 use durable_journal::{Archive, Device};
+use event_loops::Runtime;
 use file_configs::ReadFiles;
 use http_get::FetchSeveral;
 use service_tasks::{Configuration, Ending, Journal, Office, Service, continued};
-use std::alloc::{AllocGlobal, Global};
+use std::alloc::Global;
 use std::io;
 use std::marker::Brand;
-use std::net::{Net, TcpListener, TcpStream};
-use std::random::RandomSource;
-use std::sync::Wait;
+use std::net::TcpListener;
 use std::sync::ledger::Blank;
-use std::thread::Threads;
-use std::time::Clock;
 
 /// Serves over an allocator with its journal until the service is to end, and gives the allocator back as it is then. The file of the journal
 /// leads to the allocator. The archive begins the journals after it: over each desk that is opened in between, the file that is written behind
@@ -35,17 +32,7 @@ pub fn serve<R, S, F, A, C>(
     core: Core,
 ) -> io::Result<Core>
 where
-    R: Wait
-        + Threads
-        + Clock
-        + Net<Listener = TcpListener, Stream = TcpStream>
-        + RandomSource
-        + AllocGlobal
-        + Eprint
-        + Sync
-        + Send
-        + Copy
-        + Drop,
+    R: Runtime + Eprint,
     S: FetchSeveral + ReadFiles + Send + Drop,
     F: Device + Send + Drop,
     A: Archive<F>,
@@ -86,17 +73,7 @@ fn serve_desks<R, S, F, A, C>(
     core: Core,
 ) -> io::Result<Core>
 where
-    R: Wait
-        + Threads
-        + Clock
-        + Net<Listener = TcpListener, Stream = TcpStream>
-        + RandomSource
-        + AllocGlobal
-        + Eprint
-        + Sync
-        + Send
-        + Copy
-        + Drop,
+    R: Runtime + Eprint,
     S: FetchSeveral + ReadFiles + Send + Drop,
     F: Device + Send + Drop,
     A: Archive<F>,
@@ -125,17 +102,7 @@ fn serve_once<R, S, F, C>(
     core: Core,
 ) -> io::Result<(Core, Ending)>
 where
-    R: Wait
-        + Threads
-        + Clock
-        + Net<Listener = TcpListener, Stream = TcpStream>
-        + RandomSource
-        + AllocGlobal
-        + Eprint
-        + Sync
-        + Send
-        + Copy
-        + Drop,
+    R: Runtime + Eprint,
     S: FetchSeveral + ReadFiles + Send + Drop,
     F: Device + Send + Drop,
     C: Configuration + Send + Drop,

@@ -3,7 +3,7 @@ use crate::handler::Handler;
 use crate::service::{AllocatorService, shared_routes};
 use crate::spoken::Spoken;
 use bytes::Bytes;
-use event_loops::{Connections, Exchanges, Gate, Limits, Paced, Serving, Socket, Timed, serve_all};
+use event_loops::{Connections, Exchanges, Gate, Limits, Paced, Runtime, Serving, Socket, Timed, serve_all};
 use http_body_util::Full;
 use hyper::rt::TokioTimer;
 use hyper::server::conn::http1;
@@ -16,7 +16,6 @@ use std::random::RandomSource;
 use std::rc::Rc;
 use std::sync::ledger::Ledger;
 use std::sync::{Arc, Wait};
-use std::thread::Threads;
 use std::time::{Clock, Duration};
 use std::{io, thread};
 use tokio::runtime::LocalRuntime;
@@ -217,16 +216,7 @@ pub fn serve_by_loops<
     handler: &Handler<R, L, B, N>,
 ) -> io::Result<()>
 where
-    R: Wait
-        + Threads
-        + Clock
-        + Net<Listener = TcpListener, Stream = TcpStream>
-        + RandomSource
-        + AllocGlobal
-        + Sync
-        + Send
-        + Copy
-        + Drop,
+    R: Runtime,
 {
     let ended = thread::map_indices(
         rt,

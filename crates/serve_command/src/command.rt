@@ -9,6 +9,7 @@ use crate::not_followed::{told_valid, warn_of};
 use crate::running::serve_journal;
 use crate::standard_streams::hold_streams;
 use command_words::{ServeOptions, VERSION};
+use event_loops::Runtime;
 use journal_files::{Fault, is_same_file};
 use log::{error, info};
 use log_queue::LogQueue;
@@ -133,19 +134,7 @@ fn serve_by<R>(
     lost_lines: &Arc<AtomicU64>,
 ) -> Result<(), Fault>
 where
-    R: Wait
-        + Threads
-        + Clock
-        + Net<Listener = TcpListener, Stream = TcpStream>
-        + Files<File = File>
-        + RandomSource
-        + AllocGlobal
-        + Print
-        + Eprint
-        + Sync
-        + Send
-        + Copy
-        + Drop,
+    R: Runtime + Files<File = File> + Print + Eprint,
 {
     let document = read_document(rt, rt.alloc(), options.config)?;
     match service_of(rt.alloc(), options.config, document.as_slice(), lost_lines) {
@@ -177,19 +166,7 @@ fn serve_service<R>(
     service: Service,
 ) -> Result<(), Fault>
 where
-    R: Wait
-        + Threads
-        + Clock
-        + Net<Listener = TcpListener, Stream = TcpStream>
-        + Files<File = File>
-        + RandomSource
-        + AllocGlobal
-        + Print
-        + Eprint
-        + Sync
-        + Send
-        + Copy
-        + Drop,
+    R: Runtime + Files<File = File> + Print + Eprint,
 {
     let mut service = service;
     match places_of(rt, options, &mut service) {
@@ -243,19 +220,7 @@ fn serve_at<R>(
     journal: Option<String>,
 ) -> Result<(), Fault>
 where
-    R: Wait
-        + Threads
-        + Clock
-        + Net<Listener = TcpListener, Stream = TcpStream>
-        + Files<File = File>
-        + RandomSource
-        + AllocGlobal
-        + Print
-        + Eprint
-        + Sync
-        + Send
-        + Copy
-        + Drop,
+    R: Runtime + Files<File = File> + Print + Eprint,
 {
     log_begin(rt, options.config, &journal, &service);
     let mut service = service;

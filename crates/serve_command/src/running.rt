@@ -2,6 +2,7 @@
 use crate::configuration::ConfigurationFile;
 use crate::devices::Devices;
 use allocation_core::Core;
+use event_loops::Runtime;
 use journal_files::{Disk, Fault, Journals, Opened, open_allocator};
 use kept_journal::JournalFile;
 use log::{error, info, warn};
@@ -10,11 +11,8 @@ use service_tasks::{Journal, Service};
 use std::alloc::{AllocError, AllocGlobal, Global};
 use std::fs::File;
 use std::io;
-use std::net::{Net, SocketAddr, TcpListener, TcpStream};
-use std::random::RandomSource;
+use std::net::{SocketAddr, TcpListener};
 use std::rt::Files;
-use std::sync::Wait;
-use std::thread::Threads;
 use std::time::Clock;
 
 /// Serves over the allocator that the journal at a path leads to, where there is a path.
@@ -28,19 +26,7 @@ pub(crate) fn serve_journal<R>(
     journal: Option<String>,
 ) -> Result<(), Fault>
 where
-    R: Wait
-        + Threads
-        + Clock
-        + Net<Listener = TcpListener, Stream = TcpStream>
-        + Files<File = File>
-        + RandomSource
-        + AllocGlobal
-        + Print
-        + Eprint
-        + Sync
-        + Send
-        + Copy
-        + Drop,
+    R: Runtime + Files<File = File> + Print + Eprint,
 {
     match open_journals(rt, alloc, &service, &journal) {
         Ok((opened, mut journals)) => {
@@ -147,19 +133,7 @@ fn serve_opened<R>(
     opened: Opened<Disk>,
 ) -> io::Result<Core>
 where
-    R: Wait
-        + Threads
-        + Clock
-        + Net<Listener = TcpListener, Stream = TcpStream>
-        + Files<File = File>
-        + RandomSource
-        + AllocGlobal
-        + Print
-        + Eprint
-        + Sync
-        + Send
-        + Copy
-        + Drop,
+    R: Runtime + Files<File = File> + Print + Eprint,
 {
     let Opened {
         core,

@@ -10,6 +10,7 @@ use admission::Admission;
 use alloc_desk::{Desk, DeskName, Log, Pass};
 use allocation_core::Core;
 use collector_pool::Open;
+use event_loops::Runtime;
 use kept_journal::JournalName;
 use lists::Text;
 use sd_documents::scrape_configs_text;
@@ -23,7 +24,6 @@ use std::random::RandomSource;
 use std::sync::atomic::{AtomicBool, Ordering};
 use std::sync::ledger::{Blank, Ledger};
 use std::sync::{Arc, Mutex, Wait};
-use std::thread::Threads;
 use std::time::Clock;
 use std::{io, thread};
 use tokio::runtime::LocalRuntime;
@@ -44,16 +44,7 @@ pub(crate) fn run_over_desk<R, L, B, N>(
     text: &mut Vec<u8>,
 ) -> Result<(), Halt>
 where
-    R: Wait
-        + Threads
-        + Clock
-        + Net<Listener = TcpListener, Stream = TcpStream>
-        + RandomSource
-        + AllocGlobal
-        + Sync
-        + Send
-        + Copy
-        + Drop,
+    R: Runtime,
     L: Ledger + Send + Sync,
     B: Ledger + Send + Sync,
     N: JournalName + Send + Sync,
@@ -82,16 +73,7 @@ fn run_open<R, L, B, N>(
     text: &mut Vec<u8>,
 ) -> Result<(), Halt>
 where
-    R: Wait
-        + Threads
-        + Clock
-        + Net<Listener = TcpListener, Stream = TcpStream>
-        + RandomSource
-        + AllocGlobal
-        + Sync
-        + Send
-        + Copy
-        + Drop,
+    R: Runtime,
     L: Ledger + Send + Sync,
     B: Ledger + Send + Sync,
     N: JournalName + Send + Sync,
@@ -130,16 +112,7 @@ fn run_by<R, L, B, N>(
     text: &mut Vec<u8>,
 ) -> Result<(), Halt>
 where
-    R: Wait
-        + Threads
-        + Clock
-        + Net<Listener = TcpListener, Stream = TcpStream>
-        + RandomSource
-        + AllocGlobal
-        + Sync
-        + Send
-        + Copy
-        + Drop,
+    R: Runtime,
     L: Ledger + Send + Sync,
     B: Ledger + Send + Sync,
     N: JournalName + Send + Sync,
@@ -260,16 +233,7 @@ fn run<R, L, B, N>(
     text: &mut Vec<u8>,
 ) -> Result<Vec<u8>, Halt>
 where
-    R: Wait
-        + Threads
-        + Clock
-        + Net<Listener = TcpListener, Stream = TcpStream>
-        + RandomSource
-        + AllocGlobal
-        + Sync
-        + Send
-        + Copy
-        + Drop,
+    R: Runtime,
     L: Ledger + Send + Sync,
     B: Ledger + Send + Sync,
     N: JournalName + Send + Sync,
@@ -298,16 +262,7 @@ fn ask<R, L, B, N>(
     paths: &[Text],
 ) -> Result<Vec<u8>, Halt>
 where
-    R: Wait
-        + Threads
-        + Clock
-        + Net<Listener = TcpListener, Stream = TcpStream>
-        + RandomSource
-        + AllocGlobal
-        + Sync
-        + Send
-        + Copy
-        + Drop,
+    R: Runtime,
     L: Ledger + Send + Sync,
     B: Ledger + Send + Sync,
     N: JournalName + Send + Sync,
@@ -333,16 +288,7 @@ fn ask_over<R, L, B, N>(
     paths: &[Text],
 ) -> Result<Vec<u8>, Halt>
 where
-    R: Wait
-        + Threads
-        + Clock
-        + Net<Listener = TcpListener, Stream = TcpStream>
-        + RandomSource
-        + AllocGlobal
-        + Sync
-        + Send
-        + Copy
-        + Drop,
+    R: Runtime,
     L: Ledger + Send + Sync,
     B: Ledger + Send + Sync,
     N: JournalName + Send + Sync,
