@@ -7,8 +7,7 @@ use std::thread::Threads;
 use std::time::Clock;
 
 /// What a service takes of the machine that it runs on: threads that wait for one another, clocks, sockets, chance and memory.
-pub trait Runtime:
-    Wait
+pub trait Runtime: Wait
     + Threads
     + Clock
     + Net<Listener = TcpListener, Stream = TcpStream>
@@ -17,11 +16,10 @@ pub trait Runtime:
     + Sync
     + Send
     + Copy
-    + Drop
-{
-}
+    + Drop {}
 
-impl<R> Runtime for R where
+impl<R> Runtime for R
+where
     R: Wait
         + Threads
         + Clock
@@ -31,6 +29,5 @@ impl<R> Runtime for R where
         + Sync
         + Send
         + Copy
-        + Drop
-{
-}
+        + Drop,
+{}

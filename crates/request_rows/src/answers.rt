@@ -1,6 +1,7 @@
 //! What is to be answered, by its name.
 use crate::numbers::{first_word, large, number};
 use bytes::Bytes;
+use entity_tags::TaggedText;
 use fleet_events::{Answer, Refusal};
 use lists::Text;
 use sd_routes::{ListHead, Notice, Place, RequestError, Said};
@@ -34,6 +35,7 @@ fn served(alloc: Global, text: &str) -> Result<Said, AllocError> {
 fn list(alloc: Global, left_out: Option<u32>, text: &str) -> Result<Said, AllocError> {
     let (head, groups) = head(left_out, text);
     let groups = Bytes::from_string(String::from_str(alloc, groups)?)?;
+    let groups = TaggedText::untagged(groups);
     Ok(Said::List { head, groups })
 }
 

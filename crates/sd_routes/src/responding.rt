@@ -12,6 +12,7 @@ use crate::misshapen::misshapen_page;
 use crate::notice::Notice;
 use crate::request_error::RequestError;
 use bytes::Bytes;
+use entity_tags::TaggedText;
 use fleet_events::{Answer, Refusal, Round};
 use http::header::{
     ALLOW, CONNECTION, CONTENT_SECURITY_POLICY, CONTENT_TYPE, HeaderName, HeaderValue, VARY,
@@ -43,7 +44,7 @@ pub enum Said {
     List {
         head: ListHead,
         /// The list of groups, as its JSON text.
-        groups: Bytes,
+        groups: TaggedText,
     },
     /// The request is refused without an answer of the allocator.
     Refused(RequestError),
@@ -179,13 +180,13 @@ fn response(
 /// The response of a head, if there was memory for it, and a list.
 fn list_response(
     head: Result<Parts, AllocError>,
-    groups: Bytes,
+    groups: TaggedText,
 ) -> Result<Response<Full<Bytes>>, AllocError>
     ensures memory { IfOk result (λ r. IsOk head) }
     ensures says { IfOk result (λ r. IfOk head (λ h. IsResponse h.status h.headers groups r)) }
 {
     match head {
-        Ok(head) => Ok(response_with(head, groups)),
+        Ok(head) => Ok(response_with(head, groups.into_text())),
         Err(refused) => {
             drop(groups);
             Err(refused)

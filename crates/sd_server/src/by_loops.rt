@@ -3,7 +3,9 @@ use crate::handler::Handler;
 use crate::service::{AllocatorService, shared_routes};
 use crate::spoken::Spoken;
 use bytes::Bytes;
-use event_loops::{Connections, Exchanges, Gate, Limits, Paced, Runtime, Serving, Socket, Timed, serve_all};
+use event_loops::{
+    Connections, Exchanges, Gate, Limits, Paced, Runtime, Serving, Socket, Timed, serve_all,
+};
 use http_body_util::Full;
 use hyper::rt::TokioTimer;
 use hyper::server::conn::http1;

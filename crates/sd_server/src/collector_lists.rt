@@ -20,6 +20,7 @@ use crate::seen::Seen;
 use alloc_desk::Front;
 use allocation_core::{Answer, Core, Event, Refusal};
 use bytes::Bytes;
+use entity_tags::TaggedText;
 use fleet_events::{AllocationNumber, CollectorId, Round, TargetId};
 use kept_journal::JournalName;
 use lists::{List, Plain, Text};
@@ -445,7 +446,7 @@ impl<R: Wait + Clock + Copy, L: Ledger, B: Ledger, N: JournalName> Handler<R, L,
         place: usize,
         head: &ListHead,
         targets: &[TargetId],
-    ) -> Result<Bytes, AllocError>
+    ) -> Result<TaggedText, AllocError>
         ensures text { IfOk result (IsListText seen.new at.now job.now head.now place targets.now) }
         ensures moves { Moves seen.old seen.new }
     {
@@ -464,12 +465,12 @@ impl<R: Wait + Clock + Copy, L: Ledger, B: Ledger, N: JournalName> Handler<R, L,
         place: usize,
         head: &ListHead,
         targets: &[TargetId],
-    ) -> Result<Bytes, AllocError>
+    ) -> Result<TaggedText, AllocError>
         ensures text { IfOk result (IsListText seen.new (Some at.now) job.now head.now place targets.now) }
         ensures moves { Moves seen.old seen.new }
     {
         let groups = self.groups(seen, place, head.collector, head.allocation, targets)?;
-        acknowledged_list(self.alloc, at, job, head, groups.as_slice())
+        Ok(TaggedText::untagged(acknowledged_list(self.alloc, at, job, head, groups.as_slice())?))
     }
 
     /// The text of these targets of a collector in an allocation.
@@ -480,7 +481,7 @@ impl<R: Wait + Clock + Copy, L: Ledger, B: Ledger, N: JournalName> Handler<R, L,
         collector: CollectorId,
         allocation: AllocationNumber,
         held: &[TargetId],
-    ) -> Result<Bytes, AllocError>
+    ) -> Result<TaggedText, AllocError>
         ensures text { IfOk result (IsGroups seen.new place held.now) }
         ensures moves { Moves seen.old seen.new }
     {
@@ -501,7 +502,7 @@ impl<R: Wait + Clock + Copy, L: Ledger, B: Ledger, N: JournalName> Handler<R, L,
         collector: CollectorId,
         allocation: AllocationNumber,
         held: &[TargetId],
-    ) -> Result<Bytes, AllocError>
+    ) -> Result<TaggedText, AllocError>
         ensures text { IfOk result (IsGroups seen.new place held.now) }
         ensures moves { Moves seen.old seen.new }
     {
@@ -518,7 +519,7 @@ impl<R: Wait + Clock + Copy, L: Ledger, B: Ledger, N: JournalName> Handler<R, L,
         collector: CollectorId,
         allocation: AllocationNumber,
         held: &[TargetId],
-        text: &Bytes,
+        text: &TaggedText,
     )
         requires { AreGroups place held.now text.now (now_of seen.now) }
     {
@@ -535,11 +536,11 @@ impl<R: Wait + Clock + Copy, L: Ledger, B: Ledger, N: JournalName> Handler<R, L,
         front: &Front<N>,
         place: usize,
         held: &[TargetId],
-        text: &Bytes,
+        text: &TaggedText,
     ) -> Result<Arc<ListText<N>>, AllocError>
         requires { AreGroups place held.now text.now (history_of N.opening front.now) }
     {
-        let text = ListText::new(self.alloc, front, place, held, text.clone()?)?;
+        let text = ListText::new(self.alloc, front, place, held, text.again()?)?;
         Ok(Arc::new(self.alloc, text)?)
     }
 
@@ -549,7 +550,7 @@ impl<R: Wait + Clock + Copy, L: Ledger, B: Ledger, N: JournalName> Handler<R, L,
         seen: &mut Seen<N>,
         place: usize,
         held: &[TargetId],
-    ) -> Result<Bytes, AllocError>
+    ) -> Result<TaggedText, AllocError>
         ensures text { IfOk result (λ t. AreGroups place held.now t (now_of seen.new)) }
         ensures moves { Moves seen.old seen.new }
     {
@@ -564,12 +565,13 @@ impl<R: Wait + Clock + Copy, L: Ledger, B: Ledger, N: JournalName> Handler<R, L,
         seen: &mut Seen<N>,
         place: usize,
         held: &[TargetId],
-    ) -> Result<Bytes, AllocError>
+    ) -> Result<TaggedText, AllocError>
         ensures text { IfOk result (λ t. t ≡ groups_text place held.now (now_of seen.new)) }
         ensures moves { Moves seen.old seen.new }
     {
         let targets = self.numbered(seen, place, held)?;
-        Bytes::from_string(targets_page(self.alloc, targets.as_slice())?.into_string())
+        let page = targets_page(self.alloc, targets.as_slice())?;
+        TaggedText::tagged(self.alloc, Bytes::from_string(page.into_string())?)
     }
 
     fn are_known(&self, seen: &mut Seen<N>, held: &[TargetId]) -> bool
