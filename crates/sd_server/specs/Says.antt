@@ -166,16 +166,16 @@ SaysCopy text said = (said ≡ Page text) ⊎ (said ≡ Refused Memory)
 abbrev pub SaysGone : Span → Said → Type 0
 SaysGone span said = (said ≡ Answered (Not UnknownCollector)) ⊎ (SaysCopy (codes "[]") said ⊎ SaysNoAnswer span said)
 
--- what a collector is told of a job: it takes, or is served, or looks
-abbrev pub SaysList : Span → Option (List ℕ) → ℕ → List ℕ → ℕ → Said → Type 0
-SaysList span at place job id said =
-    SaysGiven span at job place id (Take id) said ⊎ (SaysServed span at job place id said ⊎ SaysLook span place job id said)
+-- what a collector is told of a job: it takes, or is served; or it only looks
+abbrev pub SaysList : Span → Option (List ℕ) → ℕ → List ℕ → ℕ → Bool → Said → Type 0
+SaysList span at place job id true said = SaysGiven span at job place id (Take id) said ⊎ SaysServed span at job place id said
+SaysList span at place job id false said = SaysLook span place job id said
 
 -- nobody has the name, or its collector has a list
-unfoldable pub SaysHeld : Span → Option (List ℕ) → ℕ → List ℕ → List ℕ → Said → Type 0
-SaysHeld span at place job name said =
+unfoldable pub SaysHeld : Span → Option (List ℕ) → ℕ → List ℕ → List ℕ → Bool → Said → Type 0
+SaysHeld span at place job name takes said =
     (OfSome span (λ h. id_named h.state.fleet.collectors name ≡ None) × SaysGone span said)
-    ⊎ ((id : ℕ) × OfSome span (λ h. id_named h.state.fleet.collectors name ≡ Some id) × SaysList span at place job id said)
+    ⊎ ((id : ℕ) × OfSome span (λ h. id_named h.state.fleet.collectors name ≡ Some id) × SaysList span at place job id takes said)
 
 -- a page, unless memory ran out
 abbrev pub SaysText : Span → (History → List ℕ) → Said → Type 0
@@ -188,9 +188,9 @@ abbrev pub SaysJob : Span → List ℕ → Option ℕ → Said → Type 0
 SaysJob span job None said = said ≡ Answered (Not UnknownJob)
 SaysJob span job (Some place) said = SaysText span (job_text job place) said
 
-abbrev pub SaysCollector : Span → Option (List ℕ) → List ℕ → List ℕ → Option ℕ → Said → Type 0
-SaysCollector span at job name None said = said ≡ Answered (Not UnknownJob)
-SaysCollector span at job name (Some place) said = SaysHeld span at place job name said
+abbrev pub SaysCollector : Span → Option (List ℕ) → List ℕ → List ℕ → Bool → Option ℕ → Said → Type 0
+SaysCollector span at job name takes None said = said ≡ Answered (Not UnknownJob)
+SaysCollector span at job name takes (Some place) said = SaysHeld span at place job name takes said
 
 -- what a collector is told that follows a list: no figures, or that there is no such path where no list is acknowledged
 abbrev pub SaysAcknowledged : Option (List ℕ) → Said → Type 0
@@ -348,7 +348,7 @@ SaysPage span pages ask.Status said = SaysDocument said
 SaysPage span pages (ask.Uncovered job) said = SaysUncovered (place_of job pages.names) said
 SaysPage span pages (ask.Job job) said = SaysOneJob job (place_of job pages.names) said
 SaysPage span pages (ask.JobTargets job) said = SaysJob span job (place_of job pages.names) said
-SaysPage span pages (ask.CollectorTargets job name takes) said = SaysCollector span pages.acknowledge job name (place_of job pages.names) said
+SaysPage span pages (ask.CollectorTargets job name takes) said = SaysCollector span pages.acknowledge job name takes (place_of job pages.names) said
 SaysPage span pages ask.Collectors said = SaysCollectors said
 SaysPage span pages (ask.Collector which) said = SaysCollectorPage span which said
 SaysPage span pages (ask.FindTargets text) said = SaysFound said

@@ -1,5 +1,5 @@
 //! The lists that collectors ask for.
-ghost use Rattle.std.specs.Prelude.{◌≡◌, ◌<◌, Some, IfOk, IfErr, IfSome, IsTrue, All, codes, length};
+ghost use Rattle.std.specs.Prelude.{◌≡◌, ◌<◌, true, false, Some, IfOk, IfErr, IfSome, IsTrue, All, codes, length};
 ghost use Rattle.std.specs.Arc.{arc_value};
 ghost use Rattle.fleet.specs.Fleet.{id_named};
 ghost use Rattle.fleet_events.specs.declared.event.Event.TheVariants.{Serve, Take};
@@ -41,7 +41,7 @@ impl<R: Wait + Clock + Copy, L: Ledger, B: Ledger, N: JournalName> Handler<R, L,
         name: &CollectorName,
         takes: bool,
     ) -> Said
-        ensures says { SaysCollector seen.new (arc_value self.now.pages).acknowledge job.now name.now (place_of job.now (arc_value self.now.pages).names) result }
+        ensures says { SaysCollector seen.new (arc_value self.now.pages).acknowledge job.now name.now takes (place_of job.now (arc_value self.now.pages).names) result }
         ensures moves { Moves seen.old seen.new }
     {
         let Some(place) = self.pages.place(job.as_str()) else {
@@ -59,7 +59,7 @@ impl<R: Wait + Clock + Copy, L: Ledger, B: Ledger, N: JournalName> Handler<R, L,
         name: &str,
         takes: bool,
     ) -> Said
-        ensures says { SaysHeld seen.new (arc_value self.now.pages).acknowledge place job.now name.now result }
+        ensures says { SaysHeld seen.new (arc_value self.now.pages).acknowledge place job.now name.now takes result }
         ensures moves { Moves seen.old seen.new }
     {
         if takes {
@@ -71,7 +71,7 @@ impl<R: Wait + Clock + Copy, L: Ledger, B: Ledger, N: JournalName> Handler<R, L,
 
     #[tactic(auto, using(crate::proofs::SpanLemmas::moves_trans), unfolding(crate::specs::Says::SaysHeld))]
     fn held(&self, seen: &mut Seen<N>, place: usize, job: &Text, name: &str) -> Said
-        ensures says { SaysHeld seen.new (arc_value self.now.pages).acknowledge place job.now name.now result }
+        ensures says { SaysHeld seen.new (arc_value self.now.pages).acknowledge place job.now name.now true result }
         ensures moves { Moves seen.old seen.new }
     {
         match self.named(seen, name) {
@@ -102,7 +102,7 @@ impl<R: Wait + Clock + Copy, L: Ledger, B: Ledger, N: JournalName> Handler<R, L,
         name: &str,
         id: CollectorId,
     ) -> Said
-        ensures says { SaysList seen.new (arc_value self.now.pages).acknowledge place job.now id result }
+        ensures says { SaysList seen.new (arc_value self.now.pages).acknowledge place job.now id true result }
         ensures moves { Moves seen.old seen.new }
     {
         if !self.state.is_ordered() {
@@ -388,7 +388,7 @@ impl<R: Wait + Clock + Copy, L: Ledger, B: Ledger, N: JournalName> Handler<R, L,
     /// What is shown to who only looks, and takes nothing.
     #[tactic(auto, using(crate::proofs::SpanLemmas::moves_trans), unfolding(crate::specs::Says::SaysHeld))]
     fn looked(&self, seen: &mut Seen<N>, place: usize, job: &Text, name: &str) -> Said
-        ensures says { SaysHeld seen.new (arc_value self.now.pages).acknowledge place job.now name.now result }
+        ensures says { SaysHeld seen.new (arc_value self.now.pages).acknowledge place job.now name.now false result }
         ensures moves { Moves seen.old seen.new }
     {
         match self.named(seen, name) {

@@ -75,7 +75,8 @@ pub struct Handler<R, L: Ledger, B: Ledger, N: JournalName> {
 impl<R: Wait + Clock + Copy, L: Ledger, B: Ledger, N: JournalName> Handler<R, L, B, N> {
     /// Another for the same desk and the same pass.
     pub fn another(&self) -> Result<Handler<R, L, B, N>, AllocError>
-        ensures { IfOk result (λ h. (arc_value h.pages ≡ arc_value self.now.pages) × (IsSome self.now.kept → IsSome h.kept)) }
+        ensures same { IfOk result (λ h. (arc_value h.pages ≡ arc_value self.now.pages) × (IsSome self.now.kept → IsSome h.kept)) }
+        ensures epoch { IfOk result (λ h. h.epoch ≡ self.now.epoch) }
     {
         let time = self.timers()?;
         match self.same_gate() {
@@ -93,7 +94,8 @@ impl<R: Wait + Clock + Copy, L: Ledger, B: Ledger, N: JournalName> Handler<R, L,
         time: Option<Handle>,
         gate: Option<Arc<Gate>>,
     ) -> Result<Handler<R, L, B, N>, AllocError>
-        ensures { IfOk result (λ h. (arc_value h.pages ≡ arc_value self.now.pages) × (IsSome self.now.kept → IsSome h.kept)) }
+        ensures same { IfOk result (λ h. (arc_value h.pages ≡ arc_value self.now.pages) × (IsSome self.now.kept → IsSome h.kept)) }
+        ensures epoch { IfOk result (λ h. h.epoch ≡ self.now.epoch) }
     {
         let (desk, pass) = match self.same_desk() {
             Ok(same) => same,
@@ -183,7 +185,10 @@ impl<R: Wait + Clock + Copy, L: Ledger, B: Ledger, N: JournalName> Handler<R, L,
         &self,
         time: &Handle,
         gate: &Arc<Gate>,
-    ) -> Result<Handler<R, L, B, N>, AllocError> {
+    ) -> Result<Handler<R, L, B, N>, AllocError>
+        ensures same { IfOk result (λ h. (arc_value h.pages ≡ arc_value self.now.pages) × (IsSome self.now.kept → IsSome h.kept)) }
+        ensures epoch { IfOk result (λ h. h.epoch ≡ self.now.epoch) }
+    {
         let time = time.clone()?;
         match Arc::try_clone(gate) {
             Ok(gate) => self.with(Some(time), Some(gate)),

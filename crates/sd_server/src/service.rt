@@ -1,5 +1,5 @@
 //! The service that a connection calls for each request.
-ghost use Rattle.std.specs.Prelude.{◌≡◌, []};
+ghost use Rattle.std.specs.Prelude.{◌≡◌, [], IfOk, IsSome};
 ghost use Rattle.std.specs.Arc.{arc_value};
 ghost use Rattle.http.specs.Request as request;
 ghost use Rattle.http_uri.specs.Uri.{uri_path, uri_query};
@@ -57,7 +57,10 @@ impl<R: Wait + Clock + Copy, L: Ledger, B: Ledger, N: JournalName> AllocatorServ
         handler: &Handler<R, L, B, N>,
         routes: &Arc<Routes>,
         peer: Option<SocketAddr>,
-    ) -> Result<AllocatorService<R, L, B, N>, AllocError> {
+    ) -> Result<AllocatorService<R, L, B, N>, AllocError>
+        ensures same { IfOk result (λ s. (arc_value s.handler.pages ≡ arc_value handler.now.pages) × (IsSome handler.now.kept → IsSome s.handler.kept)) }
+        ensures epoch { IfOk result (λ s. s.handler.epoch ≡ handler.now.epoch) }
+    {
         let routes = Arc::try_clone(routes)?;
         match handler.another() {
             Ok(mut handler) => {

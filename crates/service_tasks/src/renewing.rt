@@ -1,5 +1,5 @@
 //! What comes between one desk and the next: what nobody needs is forgotten, another journal begins, another configuration is followed.
-ghost use Rattle.std.specs.Prelude.{◌≡◌, IfOk, IfSome, OnOk, Some, true};
+ghost use Rattle.std.specs.Prelude.{◌≡◌, IfOk, IfSome, IsSome, OnOk, Some, true};
 ghost use Rattle.durable_journal.specs.Beginnings.{Opens};
 ghost use Rattle.kept_journal.specs.Keeping.{IsOf, IsOfService};
 ghost use Rattle.service_tasks.specs.Later.{IsLater, IsRenewed};
@@ -40,6 +40,7 @@ where
     requires { IsOfService F.tells F.contents core office.old.journal.file }
     ensures later { IfOk result (IsLater core) }
     ensures file { IfOk result (λ c. IsOfService F.tells F.contents c office.new.journal.file) }
+    ensures stays { IsSome office.old.journal.file → IsSome office.new.journal.file }
 {
     if office.is_broken() {
         office.stay(rt);
@@ -81,6 +82,7 @@ where
     requires { IsOfService F.tells F.contents core office.old.journal.file }
     ensures later { IfOk result (IsLater core) }
     ensures file { IfOk result (λ c. IsOfService F.tells F.contents c office.new.journal.file) }
+    ensures stays { IsSome office.old.journal.file → IsSome office.new.journal.file }
 {
     let Ok((jobs, report_rounds, sources)) = parts_of(alloc, &next) else {
         drop(next);
@@ -196,6 +198,7 @@ fn under<R: Clock + Eprint + Copy, F: Device + Drop, A: Archive<F>>(
     requires { IsOfService F.tells F.contents core journal.old.file }
     ensures later { IfOk result (λ r. IsLater core r.0) }
     ensures file { IfOk result (λ r. IsOfService F.tells F.contents r.0 journal.new.file) }
+    ensures stays { IsSome journal.old.file → IsSome journal.new.file }
 {
     let is_same = core.report_rounds().count() == report_rounds.count();
     if is_same && are_jobs_of(core.fleet().jobs(), service.jobs()) {
@@ -229,6 +232,7 @@ fn renewed<R: Clock + Eprint + Copy, F: Device + Drop, A: Archive<F>>(
     requires { IsOfService F.tells F.contents core journal.old.file }
     ensures later { IfOk result (IsLater core) }
     ensures file { IfOk result (λ c. IsOfService F.tells F.contents c journal.new.file) }
+    ensures stays { IsSome journal.old.file → IsSome journal.new.file }
 {
     let Ok(jobs) = copied_jobs(alloc, &core) else {
         log_warning(rt, "no memory to renew the allocator");
@@ -266,6 +270,7 @@ fn renewed_under<R: Clock + Eprint + Copy, F: Device + Drop, A: Archive<F>>(
     requires { IsOfService F.tells F.contents core journal.old.file }
     ensures later { IfOk result (λ r. IsLater core r.0) }
     ensures file { IfOk result (λ r. IsOfService F.tells F.contents r.0 journal.new.file) }
+    ensures stays { IsSome journal.old.file → IsSome journal.new.file }
 {
     // (its pairs ascend)
     let _pairs = core.allocation().len();
@@ -297,7 +302,8 @@ fn begin_journal<R: Clock + Eprint + Copy, F: Device + Drop, A: Archive<F>>(
     core: &Core,
 ) -> io::Result<()>
     requires { IsRenewed core.now }
-    ensures { OnOk result (IsOfService F.tells F.contents core.now journal.new.file) }
+    ensures file { OnOk result (IsOfService F.tells F.contents core.now journal.new.file) }
+    ensures stays { IsSome journal.old.file → IsSome journal.new.file }
 {
     let Some(file) = &mut journal.file else {
         return Ok(());
