@@ -7,12 +7,13 @@ use lists::Text;
 use sd_routes::{ListHead, Notice, Place, RequestError, Said};
 use std::alloc::{AllocError, Global};
 
-/// What a text says: `answer ANSWER`, `refused NAME`, `page TEXT`, `taken HEAD GROUPS`, `served LEFT HEAD GROUPS`, `metrics TEXT`, `document TEXT`,
+/// What a text says: `answer ANSWER`, `refused NAME`, `page TEXT`, `nothing`, `taken HEAD GROUPS`, `served LEFT HEAD GROUPS`, `metrics TEXT`, `document TEXT`,
 /// `misshapen MEMBER`, `reloaded TEXT` or `notice NAME`. HEAD is `ALLOCATION ROUND COLLECTOR EPOCH AGE LENGTH`.
 pub(crate) fn said_in(alloc: Global, text: &str) -> Result<Option<Said>, AllocError> {
     let (word, rest) = first_word(text);
     match word {
         "page" => Ok(Some(Said::Page(Text::from_str(alloc, rest)?))),
+        "nothing" => Ok(Some(Said::Nothing)),
         "metrics" => Ok(Some(Said::Metrics(Text::from_str(alloc, rest)?))),
         "document" => Ok(Some(Said::Document(Text::from_str(alloc, rest)?))),
         "misshapen" => Ok(Some(Said::Misshapen(Text::from_str(alloc, rest)?))),

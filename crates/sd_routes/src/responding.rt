@@ -46,6 +46,8 @@ pub enum Said {
         /// The list of groups, as its JSON text.
         groups: TaggedText,
     },
+    /// The empty list of a job: whoever asks under the name of a collector that left has nothing to scrape of it.
+    Nothing,
     /// The request is refused without an answer of the allocator.
     Refused(RequestError),
     /// The request's body is not of the documented shape, at this member.
@@ -105,6 +107,7 @@ fn response_of(alloc: Global, said: Said) -> Result<Response<Full<Bytes>>, Alloc
         }
         Said::Page(text) => response(page_head(alloc), Ok(text.into_string())),
         Said::List { head, groups } => list_response(list_parts(alloc, &head), groups),
+        Said::Nothing => response(page_head(alloc), String::from_str(alloc, "[]")),
         Said::Refused(error) => {
             let text = refused_text(alloc, error.name());
             response(refused_head(alloc, error), text)

@@ -1,5 +1,5 @@
 -- What a request is told.
-use Rattle.std.specs.Prelude.{◌≡◌, ◌⊎◌, ◌≤◌, ℕ, List, [], ◌∷◌, Option, Some, None, Result, Ok, Err, Bool, true, false, IsSome, codes, length, map, if◌then◌else◌}
+use Rattle.std.specs.Prelude.{◌≡◌, ◌⊎◌, ◌≤◌, ℕ, List, [], ◌∷◌, Option, Some, None, Result, Ok, Err, Bool, true, false, IsSome, length, map, if◌then◌else◌}
 use mathlib.Core.List.{IsPrefix}
 use Rattle.fleet.specs.Fleet.{id_named, is_joined}
 use Rattle.fleet_events.specs.declared.event.Event.{Event}
@@ -41,7 +41,7 @@ use Rattle.sd_routes.specs.declared.notice.Notice.TheVariants.{Healthy, Broken, 
 use Rattle.sd_routes.specs.declared.request_error.RequestError.{RequestError}
 use Rattle.sd_routes.specs.declared.request_error.RequestError.TheVariants.{NoRoute, Shape, UnknownRound, JournalFull, NotKept, Memory}
 use Rattle.sd_routes.specs.declared.responding.Said.{Said}
-use Rattle.sd_routes.specs.declared.responding.Said.TheVariants.{Answer as Answered, Answers, Page, List as ListOf, Refused, Misshapen, Notice as Noticed, Metrics, Document, Reloaded, NotReloaded}
+use Rattle.sd_routes.specs.declared.responding.Said.TheVariants.{Answer as Answered, Answers, Page, List as ListOf, Nothing, Refused, Misshapen, Notice as Noticed, Metrics, Document, Reloaded, NotReloaded}
 use Rattle.service_pages.specs.declared.notes.AllocationNote.{AllocationNote}
 use Rattle.service_state.specs.Booked.{IsBooks}
 use Rattle.service_state.specs.Jobs.{place_of}
@@ -164,7 +164,7 @@ SaysCopy text said = (said ≡ Page text) ⊎ (said ≡ Refused Memory)
 -- what is told under a name that nobody has: nothing is to be scraped by a collector that had it, unless its lists could not be let go
 -- or memory ran out, and no other is known
 abbrev pub SaysGone : Span → Said → Type 0
-SaysGone span said = (said ≡ Answered (Not UnknownCollector)) ⊎ (SaysCopy (codes "[]") said ⊎ SaysNoAnswer span said)
+SaysGone span said = (said ≡ Answered (Not UnknownCollector)) ⊎ ((said ≡ Nothing) ⊎ SaysNoAnswer span said)
 
 -- what a collector is told of a job: it takes, or is served; or it only looks
 abbrev pub SaysList : Span → Option (List ℕ) → ℕ → List ℕ → ℕ → Bool → Said → Type 0
@@ -386,11 +386,12 @@ SaysBy span pages asked (Ok (Some (Reports events))) said = SaysReports span eve
 SaysBy span pages asked (Ok None) said = SaysPage span pages asked said
 SaysBy span pages asked (Err error) said = SaysRefused error said
 
--- it is an answer, or a list
+-- it is an answer, or a list, which may be empty
 abbrev pub is_of_journal : Said → Bool
 is_of_journal (Answered answer) = true
 is_of_journal (Answers answers round) = true
 is_of_journal (ListOf head groups) = true
+is_of_journal Nothing = true
 is_of_journal _ = false
 
 -- there is an answer or a list, and it is not told, since the journal is not kept

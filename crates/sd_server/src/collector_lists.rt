@@ -1,5 +1,5 @@
 //! The lists that collectors ask for.
-ghost use Rattle.std.specs.Prelude.{◌≡◌, ◌<◌, true, false, Some, IfOk, IfErr, IfSome, IsTrue, All, codes, length};
+ghost use Rattle.std.specs.Prelude.{◌≡◌, ◌<◌, true, false, Some, IfOk, IfErr, IfSome, IsTrue, All, length};
 ghost use Rattle.std.specs.Arc.{arc_value};
 ghost use Rattle.fleet.specs.Fleet.{id_named};
 ghost use Rattle.fleet_events.specs.declared.event.Event.TheVariants.{Serve, Take};
@@ -11,7 +11,7 @@ ghost use Rattle.sd_server.specs.Listing.{AreGroups, AreKnown, IsGroups, IsListT
 ghost use Rattle.sd_server.specs.Looks.{HeadIs, IsLook};
 ghost use Rattle.sd_server.specs.Texts.{groups_text};
 ghost use Rattle.sd_server.specs.Spans.{Moves, now_of};
-ghost use Rattle.sd_server.specs.Says.{IsAnswered, SaysCollector, SaysCopy, SaysGiven, SaysGone, SaysHeld, SaysList, SaysLook, SaysLookOf, SaysNot, SaysGroups, SaysServed, SaysTold};
+ghost use Rattle.sd_server.specs.Says.{IsAnswered, SaysCollector, SaysGiven, SaysGone, SaysHeld, SaysList, SaysLook, SaysLookOf, SaysNot, SaysGroups, SaysServed, SaysTold};
 
 use crate::handler::Handler;
 use crate::list_text::ListText;
@@ -202,21 +202,11 @@ impl<R: Wait + Clock + Copy, L: Ledger, B: Ledger, N: JournalName> Handler<R, L,
         self.state.note_taker(&self.rt, id);
         if !self.state.is_ordered() {
             seen.now();
-            return self.nothing();
+            return Said::Nothing;
         }
         match self.let_go(seen, job, id) {
-            Ok(()) => self.nothing(),
+            Ok(()) => Said::Nothing,
             Err(error) => Said::Refused(error),
-        }
-    }
-
-    /// The empty list.
-    fn nothing(&self) -> Said
-        ensures { SaysCopy (codes "[]") result }
-    {
-        match Text::from_str(self.alloc, "[]") {
-            Ok(nothing) => Said::Page(nothing),
-            Err(_) => Said::Refused(RequestError::Memory),
         }
     }
 
@@ -393,7 +383,7 @@ impl<R: Wait + Clock + Copy, L: Ledger, B: Ledger, N: JournalName> Handler<R, L,
     {
         match self.named(seen, name) {
             Some(id) => self.look(seen, place, job, id),
-            None if self.state.was_live(&self.rt, name) => self.nothing(),
+            None if self.state.was_live(&self.rt, name) => Said::Nothing,
             None => Said::Answer(Answer::Not(Refusal::UnknownCollector)),
         }
     }

@@ -864,12 +864,12 @@ fn not_kept<N: JournalName>() -> Entry<N>
     Entry::Now(Said::Refused(RequestError::NotKept))
 }
 
-/// Whether what is said is an answer of the journal, or a list of it.
+/// Whether what is said is an answer of the journal, or a list of it, which may be empty.
 fn is_of_journal(said: &Said) -> bool
     ensures { result ≡ is_of_journal said.now }
 {
     match said {
-        Said::Answer(_) | Said::Answers { .. } | Said::List { .. } => true,
+        Said::Answer(_) | Said::Answers { .. } | Said::List { .. } | Said::Nothing => true,
         Said::Page(_)
         | Said::Refused(_)
         | Said::Misshapen(_)

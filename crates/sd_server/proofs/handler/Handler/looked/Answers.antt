@@ -16,7 +16,7 @@ pub returns-in-None-clause-says : goal.returns-in-None-clause-says
 unfolding SaysHeld
 returns-in-None-clause-says g c =
     let P : History → Type 0 = λ h. id_named h.state.fleet.collectors c.args.name.now ≡ None in
-    inl (some_now c.args.seen.now c.named.new.seen P c.named.ensures.moves (sym c.in-None.ensures.read), inr (inl c.nothing.ensures))
+    inl (some_now c.args.seen.now c.named.new.seen P c.named.ensures.moves (sym c.in-None.ensures.read), inr (inl refl))
 
 pub returns-in-None-2-clause-says : goal.returns-in-None-2-clause-says
 unfolding SaysHeld
