@@ -9,8 +9,7 @@ use Rattle.matchit.specs.Seek.{first}
 use Rattle.matchit.proofs.OnLiterals.{matchit_on_literals}
 use Rattle.matchit.proofs.RenameLemmas.{first-rename}
 use Rattle.sd_routes.proofs.Lookup.{Agrees, agrees-prefix, agrees-end, agrees-or, agrees-segment, after}
-use Rattle.sd_routes.specs.Rows.{desk_rows, job_rows, route_rows}
-use Rattle.sd_routes.specs.Table.{fits, first_fit, table, place_of}
+use Rattle.sd_routes.specs.Places.{desk_rows, first_fit, fits, job_rows, place_of, route_rows, table}
 use Rattle.sd_routes.specs.declared.place.Place.{Place}
 use Rattle.sd_routes.specs.declared.place.Place.TheVariants.{Jobs}
 

@@ -16,7 +16,7 @@ use Rattle.fleet_events.specs.declared.refusal.Refusal.TheVariants.{UnknownJob, 
 use Rattle.sd_routes.specs.AnswerTexts.{answer_text, answers_text}
 use Rattle.sd_routes.specs.Errors.{status_of, name_of}
 use Rattle.sd_routes.specs.Notices.{status_noticed, text_noticed}
-use Rattle.sd_routes.specs.Methods.{allowed_at}
+use Rattle.sd_routes.specs.Places.{allowed_at}
 use Rattle.sd_routes.specs.declared.list_head.ListHead.{ListHead}
 use Rattle.sd_routes.specs.declared.request_error.RequestError.{RequestError}
 use Rattle.sd_routes.specs.declared.request_error.RequestError.TheVariants.{Method, Token}

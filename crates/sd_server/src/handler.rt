@@ -30,13 +30,12 @@ use lists::{List, Plain, Text};
 use price_certificate::{Instance, Plan};
 use reach_rules::CollectorName;
 use sd_routes::{
-    Ask, Change, Notice, RequestError, Said, Wanted, event_of, job_page, misshapen_member,
+    Ask, Change, Notice, RequestError, Route, Said, Wanted, event_of, job_page, misshapen_member,
     uncovered_page,
 };
 use service_pages::{Shown, status_page};
 use service_state::{
-    ChangeNote, ConfigPages, EventKind, Figures, Notes, Route, ServiceState, figures_of,
-    metrics_page,
+    ChangeNote, ConfigPages, EventKind, Figures, Notes, ServiceState, figures_of, metrics_page,
 };
 use std::alloc::{AllocError, Global};
 use std::net::SocketAddr;

@@ -28,8 +28,7 @@ use http_body_util::Full;
 use hyper::body::Incoming;
 use hyper::service::Service;
 use kept_journal::JournalName;
-use sd_routes::{Ask, RequestError, Routes, Said, route};
-use service_state::Route;
+use sd_routes::{Ask, RequestError, Route, Routes, Said, route};
 use std::alloc::{AllocError, Global};
 use std::net::SocketAddr;
 use std::sync::ledger::Ledger;
@@ -82,7 +81,7 @@ impl<R: Wait + Clock + Copy, L: Ledger, B: Ledger, N: JournalName> AllocatorServ
             Ok(ask) => self.begin_with(seen, ask, wants_document(&head.headers)),
             Err(error) => {
                 seen.now();
-                Begun::Told(Entry::Now(Said::Refused(error)), Route::of(None))
+                Begun::Told(Entry::Now(Said::Refused(error)), Route::NoRoute)
             }
         }
     }
@@ -130,7 +129,7 @@ impl<R: Wait + Clock + Copy, L: Ledger, B: Ledger, N: JournalName> AllocatorServ
                 seen.now();
                 Begun::Reads(ask)
             }
-            _ => Begun::Told(self.entry(seen, &ask, for_people), Route::of(Some(&ask))),
+            _ => Begun::Told(self.entry(seen, &ask, for_people), ask.route()),
         }
     }
 

@@ -1,8 +1,8 @@
 //! What a service counts: requests by route and status, and how long they took, events by kind and answer.
 use crate::kinds::{DONE_COUNT, DoneKind, EventKind, KIND_COUNT, REFUSAL_COUNT, RefusalKind};
-use crate::routes::{ROUTE_COUNT, Route};
 use exposition::Durations;
 use fleet_events::Answer;
+use sd_routes::{ROUTE_COUNT, Route};
 
 /// How many status codes are told apart.
 const STATUS_COUNT: usize = 16;

@@ -22,7 +22,6 @@ mod open_round;
 mod process_figures;
 mod reloading;
 mod round_books;
-mod routes;
 mod service_state;
 mod takers;
 
@@ -39,7 +38,6 @@ pub use open_round::{RoundStart, RoundTimes};
 pub use process_figures::ProcessFigures;
 pub use reloading::{Reloading, unanswered};
 pub use round_books::{JobSums, RoundBooks, books_of_round};
-pub use routes::Route;
 pub use service_pages::{
     AllocationNote, Figures, ListCounts, LoadNote, MoveNote, SourceNote, untold_moves,
 };

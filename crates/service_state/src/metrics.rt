@@ -4,11 +4,11 @@ use crate::kinds::{DONE, KINDS, REFUSALS};
 use crate::notes::Notes;
 use crate::process_figures::ProcessFigures;
 use crate::round_books::RoundBooks;
-use crate::routes::ROUTES;
 use crate::service_state::ServiceState;
 use exposition::{Exposition, Kind};
 use fleet_events::CollectorId;
 use lists::Text;
+use sd_routes::ROUTES;
 use service_pages::{CollectorFigures, Figures, JobFigures, ListCounts, LoadNote, SourceNote};
 use std::alloc::{AllocError, Global};
 
