@@ -1,7 +1,7 @@
 //! What a service counts: requests by route and status, and how long they took, events by kind and answer.
-use crate::kinds::{DONE_COUNT, DoneKind, EventKind, KIND_COUNT, REFUSAL_COUNT, RefusalKind};
+use crate::kinds::{DONE_COUNT, DoneKind, EventKind, KIND_COUNT};
 use exposition::Durations;
-use fleet_events::Answer;
+use fleet_events::{Answer, REFUSAL_COUNT, RefusalKind};
 use sd_routes::{ROUTE_COUNT, Route};
 
 /// How many status codes are told apart.

@@ -1,12 +1,12 @@
 //! The metrics of a service.
 use crate::counts::{Counts, EventCounts, RequestCounts, STATUSES};
-use crate::kinds::{DONE, KINDS, REFUSALS};
+use crate::kinds::{DONE, KINDS};
 use crate::notes::Notes;
 use crate::process_figures::ProcessFigures;
 use crate::round_books::RoundBooks;
 use crate::service_state::ServiceState;
 use exposition::{Exposition, Kind};
-use fleet_events::CollectorId;
+use fleet_events::{CollectorId, REFUSALS};
 use lists::Text;
 use sd_routes::ROUTES;
 use service_pages::{CollectorFigures, Figures, JobFigures, ListCounts, LoadNote, SourceNote};
