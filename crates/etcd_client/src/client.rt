@@ -1,6 +1,7 @@
 //! The endpoints of etcd, asked in turn.
 use crate::limits::limit_millis;
 use crate::watch::Watch;
+use etcd_login::{LOGIN_PATH, Login, is_token_over, login_body, read_token};
 use etcd_turns::{Etcd, Reply};
 use http_get::Cause;
 use lists::Text;
@@ -14,6 +15,9 @@ use std::time::{Clock, Duration};
 
 const JSON: (&str, &str) = ("content-type", "application/json");
 
+/// The header that has the token of who logged in.
+const AUTHORIZATION: &str = "authorization";
+
 /// How long is waited before another endpoint is asked, in milliseconds.
 const PAUSE: u64 = 20;
 
@@ -26,6 +30,9 @@ pub struct EtcdClient<R> {
     endpoints: Vec<Text>,
     /// Which is asked next.
     at: usize,
+    /// As whom they are asked, and the token for it, where one is known.
+    login: Option<Login>,
+    token: Option<Text>,
     watch: Arc<Watch>,
     /// How many requests were answered 200, and how many were not.
     pub answered: u64,
@@ -33,11 +40,12 @@ pub struct EtcdClient<R> {
 }
 
 impl<R> EtcdClient<R> {
-    /// Asks these endpoints.
+    /// Asks these endpoints, as somebody where etcd wants to know who asks.
     pub fn new(
         rt: R,
         lookups: Arc<Lookups>,
         endpoints: Vec<Text>,
+        login: Option<Login>,
         watch: Arc<Watch>,
     ) -> EtcdClient<R> {
         EtcdClient {
@@ -45,6 +53,8 @@ impl<R> EtcdClient<R> {
             lookups,
             endpoints,
             at: 0,
+            login,
+            token: None,
             watch,
             answered: 0,
             missed: 0,
@@ -53,14 +63,25 @@ impl<R> EtcdClient<R> {
 }
 
 impl<R: Wait + Clock + Net + RandomSource + AllocGlobal> EtcdClient<R> {
+    /// Asks with the token, where there is one.
     fn ask(&self, path: &str, body: &[u8]) -> Result<Answer, Cause> {
+        match &self.token {
+            Some(token) => {
+                let headers = [JSON, (AUTHORIZATION, token.as_str())];
+                self.ask_with(headers.as_slice(), path, body)
+            }
+            None => self.ask_with([JSON].as_slice(), path, body),
+        }
+    }
+
+    fn ask_with(&self, headers: &[(&str, &str)], path: &str, body: &[u8]) -> Result<Answer, Cause> {
         match self.endpoints.get(self.at) {
             Some(endpoint) => {
                 let ask = Ask {
                     method: Method::Post,
                     address: endpoint.as_str(),
                     path,
-                    headers: [JSON].as_slice(),
+                    headers,
                     body,
                     longest: LONGEST_BODY,
                     limit: Duration::from_millis(limit_millis(body.len())),
@@ -69,6 +90,29 @@ impl<R: Wait + Clock + Net + RandomSource + AllocGlobal> EtcdClient<R> {
             }
             None => Err(Cause::NoAddress),
         }
+    }
+
+    /// Asks for a token, where one is wanted and none is known.
+    fn log_in(&mut self) {
+        if self.token.is_none() {
+            self.token = self.new_token();
+        }
+    }
+
+    /// A token, where there is somebody to log in as.
+    fn new_token(&self) -> Option<Text> {
+        match &self.login {
+            Some(login) => self.token_for(login),
+            None => None,
+        }
+    }
+
+    fn token_for(&self, login: &Login) -> Option<Text> {
+        let body = login_body(self.rt.alloc(), login).ok()?;
+        let answer = self
+            .ask_with([JSON].as_slice(), LOGIN_PATH, body.as_str().as_bytes())
+            .ok()?;
+        read_token(self.rt.alloc(), answer.status, answer.body.as_slice()).ok()?
     }
 
     /// The next endpoint is asked from now on.
@@ -80,6 +124,9 @@ impl<R: Wait + Clock + Net + RandomSource + AllocGlobal> EtcdClient<R> {
     }
 
     fn came(&mut self, answer: Answer) -> Reply {
+        if is_token_over(answer.status) {
+            self.token = None;
+        }
         if answer.status == 200 {
             self.answered = self.answered.saturating_add(1);
         } else {
@@ -96,6 +143,7 @@ impl<R: Wait + Clock + Net + RandomSource + AllocGlobal> Etcd for EtcdClient<R> 
     ghost may_post = { λ _ _ _ _ _. Unit {0} };
 
     fn post(&mut self, path: &str, body: &[u8]) -> Option<Reply> {
+        self.log_in();
         match self.ask(path, body) {
             Ok(answer) => Some(self.came(answer)),
             Err(_) => {

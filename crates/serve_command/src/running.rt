@@ -74,7 +74,7 @@ where
     }
 }
 
-fn log_end<R: Clock + Eprint + Copy>(rt: &R, samples: u128) {
+pub(crate) fn log_end<R: Clock + Eprint + Copy>(rt: &R, samples: u128) {
     info!(Logfmt(*rt); samples:% = samples; "ended");
 }
 
@@ -186,6 +186,6 @@ where
     )
 }
 
-fn log_address<R: Clock + Eprint + Copy>(rt: &R, here: SocketAddr) {
+pub(crate) fn log_address<R: Clock + Eprint + Copy>(rt: &R, here: SocketAddr) {
     info!(Logfmt(*rt); address:% = here; "listening");
 }
