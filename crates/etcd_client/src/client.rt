@@ -21,6 +21,9 @@ const AUTHORIZATION: &str = "authorization";
 /// How long is waited before another endpoint is asked, in milliseconds.
 const PAUSE: u64 = 20;
 
+/// How many times as long is waited for an answer at the most, where none came for long.
+const MOST_TIMES: u64 = 8;
+
 /// The endpoints of etcd, of which one is asked until it does not answer. Nobody else is to ask the look-ups meanwhile.
 #[derive(Drop)]
 pub struct EtcdClient<R> {
@@ -37,6 +40,8 @@ pub struct EtcdClient<R> {
     /// How many requests were answered 200, and how many were not.
     pub answered: u64,
     pub missed: u64,
+    /// How many were not since the last that was.
+    silent: usize,
 }
 
 impl<R> EtcdClient<R> {
@@ -58,7 +63,16 @@ impl<R> EtcdClient<R> {
             watch,
             answered: 0,
             missed: 0,
+            silent: 0,
         }
+    }
+
+    /// How long is waited for the answer to a body of so many bytes. After each round of all endpoints without an answer it is longer: an answer may be long, and
+    /// the way to it slow.
+    fn limit(&self, bytes: usize) -> Duration {
+        let rounds = self.silent.checked_div(self.endpoints.len()).unwrap_or(0);
+        let times = (rounds as u64).saturating_add(1).min(MOST_TIMES);
+        Duration::from_millis(limit_millis(bytes).saturating_mul(times))
     }
 }
 
@@ -84,7 +98,7 @@ impl<R: Wait + Clock + Net + RandomSource + AllocGlobal> EtcdClient<R> {
                     headers,
                     body,
                     longest: LONGEST_BODY,
-                    limit: Duration::from_millis(limit_millis(body.len())),
+                    limit: self.limit(body.len()),
                 };
                 ask_within(&self.rt, &self.lookups, &ask)
             }
@@ -118,6 +132,7 @@ impl<R: Wait + Clock + Net + RandomSource + AllocGlobal> EtcdClient<R> {
     /// The next endpoint is asked from now on.
     fn turn_away(&mut self) {
         self.missed = self.missed.saturating_add(1);
+        self.silent = self.silent.saturating_add(1);
         let next = self.at.saturating_add(1);
         self.at = if next < self.endpoints.len() { next } else { 0 };
         thread::sleep(&self.rt, Duration::from_millis(PAUSE));
@@ -129,6 +144,7 @@ impl<R: Wait + Clock + Net + RandomSource + AllocGlobal> EtcdClient<R> {
         }
         if answer.status == 200 {
             self.answered = self.answered.saturating_add(1);
+            self.silent = 0;
         } else {
             self.turn_away();
         }

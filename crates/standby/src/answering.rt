@@ -3,7 +3,9 @@ use crate::reply::Reply;
 use crate::standing::Standing;
 use admission::has_body;
 use bytes::Bytes;
-use http::header::{CONNECTION, CONTENT_TYPE, HeaderName, HeaderValue, LOCATION};
+use http::header::{
+    CONNECTION, CONTENT_TYPE, HeaderName, HeaderValue, LOCATION, X_CONTENT_TYPE_OPTIONS,
+};
 use http::request::Parts as Head;
 use http::response::Parts;
 use http::{Response, StatusCode, Uri};
@@ -93,31 +95,50 @@ fn told<R: Wait>(
 ) -> Result<Reply, AllocError> {
     match ask {
         Ask::Healthy | Ask::Live => Ok(noticed(Notice::Healthy)),
-        Ask::Ready if standing.is_ready(rt) => Ok(noticed(Notice::Ready)),
-        Ask::Ready => Ok(noticed(Notice::NotReady)),
+        Ask::Ready => Ok(noticed(readiness(rt, standing))),
         Ask::Metrics => {
             let page = standing.metrics(rt, alloc)?;
             Ok(Reply::Said(Said::Metrics(Text::from_string(page))))
         }
         Ask::Status => Ok(Reply::Line(leading_line(rt, alloc, standing)?)),
-        Ask::Reload if standing.lifecycle.reload => {
-            let line = Text::from_str(
-                alloc,
-                "This instance stands by: it reads its configuration when it takes over.\n",
-            )?;
-            Ok(Reply::Said(Said::Reloaded(line)))
-        }
-        Ask::Quit if standing.lifecycle.quit => {
-            standing.quit();
-            Ok(noticed(Notice::Quitting))
-        }
-        Ask::Reload | Ask::Quit => Ok(noticed(Notice::NoLifecycle)),
+        Ask::Reload => reloaded(alloc, standing),
+        Ask::Quit => Ok(noticed(quit(standing))),
         _ => elsewhere(rt, alloc, standing, target),
     }
 }
 
 fn noticed(notice: Notice) -> Reply {
     Reply::Said(Said::Notice(notice))
+}
+
+/// Whether this instance has read once all that is kept, so that it can take over.
+fn readiness<R: Wait>(rt: &R, standing: &Standing) -> Notice {
+    if standing.is_ready(rt) {
+        Notice::Ready
+    } else {
+        Notice::NotReady
+    }
+}
+
+/// The configuration is read at a take-over, so there is nothing to do now.
+fn reloaded(alloc: Global, standing: &Standing) -> Result<Reply, AllocError> {
+    if !standing.lifecycle.reload {
+        return Ok(noticed(Notice::NoLifecycle));
+    }
+    let line = Text::from_str(
+        alloc,
+        "This instance stands by: it reads its configuration when it takes over.\n",
+    )?;
+    Ok(Reply::Said(Said::Reloaded(line)))
+}
+
+/// Ends the instance, where a request may.
+fn quit(standing: &Standing) -> Notice {
+    if !standing.lifecycle.quit {
+        return Notice::NoLifecycle;
+    }
+    standing.quit();
+    Notice::Quitting
 }
 
 /// Where the same is to be asked.
@@ -166,17 +187,27 @@ fn leading_line<R: Wait>(rt: &R, alloc: Global, standing: &Standing) -> Result<T
 fn redirect(alloc: Global, url: Text, closes: bool) -> Result<Response<Full<Bytes>>, AllocError> {
     match HeaderValue::from_str(alloc, url.as_str()) {
         Ok(location) => {
-            let mut head = head_with(alloc, StatusCode::TEMPORARY_REDIRECT, closes)?;
-            insert(&mut head, LOCATION, location)?;
+            let head = redirect_head(alloc, location, closes)?;
             let line = Bytes::from_static(b"This instance stands by.\n");
             Ok(Response::from_parts(head, Full::new(line)))
         }
-        Err(_) => line_response(
-            alloc,
-            StatusCode::SERVICE_UNAVAILABLE,
-            Text::from_str(alloc, "This instance stands by.\n")?,
-            closes,
-        ),
+        Err(_) => {
+            let line = Text::from_str(alloc, "This instance stands by.\n")?;
+            line_response(alloc, StatusCode::SERVICE_UNAVAILABLE, line, closes)
+        }
+    }
+}
+
+fn redirect_head(alloc: Global, location: HeaderValue, closes: bool) -> Result<Parts, AllocError> {
+    match head_with(alloc, StatusCode::TEMPORARY_REDIRECT, closes) {
+        Ok(mut head) => {
+            insert(&mut head, LOCATION, location)?;
+            Ok(head)
+        }
+        Err(error) => {
+            drop(location);
+            Err(error)
+        }
     }
 }
 
@@ -186,11 +217,9 @@ fn line_response(
     line: Text,
     closes: bool,
 ) -> Result<Response<Full<Bytes>>, AllocError> {
+    let line = Bytes::from_string(line.into_string())?;
     match head_with(alloc, status, closes) {
-        Ok(head) => Ok(Response::from_parts(
-            head,
-            Full::new(Bytes::from_string(line.into_string())?),
-        )),
+        Ok(head) => Ok(Response::from_parts(head, Full::new(line))),
         Err(error) => {
             drop(line);
             Err(error)
@@ -204,6 +233,8 @@ fn head_with(alloc: Global, status: StatusCode, closes: bool) -> Result<Parts, A
     head.status = status;
     let media = HeaderValue::from_static("text/plain; charset=utf-8");
     insert(&mut head, CONTENT_TYPE, media)?;
+    let no_other = HeaderValue::from_static("nosniff");
+    insert(&mut head, X_CONTENT_TYPE_OPTIONS, no_other)?;
     if closes {
         insert(&mut head, CONNECTION, HeaderValue::from_static("close"))?;
     }

@@ -8,15 +8,18 @@ use hyper::rt::TokioTimer;
 use hyper::server::conn::http1;
 use std::alloc::{AllocError, AllocGlobal};
 use std::hash::RandomState;
-use std::io;
 use std::net::{Net, SocketAddr, TcpListener, TcpStream};
 use std::random::RandomSource;
 use std::rc::Rc;
 use std::sync::{Arc, Wait};
 use std::time::{Clock, Duration};
+use std::{io, thread};
 use tokio::runtime::LocalRuntime;
 use tokio::sync::OwnedSemaphorePermit;
 use tokio::time::Handle;
+
+/// How long a loop that found no memory to begin waits until it begins again.
+const PAUSE_MILLIS: u64 = 100;
 
 /// What a connection reads from and writes to.
 type Wire<R> = Socket<tokio::net::TcpStream, TokioTimer<R>>;
@@ -42,21 +45,25 @@ impl<R: Wait + Clock + AllocGlobal + Copy + Drop> Host<'_, R> {
         Ok(exchanges)
     }
 
-    /// The limits of a connection that begins.
+    /// The limits of a connection that begins. Where few places are left it may not be silent for long.
     fn limits(
         &self,
+        is_pressed: bool,
         exchanges: &Rc<Exchanges>,
         place: OwnedSemaphorePermit,
     ) -> io::Result<Limits<R>> {
         let times = self.gate.times();
+        let first = if is_pressed {
+            times.pressed
+        } else {
+            times.request
+        };
         Ok(Limits {
             clock: self.rt,
             times,
             exchanges: exchanges.clone()?,
             told: Some(exchanges.told()?),
-            limit: self
-                .time
-                .sleep(&self.rt, Duration::from_millis(times.request))?,
+            limit: self.time.sleep(&self.rt, Duration::from_millis(first))?,
             place,
         })
     }
@@ -67,18 +74,55 @@ impl<R: Wait + Clock + AllocGlobal + Copy + Drop> Host<'_, R> {
         socket: tokio::net::TcpStream,
         exchanges: &Rc<Exchanges>,
     ) -> io::Result<(Wire<R>, Paced<StandingService<R>>)> {
-        let timer = TokioTimer::new(self.rt, self.time.clone()?);
+        let wire = match self.wire(socket, exchanges) {
+            Ok(wire) => wire,
+            Err(error) => return Err(error),
+        };
+        match self.service(exchanges) {
+            Ok(service) => Ok((wire, service)),
+            Err(error) => {
+                drop(wire);
+                Err(error.into())
+            }
+        }
+    }
+
+    fn wire(
+        &self,
+        socket: tokio::net::TcpStream,
+        exchanges: &Rc<Exchanges>,
+    ) -> io::Result<Wire<R>> {
+        let time = match self.time.clone() {
+            Ok(time) => time,
+            Err(error) => {
+                drop(socket);
+                return Err(error.into());
+            }
+        };
+        let timer = TokioTimer::new(self.rt, time);
+        let linger = self.gate.times().linger;
+        match exchanges.clone() {
+            Ok(exchanges) => Ok(Socket::new(socket, timer, exchanges, linger)),
+            Err(error) => {
+                drop((socket, timer));
+                Err(error.into())
+            }
+        }
+    }
+
+    fn service(&self, exchanges: &Rc<Exchanges>) -> Result<Paced<StandingService<R>>, AllocError> {
         let service = StandingService {
             rt: self.rt,
             alloc: self.rt.alloc(),
             standing: Arc::try_clone(self.standing)?,
         };
-        let service = Paced::new(service, exchanges.clone()?);
-        let linger = self.gate.times().linger;
-        Ok((
-            Socket::new(socket, timer, exchanges.clone()?, linger),
-            service,
-        ))
+        match exchanges.clone() {
+            Ok(exchanges) => Ok(Paced::new(service, exchanges)),
+            Err(error) => {
+                drop(service);
+                Err(error)
+            }
+        }
     }
 }
 
@@ -94,11 +138,33 @@ impl<R: Wait + Clock + AllocGlobal + Copy + Drop> Serving for Host<'_, R> {
         _from: SocketAddr,
         place: OwnedSemaphorePermit,
     ) -> io::Result<Self::Conn> {
-        let exchanges = self.exchanges(self.gate.is_pressed())?;
-        let limits = self.limits(&exchanges, place)?;
-        let (wire, service) = self.ends(socket, &exchanges)?;
-        let conn = self.http.serve_connection(wire, service);
-        Ok(Timed { conn, limits })
+        let is_pressed = self.gate.is_pressed();
+        let exchanges = match self.exchanges(is_pressed) {
+            Ok(exchanges) => exchanges,
+            Err(error) => {
+                drop((socket, place));
+                return Err(error.into());
+            }
+        };
+        let limits = match self.limits(is_pressed, &exchanges, place) {
+            Ok(limits) => limits,
+            Err(error) => {
+                drop((socket, exchanges));
+                return Err(error);
+            }
+        };
+        let ends = self.ends(socket, &exchanges);
+        drop(exchanges);
+        match ends {
+            Ok((wire, service)) => Ok(Timed {
+                conn: self.http.serve_connection(wire, service),
+                limits,
+            }),
+            Err(error) => {
+                drop(limits);
+                Err(error)
+            }
+        }
     }
 
     fn fail(&self) {}
@@ -114,7 +180,8 @@ impl<R: Wait + Clock + AllocGlobal + Copy + Drop> Serving for Host<'_, R> {
     }
 }
 
-/// Serves the connections of a listener, on this thread, until the gate is stopped and each connection has ended.
+/// Serves the connections of a listener, on this thread, until the gate is stopped and each connection has ended. Where it finds no memory to begin, it begins again
+/// after a pause.
 pub fn serve_standing<R>(
     rt: &R,
     gate: &Gate,
@@ -130,13 +197,71 @@ where
         + Copy
         + Drop,
 {
+    for _ in rt.forever() {
+        match serve_until_stopped(rt, gate, listener, standing) {
+            Err(error) if error.kind() == io::ErrorKind::OutOfMemory && !gate.is_stopped() => {
+                thread::sleep(rt, Duration::from_millis(PAUSE_MILLIS));
+            }
+            ended => return ended,
+        }
+    }
+    unreachable!()
+}
+
+fn serve_until_stopped<R>(
+    rt: &R,
+    gate: &Gate,
+    listener: &TcpListener,
+    standing: &Arc<Standing>,
+) -> io::Result<()>
+where
+    R: Wait
+        + Clock
+        + Net<Listener = TcpListener, Stream = TcpStream>
+        + RandomSource
+        + AllocGlobal
+        + Copy
+        + Drop,
+{
     let mut runtime = LocalRuntime::new(rt)?;
-    let listener = tokio::net::TcpListener::from_std(
-        listener.try_clone()?,
-        runtime.handle().reactor(),
-    )?;
-    let host = host_of(rt, &runtime, gate, standing)?;
-    serve_all(rt, &mut runtime, listener, &host, gate)
+    let ended = serve_on(rt, &mut runtime, gate, listener, standing);
+    drop(runtime);
+    ended
+}
+
+/// Serves connections on a runtime until the gate is stopped.
+fn serve_on<R>(
+    rt: &R,
+    runtime: &mut LocalRuntime,
+    gate: &Gate,
+    listener: &TcpListener,
+    standing: &Arc<Standing>,
+) -> io::Result<()>
+where
+    R: Wait
+        + Clock
+        + Net<Listener = TcpListener, Stream = TcpStream>
+        + RandomSource
+        + AllocGlobal
+        + Copy
+        + Drop,
+{
+    let host = host_of(rt, runtime, gate, standing)?;
+    let ended = match listener_on(runtime, listener) {
+        Ok(listener) => serve_all(rt, runtime, listener, &host, gate),
+        Err(error) => Err(error),
+    };
+    drop(host);
+    ended
+}
+
+/// Another for the same socket, which the runtime waits for.
+fn listener_on(
+    runtime: &LocalRuntime,
+    listener: &TcpListener,
+) -> io::Result<tokio::net::TcpListener> {
+    let another = listener.try_clone()?;
+    tokio::net::TcpListener::from_std(another, runtime.handle().reactor())
 }
 
 /// What the loop serves its connections with.
@@ -150,16 +275,36 @@ where
     R: Wait + Clock + RandomSource + AllocGlobal + Copy,
 {
     let time = runtime.handle().time();
-    let http = builder(rt, time)?;
     let connections = Connections::new(rt.alloc())?;
-    Ok(Host {
-        rt: *rt,
-        standing,
-        http,
-        time: time.clone()?,
-        gate,
-        connections,
-    })
+    match timed_builder(rt, time) {
+        Ok((http, time)) => Ok(Host {
+            rt: *rt,
+            standing,
+            http,
+            time,
+            gate,
+            connections,
+        }),
+        Err(error) => {
+            drop(connections);
+            Err(error)
+        }
+    }
+}
+
+/// How connections are read, and the timers of the loop.
+fn timed_builder<R: Clock + RandomSource + AllocGlobal + Copy>(
+    rt: &R,
+    time: &Handle,
+) -> io::Result<(http1::Builder<TokioTimer<R>>, Handle)> {
+    let timers = time.clone()?;
+    match builder(rt, time) {
+        Ok(http) => Ok((http, timers)),
+        Err(error) => {
+            drop(timers);
+            Err(error)
+        }
+    }
 }
 
 /// How connections are read. Their limits of time are those of `Timed`.
