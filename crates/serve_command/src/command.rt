@@ -198,7 +198,7 @@ where
 }
 
 /// The service of a document, with where the log counts what it loses, over a journal in etcd or not.
-pub(crate) fn service_of(
+fn service_of(
     alloc: Global,
     path: &str,
     document: &[u8],

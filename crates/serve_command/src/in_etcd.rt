@@ -4,13 +4,14 @@ use crate::configuration::ConfigurationFile;
 use crate::devices::Devices;
 use crate::instance::Instance;
 use crate::leading::lead;
-use crate::standing_by::{answer_then_quit, stand_by};
+use crate::running::tell_who_is_missed;
+use crate::standing_by::{TIMES, answer_then_quit, stand_by};
 use etcd_answers::Granted;
 use etcd_client::{EtcdClient, Watch, grant, keep_lease, revoke};
 use etcd_journal::{Opened, open};
-use event_loops::{Gate, Times};
+use event_loops::Gate;
 use journal_files::Fault;
-use log::info;
+use log::{info, warn};
 use logfmt::Logfmt;
 use service_tasks::Service;
 use standby::Followed;
@@ -65,6 +66,7 @@ where
         + Drop,
 {
     log_standing_by(rt, &begun.listener);
+    tell_who_is_missed(rt, &begun.service);
     let mut begun = begun;
     let mut is_behind = false;
     for _ in rt.forever() {
@@ -103,7 +105,7 @@ where
         + Drop,
 {
     match stand_by(rt, instance, &begun.listener, is_behind) {
-        Ok(Followed::Free) => claim(rt, instance, asked, begun),
+        Ok(Followed::Free) => claim(rt, instance, asked, begun, is_behind),
         Ok(Followed::Quits) => {
             drop(begun);
             Led::Ended(Ok(()))
@@ -115,8 +117,14 @@ where
     }
 }
 
-/// Leads under a lease, where one is granted.
-fn claim<R>(rt: &R, instance: &Instance, asked: &Asked<'_>, begun: Begun<R>) -> Led<R>
+/// Leads under a lease, where one is granted. That none is granted is told once.
+fn claim<R>(
+    rt: &R,
+    instance: &Instance,
+    asked: &Asked<'_>,
+    begun: Begun<R>,
+    is_behind: bool,
+) -> Led<R>
 where
     R: Wait
         + Threads
@@ -134,7 +142,12 @@ where
 {
     match granted(rt, instance) {
         Ok(Some(under)) => lead_under(rt, instance, asked, begun, under),
-        Ok(None) => Led::Lost(begun),
+        Ok(None) => {
+            if !is_behind {
+                log_no_lease(rt);
+            }
+            Led::Lost(begun)
+        }
         Err(error) => {
             drop(begun);
             Led::Ended(Err(error.into()))
@@ -284,7 +297,7 @@ where
         + Copy
         + Drop,
 {
-    let gate = match Gate::new(instance.alloc, instance.connections, Times::DEFAULT) {
+    let gate = match Gate::new(instance.alloc, instance.connections, TIMES) {
         Ok(gate) => gate,
         Err(error) => {
             drop(client);
@@ -350,6 +363,10 @@ fn log_standing_by<R: Clock + Eprint + Copy>(rt: &R, listener: &TcpListener) {
     if let Ok(here) = listener.local_addr() {
         info!(Logfmt(*rt); address:% = here; "stands by");
     }
+}
+
+fn log_no_lease<R: Clock + Eprint + Copy>(rt: &R) {
+    warn!(Logfmt(*rt); "etcd grants no lease, or does not answer: nobody leads, and it is asked again");
 }
 
 fn log_leading<R: Clock + Eprint + Copy, E>(rt: &R, opened: &Opened<E>) {

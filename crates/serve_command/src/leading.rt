@@ -1,26 +1,25 @@
 //! An instance that leads.
-use crate::command::{Asked, service_of};
+use crate::command::Asked;
 use crate::configuration::ConfigurationFile;
 use crate::devices::Devices;
-use crate::documents::read_document;
-use crate::doors::admission_at;
 use crate::in_etcd::Begun;
 use crate::instance::Instance;
 use crate::running::{log_address, log_end};
+use command_words::VERSION;
 use etcd_archive::{Began, open_allocator};
 use etcd_client::EtcdClient;
 use etcd_journal::Opened;
 use journal_files::Fault;
 use kept_journal::JournalFile;
 use log::warn;
-use logfmt::Logfmt;
-use service_tasks::{Journal, Service};
+use logfmt::{Logfmt, Quoted};
+use service_tasks::{Configuration, Journal, Service};
 use std::alloc::AllocGlobal;
 use std::fs::File;
 use std::net::{Net, TcpListener, TcpStream};
 use std::random::RandomSource;
 use std::rt::Files;
-use std::sync::Wait;
+use std::sync::{Arc, Wait};
 use std::thread::Threads;
 use std::time::Clock;
 
@@ -57,7 +56,8 @@ where
         listener,
         device,
     } = begun;
-    let service = service_now(rt, asked, service);
+    let mut configuration = configuration;
+    let service = service_now(rt, asked, &mut configuration, service);
     serve_led(
         rt,
         instance,
@@ -70,44 +70,46 @@ where
 }
 
 /// The service of the configuration as it is now. Where that has faults, the one that was read before.
-fn service_now<R>(rt: &R, asked: &Asked<'_>, service: Service) -> Service
-where
-    R: Files<File = File> + AllocGlobal + Clock + Eprint + Copy,
-{
-    let mut service = service;
-    match service_read(rt, asked, &service) {
-        Ok(now) => drop(std::mem::replace(&mut service, now)),
-        Err(fault) => {
-            drop(fault);
-            warn!(Logfmt(*rt); "the configuration has faults now: this instance follows the one that it read when it began");
+fn service_now<R: Clock + Eprint + Copy>(
+    rt: &R,
+    asked: &Asked<'_>,
+    configuration: &mut ConfigurationFile,
+    before: Service,
+) -> Service {
+    match configuration.read() {
+        Ok(()) => match service_read(asked, configuration) {
+            Some(now) => {
+                drop(before);
+                now
+            }
+            None => {
+                log_faults(rt, "no memory");
+                before
+            }
+        },
+        Err(line) => {
+            log_faults(rt, line.as_str().trim_end());
+            drop(line);
+            before
         }
     }
-    service
 }
 
-fn service_read<R>(rt: &R, asked: &Asked<'_>, before: &Service) -> Result<Service, Fault>
-where
-    R: Files<File = File> + AllocGlobal,
-{
-    let alloc = rt.alloc();
-    let path = asked.options.config;
-    let document = read_document(rt, alloc, path)?;
-    let mut service = service_of(alloc, path, document.as_slice(), asked.lost_lines, true)?;
-    service.limit_connections(before.connections());
-    let doors = match admission_at(rt, path, service.doors(), asked.here) {
-        Ok(doors) => doors,
-        Err(fault) => {
+/// The service of the configuration that was just read. None without memory.
+fn service_read(asked: &Asked<'_>, configuration: &ConfigurationFile) -> Option<Service> {
+    let service = configuration.service()?;
+    match Arc::try_clone(asked.lost_lines) {
+        Ok(lost_lines) => Some(service.with_log(lost_lines).with_version(VERSION)),
+        Err(_) => {
             drop(service);
-            return Err(fault);
-        }
-    };
-    match service.set_doors(alloc, doors) {
-        Ok(()) => Ok(service),
-        Err(error) => {
-            drop(service);
-            Err(error.into())
+            None
         }
     }
+}
+
+fn log_faults<R: Clock + Eprint + Copy>(rt: &R, fault: &str) {
+    let fault = Quoted(fault);
+    warn!(Logfmt(*rt); fault:% = fault; "the configuration has faults now: this instance follows the one that it read when it began");
 }
 
 /// Serves over the journal that was opened.

@@ -86,7 +86,7 @@ fn tell_what_is_kept<R: Clock + Eprint + Copy>(rt: &R, journal: &Option<String>)
 }
 
 /// Tells where nobody notices that a collector is dead.
-fn tell_who_is_missed<R: Clock + Eprint + Copy>(rt: &R, service: &Service) {
+pub(crate) fn tell_who_is_missed<R: Clock + Eprint + Copy>(rt: &R, service: &Service) {
     if !service.notices_absence() {
         warn!(Logfmt(*rt); "collector_timeout is never: nobody notices a collector that is dead, and its targets stay with it");
     }

@@ -14,6 +14,15 @@ use std::{io, thread};
 /// How long is waited behind a claim that came to nothing, in milliseconds.
 const PAUSE: u64 = 1_000;
 
+/// The limits of time of a connection while an instance stands by. What it answers is short, so that a take-over waits for nobody.
+pub(crate) const TIMES: Times = Times {
+    idle: 90_000,
+    pressed: 2_000,
+    request: 25_000,
+    last: 300,
+    linger: 100,
+};
+
 /// Answers requests and reads along, until nobody leads or the instance is to end. Behind a claim that came to nothing it waits a while first.
 pub(crate) fn stand_by<R>(
     rt: &R,
@@ -34,7 +43,7 @@ where
         + Copy
         + Drop,
 {
-    let gate = Gate::new(instance.alloc, instance.connections, Times::DEFAULT)?;
+    let gate = Gate::new(instance.alloc, instance.connections, TIMES)?;
     let (served, followed) = thread::join(
         rt,
         || answer_then_quit(rt, instance, &gate, listener),
