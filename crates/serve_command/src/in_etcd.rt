@@ -105,7 +105,7 @@ where
         + Drop,
 {
     match stand_by(rt, instance, &begun.listener, is_behind) {
-        Ok(Followed::Free) => claim(rt, instance, asked, begun, is_behind),
+        Ok(Followed::Free) => claim(rt, instance, asked, begun),
         Ok(Followed::Quits) => {
             drop(begun);
             Led::Ended(Ok(()))
@@ -117,14 +117,8 @@ where
     }
 }
 
-/// Leads under a lease, where one is granted. That none is granted is told once.
-fn claim<R>(
-    rt: &R,
-    instance: &Instance,
-    asked: &Asked<'_>,
-    begun: Begun<R>,
-    is_behind: bool,
-) -> Led<R>
+/// Leads under a lease, where one is granted. That none is granted is told once, until somebody leads.
+fn claim<R>(rt: &R, instance: &Instance, asked: &Asked<'_>, begun: Begun<R>) -> Led<R>
 where
     R: Wait
         + Threads
@@ -143,7 +137,7 @@ where
     match granted(rt, instance) {
         Ok(Some(under)) => lead_under(rt, instance, asked, begun, under),
         Ok(None) => {
-            if !is_behind {
+            if instance.standing.refuse(rt) {
                 log_no_lease(rt);
             }
             Led::Lost(begun)

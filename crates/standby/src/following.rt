@@ -118,19 +118,9 @@ fn note<R: Wait + Clock + AllocGlobal + Eprint + Copy>(
         return;
     }
     let leader = leader_of(rt.alloc(), sight);
-    let behind = match sight.looked {
-        Looked::More => u64::from(reading.count.saturating_sub(before)),
-        _ => 0,
-    };
+    let found = u64::from(reading.count.saturating_sub(before));
     let mut board = standing.board.lock(rt);
-    board.looks = board.looks.saturating_add(1);
-    board.is_silent = false;
-    board.leader = leader;
-    board.blocks = u64::from(reading.count);
-    board.behind = behind;
-    if sight.looked == Looked::Whole {
-        board.has_read_all = true;
-    }
+    board.see(sight, leader, u64::from(reading.count), found);
 }
 
 fn log_silent<R: Clock + Eprint + Copy>(rt: &R) {

@@ -56,6 +56,13 @@ fn write_looks(page: &mut Exposition, board: &Board) -> Result<(), AllocError> {
         Kind::Counter,
         "Looks without an answer of etcd.",
         board.missed,
+    )?;
+    write(
+        page,
+        "allocd_standby_leases_refused_total",
+        Kind::Counter,
+        "Leases that etcd did not grant while nobody led.",
+        board.refused,
     )
 }
 

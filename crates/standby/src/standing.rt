@@ -83,6 +83,16 @@ impl Standing {
         is_first
     }
 
+    /// No lease was granted, so that nobody leads. Gives whether it is the first since somebody led.
+    pub fn refuse(&self, rt: &impl Wait) -> bool {
+        let mut board = self.board.lock(rt);
+        board.refused = board.refused.saturating_add(1);
+        let is_first = !board.is_refused;
+        board.is_refused = true;
+        is_first
+    }
+
+    /// Whether all that is kept was read once.
     pub(crate) fn is_ready(&self, rt: &impl Wait) -> bool {
         self.board.lock(rt).has_read_all
     }
