@@ -17,7 +17,7 @@ pub struct EtcdDevice<R, E> {
 }
 
 impl<R, E> EtcdDevice<R, E> {
-    /// That of an epoch that goes on.
+    /// That of an epoch that goes on, or of the next one.
     pub(crate) fn of(
         rt: R,
         journal: Arc<Mutex<EtcdJournal<E>>>,
@@ -35,9 +35,9 @@ impl<R, E> EtcdDevice<R, E> {
 
 impl<R: Wait, E: Etcd> EtcdDevice<R, E> {
     /// Has what is pending kept, and gives the number of the epoch in which it is.
-    fn kept(&self) -> io::Result<u32> {
+    fn keep_pending(&self) -> io::Result<u32> {
         let mut journal = self.journal.lock(&self.rt);
-        kept(&mut *journal, self.epoch, self.pending.as_slice())
+        keep_in(&mut *journal, self.epoch, self.pending.as_slice())
     }
 }
 
@@ -60,21 +60,24 @@ impl<R: Wait, E: Etcd> Device for EtcdDevice<R, E> {
     ghost kept = { λ _. None };
 
     fn keep(&mut self) -> io::Result<()> {
-        let epoch = self.kept()?;
-        self.epoch = Some(epoch);
-        self.pending.clear();
-        Ok(())
+        match self.keep_pending() {
+            Ok(epoch) => {
+                self.epoch = Some(epoch);
+                self.pending.clear();
+                Ok(())
+            }
+            Err(error) => Err(error),
+        }
     }
 
-    /// Fails where this instance leads no more, or another epoch goes on.
+    /// Fails where this instance leads no more.
     fn check(&self) -> io::Result<()> {
-        let journal = self.journal.lock(&self.rt);
-        journal.check()
+        self.journal.lock(&self.rt).check()
     }
 }
 
 /// Has these bytes kept in an epoch, or as the beginning of the next one, and gives the number of the epoch.
-fn kept<E: Etcd>(
+fn keep_in<E: Etcd>(
     journal: &mut EtcdJournal<E>,
     epoch: Option<u32>,
     bytes: &[u8],

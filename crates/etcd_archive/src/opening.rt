@@ -1,15 +1,24 @@
 //! The allocator that a journal in etcd leads to.
+ghost use Rattle.std.specs.Prelude.{◌≡◌, ℕ, IfOk, Some, map};
+ghost use Rattle.replay_lines.specs.Configurations.{spec_of};
+ghost use Rattle.sd_documents.specs.Config.{job_data};
+ghost use Rattle.journal_files.specs.Opening.{IsBegunAs, IsBegunWith, IsNextOf, IsOpened};
+ghost use Rattle.journal_files.specs.Starting.{asked_by};
+
 use crate::archive::EtcdArchive;
 use crate::device::EtcdDevice;
-use durable_journal::{Archive, Begun, FirstLine, next_epoch};
+use allocation_core::Core;
+use durable_journal::{Archive, Begun, Device, FirstLine, next_epoch};
+use etcd_journal::EtcdJournal;
 use etcd_turns::Etcd;
-use journal_files::{Fault, Journal, Next, Opened, Start, Wanted, read_journal};
+use journal_files::{Fault, Journal, Next, Opened, Past, Start, Wanted, read_journal};
 use log::info;
 use logfmt::Logfmt;
 use sd_documents::Job;
 use sealed_lines::Chain;
 use std::alloc::{AllocError, Global};
 use std::io;
+use std::io::Write;
 use std::sync::Wait;
 use std::time::Clock;
 
@@ -22,8 +31,8 @@ pub struct Began<R, E> {
 
 /// What is written from now on.
 #[derive(Drop)]
-struct Written<R, E> {
-    device: EtcdDevice<R, E>,
+struct Written<F> {
+    file: F,
     bytes: u64,
     chain: Option<Chain>,
 }
@@ -43,6 +52,7 @@ pub fn open_allocator<R, E>(
 where
     R: Wait + Clock + Eprint + Copy + Drop,
     E: Etcd + Drop,
+    ensures { IfOk result (λ b. (epoch : ℕ) × IsOpened ⟦<EtcdDevice<R, E> as Device>⟧.tells ⟦<EtcdDevice<R, E> as Write>⟧.contents (record { line = line.now; jobs = map spec_of (map job_data jobs.now); epoch = epoch }) b.opened) }
 {
     let etcd_journal::Opened { journal, lines } = stood;
     let epoch = next_epoch(rt, 0);
@@ -52,109 +62,180 @@ where
         epoch,
         round,
     };
+    match archive_of(rt, alloc, journal) {
+        Ok((archive, device)) => open_in(
+            rt,
+            alloc,
+            name,
+            archive,
+            device,
+            lines.as_slice(),
+            wanted,
+        ),
+        Err(error) => Err(error.into()),
+    }
+}
+
+/// The archive of a journal, and the device of the epoch that goes on.
+fn archive_of<R: Copy, E: Drop>(
+    rt: &R,
+    alloc: Global,
+    journal: EtcdJournal<E>,
+) -> Result<(EtcdArchive<R, E>, EtcdDevice<R, E>), AllocError> {
     let going = journal.seat.going;
-    let start = read_journal(alloc, name, &mut lines.as_slice(), wanted);
-    drop(lines);
-    match start {
-        Ok(start) => match EtcdArchive::of(*rt, alloc, journal) {
-            Ok(archive) => began(rt, archive, going, start),
-            Err(error) => {
-                drop(start);
-                Err(error.into())
-            }
-        },
+    let archive = EtcdArchive::of(*rt, alloc, journal)?;
+    match archive.device(Some(going)) {
+        Ok(device) => Ok((archive, device)),
+        Err(error) => {
+            drop(archive);
+            Err(error)
+        }
+    }
+}
+
+/// The allocator that the lines of an archive's journal lead to. Where the archive's instance leads no more, that is why there is none.
+fn open_in<R, E>(
+    rt: &R,
+    alloc: Global,
+    name: &str,
+    archive: EtcdArchive<R, E>,
+    device: EtcdDevice<R, E>,
+    lines: &[u8],
+    wanted: Wanted<'_>,
+) -> Result<Began<R, E>, Fault>
+where
+    R: Wait + Clock + Eprint + Copy + Drop,
+    E: Etcd + Drop,
+    ensures { IfOk result (λ b. IsOpened ⟦<EtcdDevice<R, E> as Device>⟧.tells ⟦<EtcdDevice<R, E> as Write>⟧.contents (asked_by wanted.entry) b.opened) }
+{
+    let mut archive = archive;
+    match opened(rt, alloc, name, &mut archive, device, lines, wanted) {
+        Ok(opened) => Ok(Began { opened, archive }),
         Err(fault) => {
-            drop(journal);
+            let is_over = archive.is_over();
+            drop(archive);
+            Err(if is_over { deposed(fault) } else { fault })
+        }
+    }
+}
+
+/// What ended an instance that leads no more.
+fn deposed(fault: Fault) -> Fault {
+    drop(fault);
+    Fault::Deposed
+}
+
+/// The allocator that the lines of a journal lead to, whose file this is, and whose next one is begun in this archive.
+fn opened<R: Clock + Eprint + Copy, F: Device + Drop, A: Archive<F>>(
+    rt: &R,
+    alloc: Global,
+    name: &str,
+    archive: &mut A,
+    file: F,
+    lines: &[u8],
+    wanted: Wanted<'_>,
+) -> Result<Opened<F>, Fault>
+    ensures { IfOk result (IsOpened F.tells F.contents (asked_by wanted.entry)) }
+{
+    let mut unread = lines;
+    match read_journal(alloc, name, &mut unread, wanted) {
+        Ok(start) => begin(rt, archive, file, start),
+        Err(fault) => {
+            drop(file);
             Err(fault)
         }
     }
 }
 
-fn began<R, E>(
+/// The allocator of a start, with the file that is written from now on.
+fn begin<R: Clock + Eprint + Copy, F: Device + Drop, A: Archive<F>>(
     rt: &R,
-    archive: EtcdArchive<R, E>,
-    going: u32,
+    archive: &mut A,
+    file: F,
     start: Start,
-) -> Result<Began<R, E>, Fault>
-where
-    R: Wait + Clock + Eprint + Copy + Drop,
-    E: Etcd + Drop,
+) -> Result<Opened<F>, Fault>
+    ensures { IfOk result (IsBegunAs F.tells F.contents start) }
 {
-    let mut archive = archive;
     let Start {
         core,
         past,
         journal,
     } = start;
-    let written = written(rt, &mut archive, going, &journal);
+    let written = next_file(rt, archive, file, &journal);
     drop(journal);
     match written {
-        Ok(written) => Ok(Began {
-            opened: Opened {
-                core,
-                epoch: past.epoch,
-                names: past.names,
-                file: Some(written.device),
-                bytes: written.bytes,
-                chain: written.chain,
-            },
-            archive,
-        }),
+        Ok(written) => Ok(opened_with(core, past, written)),
         Err(error) => {
-            drop((core, past, archive));
+            drop((core, past));
             Err(Fault::Machine(error))
         }
     }
 }
 
-/// What is written from now on, of a journal that was read.
-fn written<R, E>(
+fn opened_with<F>(core: Core, past: Past, written: Written<F>) -> Opened<F>
+    ensures { result ≡ record { core = core; epoch = past.epoch; names = past.names; file = Some written.file; bytes = written.bytes; chain = written.chain } }
+{
+    Opened {
+        core,
+        epoch: past.epoch,
+        names: past.names,
+        file: Some(written.file),
+        bytes: written.bytes,
+        chain: written.chain,
+    }
+}
+
+/// The file that is written from now on, of a journal that was read.
+fn next_file<R: Clock + Eprint + Copy, F: Device + Drop, A: Archive<F>>(
     rt: &R,
-    archive: &mut EtcdArchive<R, E>,
-    going: u32,
+    archive: &mut A,
+    file: F,
     journal: &Journal,
-) -> io::Result<Written<R, E>>
-where
-    R: Wait + Clock + Eprint + Copy + Drop,
-    E: Etcd + Drop,
+) -> io::Result<Written<F>>
+    ensures { IfOk result (λ w. IsNextOf F.tells F.contents journal.now journal.now.next w.file w.bytes w.chain) }
 {
     match &journal.next {
-        Next::Begins(first) => next_written(archive, first),
+        Next::Begins(first) => begun(archive, file, first),
         Next::GoesOn(events) => {
             log_read(rt, *events);
-            Ok(gone_on(archive, going, journal)?)
+            Ok(Written {
+                file,
+                bytes: journal.whole,
+                chain: journal.chain,
+            })
         }
         Next::IsReplaced(first) => {
             log_replaced(rt);
-            next_written(archive, first)
+            begun(archive, file, first)
         }
     }
 }
 
-fn gone_on<R: Copy, E: Drop>(
-    archive: &EtcdArchive<R, E>,
-    going: u32,
-    journal: &Journal,
-) -> Result<Written<R, E>, AllocError> {
-    let device = archive.device(Some(going))?;
-    Ok(Written {
-        device,
-        bytes: journal.whole,
-        chain: journal.chain,
-    })
+/// The file of the next journal, which begins with this line. The one that was read stays until then.
+fn begun<F: Device + Drop, A: Archive<F>>(
+    archive: &mut A,
+    file: F,
+    first: &FirstLine,
+) -> io::Result<Written<F>>
+    ensures { IfOk result (λ w. IsBegunWith F.tells F.contents first.now w.file w.bytes w.chain) }
+{
+    let begun = archive.begin(first);
+    drop(file);
+    match begun {
+        Ok(begun) => Ok(begun_file(begun)),
+        Err(error) => Err(error),
+    }
 }
 
-/// What is written of the next epoch, which begins with this line.
-fn next_written<R: Wait + Copy + Drop, E: Etcd + Drop>(
-    archive: &mut EtcdArchive<R, E>,
-    first: &FirstLine,
-) -> io::Result<Written<R, E>> {
-    let Begun { file, chain, bytes } = archive.begin(first)?;
-    Ok(Written {
-        device: file,
-        bytes,
-        chain: Some(chain),
-    })
+/// What is written from now on of a journal that has just begun.
+fn begun_file<F>(begun: Begun<F>) -> Written<F>
+    ensures { result ≡ record { file = begun.file; bytes = begun.bytes; chain = Some begun.chain } }
+{
+    Written {
+        file: begun.file,
+        bytes: begun.bytes,
+        chain: Some(begun.chain),
+    }
 }
 
 fn log_read<R: Clock + Eprint + Copy>(rt: &R, events: u64) {
