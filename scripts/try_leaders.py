@@ -407,8 +407,16 @@ def settings(t):
     for i, (given, allocator, wanted) in enumerate(rows):
         status, text = refused(t, f"refused{i}", given, **allocator)
         t.holds(f"{given} {allocator}: {status} {text}", status == 2 and wanted in text)
-    status, text = refused(t, "taken", [], journal=etcd, advertise="https://a.example:443", etcd_user="a", etcd_password_file="b")
+    given = {"journal": etcd, "advertise": "https://a.example:443", "etcd_user": "a", "etcd_password_file": f"{t.folder}/password"}
+    status, text = refused(t, "missing", [], **given)
+    t.holds(f"a password that is not there: {status} {text}", status == 2 and "allocator.etcd_password_file" in text)
+    with open(f"{t.folder}/password", "w") as it:
+        it.write("secret\n")
+    os.chmod(f"{t.folder}/password", 0o600)
+    status, text = refused(t, "taken", [], **given)
     t.holds(f"taken: {status} {text}", status == 0)
+    status, text = refused(t, "everywhere", ["--listen", "0.0.0.0:1"], journal=etcd, open_to_all=True)
+    t.holds(f"nobody can be sent to 0.0.0.0: {status} {text}", status == 2 and "allocator.advertise" in text)
 
 
 def schedule(t, seed, seconds):

@@ -6,7 +6,7 @@ use crate::documents::{read_document, service_in};
 use crate::doors::admission_at;
 use crate::etcd_words::etcd_of;
 use crate::in_etcd::{Begun, serve_in_etcd};
-use crate::instance::Instance;
+use crate::instance::{Instance, check_instance};
 use crate::listening::{listen_address, listener_at};
 use crate::not_followed::{told_valid, warn_of};
 use crate::running::serve_journal;
@@ -239,11 +239,6 @@ where
 {
     let mut service = service;
     match places_of(rt, options, &mut service) {
-        Ok(_) if options.check_config => {
-            let told = tell_valid(rt, options.config, document, service.jobs());
-            drop((service, etcd));
-            told
-        }
         Ok((here, journal)) => {
             let asked = Asked {
                 options,
@@ -251,6 +246,11 @@ where
                 lost_lines,
                 here,
             };
+            if options.check_config {
+                let told = tell_checked(rt, &asked, &etcd, service.jobs());
+                drop((service, etcd, journal));
+                return told;
+            }
             serve_at(rt, machine, &asked, service, journal, etcd)
         }
         Err(fault) => {
@@ -258,6 +258,19 @@ where
             Err(fault)
         }
     }
+}
+
+/// Tells that a configuration is valid, also of a journal in etcd.
+fn tell_checked<R: Files<File = File> + Print + AllocGlobal>(
+    rt: &R,
+    asked: &Asked<'_>,
+    etcd: &Option<Settings>,
+    jobs: &[Job],
+) -> Result<(), Fault> {
+    if let Some(settings) = etcd {
+        check_instance(rt, asked, settings)?;
+    }
+    tell_valid(rt, asked.options.config, asked.document, jobs)
 }
 
 /// Where a service is to listen, with its doors there, and the path of its journal.

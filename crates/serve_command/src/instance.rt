@@ -195,6 +195,17 @@ fn lookups_of(machine: Machine<'_>) -> Result<(Arc<Lookups>, Arc<Lookups>), Faul
     }
 }
 
+/// Refuses settings with which there is no instance: others cannot be sent to it, or its password cannot be read.
+pub(crate) fn check_instance<R: Files<File = File> + AllocGlobal>(
+    rt: &R,
+    asked: &Asked<'_>,
+    settings: &Settings,
+) -> Result<(), Fault> {
+    drop(advertise_of(rt.alloc(), asked, settings)?);
+    drop(login_of(rt, asked.options.config, settings)?);
+    Ok(())
+}
+
 /// The URL at which others reach an instance: that of the settings, or else where it listens.
 fn advertise_of(alloc: Global, asked: &Asked<'_>, settings: &Settings) -> Result<Text, Fault> {
     let here = asked.here;
