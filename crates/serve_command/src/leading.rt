@@ -57,7 +57,7 @@ where
         device,
     } = begun;
     let mut configuration = configuration;
-    let service = service_now(rt, asked, &mut configuration, service);
+    let service = service_now(rt, asked, &mut configuration, service).with_leading();
     serve_led(
         rt,
         instance,
