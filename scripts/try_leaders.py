@@ -196,7 +196,7 @@ def one(t):
     for i in range(20):
         t.holds(f"join {i}", a.join(f"c{i}") == 200)
     t.holds("a list", a.ask("GET", "/jobs/node/targets?collector_id=c0")[0] == 200)
-    t.holds("metrics", a.ask("GET", "/metrics")[0] == 200)
+    t.holds("metrics", "\nallocd_leading 1\n" in a.ask("GET", "/metrics")[1])
     t.holds(f"a status of 0: {a.said()[-300:]}", a.quit() == 0)
     t.holds("20 joins", len(t.all_kept()) == 20)
 
@@ -303,6 +303,38 @@ def no_quorum(t):
     t.holds("a join", comes(lambda: a.process.poll() is not None or a.join("behind") == 200, 40) and a.process.poll() is None)
     names = t.all_kept()
     t.holds(f"in order: {names}", names == ["before", "meanwhile", "behind"])
+
+
+@row("without space nothing is answered and nobody takes over, until it is freed")
+def no_space(t):
+    a = t.leading("a")
+    b = t.standing_by("b")
+    t.holds("a join", a.join("before") == 200)
+    member = t.cluster.post("/v3/maintenance/status", {})["header"]["member_id"]
+    alarm = {"memberID": member, "alarm": "NOSPACE"}
+    t.cluster.post("/v3/maintenance/alarm", {**alarm, "action": "ACTIVATE"})
+    status, text, _ = a.ask("POST", "/collectors", {"name": "lost", "reach": [{"allow": True, "test": "any"}]}, seconds=40)
+    t.holds(f"it is not kept: {status} {text}", status == 503 and "NotKept" in text)
+    t.holds("a leads still", a.leads())
+    a.kill()
+    t.holds("nobody leads", not comes(b.leads, 2 * LEASE + 4))
+    t.holds(f"its log says why: {b.said()[-300:]}", b.said().count("etcd grants no lease") == 1)
+    t.cluster.post("/v3/maintenance/alarm", {**alarm, "action": "DEACTIVATE"})
+    t.holds(f"b leads: {b.said()[-300:]}", comes(b.leads, LEASE + 6))
+    t.holds("a join", b.join("behind") == 200)
+    t.holds("no other", t.all_kept(["lost"]) == ["before", "behind"])
+
+
+@row("who is stopped while nothing is submitted ends by itself, and shows nothing more")
+def idle(t):
+    a = t.leading("a", config=config_of(settle="0"))
+    b = t.standing_by("b")
+    t.holds("a join", a.join("a0") == 200)
+    a.signal(signal.SIGSTOP)
+    t.holds(f"b leads: {b.said()[-300:]}", comes(b.leads, 2 * LEASE + 6))
+    a.signal(signal.SIGCONT)
+    t.holds(f"a status of 4: {a.said()[-400:]}", a.wait(8) == 4)
+    t.holds("nobody else", t.all_kept() == ["a0"])
 
 
 @row("other jobs are another epoch, at a reload and at a take-over")
