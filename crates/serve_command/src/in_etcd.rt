@@ -334,23 +334,44 @@ where
         + Copy
         + Drop,
 {
-    let opened = match instance.new_term(rt) {
-        Ok(term) => open(
-            instance.alloc,
-            instance.prefix(),
-            term.as_str(),
-            granted.lease,
-            instance.keep,
-            client,
-        )
-        .map_err(io::Error::from),
-        Err(error) => {
-            drop(client);
-            Err(error)
-        }
-    };
+    let opened = open_under(rt, instance, client, granted);
     gate.stop();
     opened
+}
+
+fn open_under<R>(
+    rt: &R,
+    instance: &Instance,
+    client: EtcdClient<R>,
+    granted: Granted,
+) -> io::Result<Option<Opened<EtcdClient<R>>>>
+where
+    R: Wait
+        + Clock
+        + Net<Listener = TcpListener, Stream = TcpStream>
+        + RandomSource
+        + AllocGlobal
+        + Copy
+        + Drop,
+{
+    let term = match instance.new_term(rt) {
+        Ok(term) => term,
+        Err(error) => {
+            drop(client);
+            return Err(error);
+        }
+    };
+    match open(
+        instance.alloc,
+        instance.prefix(),
+        term.as_str(),
+        granted.lease,
+        instance.keep,
+        client,
+    ) {
+        Ok(opened) => Ok(opened),
+        Err(error) => Err(error.into()),
+    }
 }
 
 fn log_standing_by<R: Clock + Eprint + Copy>(rt: &R, listener: &TcpListener) {
