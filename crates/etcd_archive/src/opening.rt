@@ -2,8 +2,9 @@
 ghost use Rattle.std.specs.Prelude.{◌≡◌, ℕ, IfOk, Some, map};
 ghost use Rattle.replay_lines.specs.Configurations.{spec_of};
 ghost use Rattle.sd_documents.specs.Config.{job_data};
-ghost use Rattle.journal_files.specs.Opening.{IsBegunAs, IsBegunWith, IsNextOf, IsOpened};
+ghost use Rattle.journal_files.specs.Opening.{IsBegunAs, IsBegunWith, IsNextOf};
 ghost use Rattle.journal_files.specs.Starting.{asked_by};
+ghost use Rattle.etcd_archive.specs.Opening.{IsOpenedFrom};
 
 use crate::archive::EtcdArchive;
 use crate::device::EtcdDevice;
@@ -52,7 +53,7 @@ pub fn open_allocator<R, E>(
 where
     R: Wait + Clock + Eprint + Copy + Drop,
     E: Etcd + Drop,
-    ensures { IfOk result (λ b. (epoch : ℕ) × IsOpened ⟦<EtcdDevice<R, E> as Device>⟧.tells ⟦<EtcdDevice<R, E> as Write>⟧.contents (record { line = line.now; jobs = map spec_of (map job_data jobs.now); epoch = epoch }) b.opened) }
+    ensures { IfOk result (λ b. (epoch : ℕ) × IsOpenedFrom ⟦<EtcdDevice<R, E> as Device>⟧.tells ⟦<EtcdDevice<R, E> as Write>⟧.contents (record { line = line.now; jobs = map spec_of (map job_data jobs.now); epoch = epoch }) stood.lines b.opened) }
 {
     let etcd_journal::Opened { journal, lines } = stood;
     let epoch = next_epoch(rt, 0);
@@ -106,7 +107,7 @@ fn open_in<R, E>(
 where
     R: Wait + Clock + Eprint + Copy + Drop,
     E: Etcd + Drop,
-    ensures { IfOk result (λ b. IsOpened ⟦<EtcdDevice<R, E> as Device>⟧.tells ⟦<EtcdDevice<R, E> as Write>⟧.contents (asked_by wanted.entry) b.opened) }
+    ensures { IfOk result (λ b. IsOpenedFrom ⟦<EtcdDevice<R, E> as Device>⟧.tells ⟦<EtcdDevice<R, E> as Write>⟧.contents (asked_by wanted.entry) lines.now b.opened) }
 {
     let mut archive = archive;
     match opened(rt, alloc, name, &mut archive, device, lines, wanted) {
@@ -135,7 +136,7 @@ fn opened<R: Clock + Eprint + Copy, F: Device + Drop, A: Archive<F>>(
     lines: &[u8],
     wanted: Wanted<'_>,
 ) -> Result<Opened<F>, Fault>
-    ensures { IfOk result (IsOpened F.tells F.contents (asked_by wanted.entry)) }
+    ensures { IfOk result (IsOpenedFrom F.tells F.contents (asked_by wanted.entry) lines.now) }
 {
     let mut unread = lines;
     match read_journal(alloc, name, &mut unread, wanted) {
