@@ -54,7 +54,7 @@ fn is_in_etcd<R: Files<File = File> + AllocGlobal>(rt: &R, options: &ServeOption
     match read_document(rt, alloc, options.config) {
         Ok(document) => {
             let etcd = etcd_of(alloc, options.config, document.as_slice(), options.journal);
-            matches!(etcd, Ok(Some(_)))
+            matches!(&etcd, Ok(Some(_)))
         }
         Err(_) => false,
     }
