@@ -21,6 +21,11 @@ const AUTHORIZATION: &str = "authorization";
 /// How long is waited before another endpoint is asked, in milliseconds.
 const PAUSE: u64 = 20;
 
+/// The status of what whoever asks may not do (RFC 9110, section 15.5.4), and how often in a row it is taken for a thing that passes.
+const FORBIDDEN: u16 = 403;
+
+const MOST_FORBIDDEN: u32 = 100;
+
 /// How many times as long is waited for an answer at the most, where none came for long.
 const MOST_TIMES: u64 = 8;
 
@@ -40,8 +45,9 @@ pub struct EtcdClient<R> {
     /// How many requests were answered 200, and how many were not.
     pub answered: u64,
     pub missed: u64,
-    /// How many were not since the last that was.
+    /// How many were not since the last that was, and how many of the last in a row were forbidden.
     silent: usize,
+    forbidden: u32,
 }
 
 impl<R> EtcdClient<R> {
@@ -64,6 +70,7 @@ impl<R> EtcdClient<R> {
             answered: 0,
             missed: 0,
             silent: 0,
+            forbidden: 0,
         }
     }
 
@@ -138,7 +145,20 @@ impl<R: Wait + Clock + Net + RandomSource + AllocGlobal> EtcdClient<R> {
         thread::sleep(&self.rt, Duration::from_millis(PAUSE));
     }
 
+    /// Who may not do what is asked for long does not lead: nothing of it is kept.
+    fn note_forbidden(&mut self, status: u16) {
+        if status != FORBIDDEN {
+            self.forbidden = 0;
+            return;
+        }
+        self.forbidden = self.forbidden.saturating_add(1);
+        if self.forbidden >= MOST_FORBIDDEN {
+            self.watch.refuse();
+        }
+    }
+
     fn came(&mut self, answer: Answer) -> Reply {
+        self.note_forbidden(answer.status);
         if is_token_over(answer.status) {
             self.token = None;
         }

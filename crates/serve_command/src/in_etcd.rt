@@ -137,9 +137,7 @@ where
     match granted(rt, instance) {
         Ok(Some(under)) => lead_under(rt, instance, asked, begun, under),
         Ok(None) => {
-            if instance.standing.refuse(rt) {
-                log_no_lease(rt);
-            }
+            tell_refused(rt, instance);
             Led::Lost(begun)
         }
         Err(error) => {
@@ -227,8 +225,18 @@ where
         },
     );
     let _ = revoke(instance.alloc, &mut keeper, granted.lease);
+    if watch.is_refused() {
+        tell_refused(rt, instance);
+    }
     drop((keeper, watch));
     led
+}
+
+/// Tells that this instance cannot lead, once until somebody does.
+fn tell_refused<R: Wait + Clock + Eprint + Copy>(rt: &R, instance: &Instance) {
+    if instance.standing.refuse(rt) {
+        log_refused(rt);
+    }
 }
 
 /// Reads what stands, where no other is faster, and serves over it.
@@ -380,8 +388,8 @@ fn log_standing_by<R: Clock + Eprint + Copy>(rt: &R, listener: &TcpListener) {
     }
 }
 
-fn log_no_lease<R: Clock + Eprint + Copy>(rt: &R) {
-    warn!(Logfmt(*rt); "etcd grants no lease, or does not answer: nobody leads, and it is asked again");
+fn log_refused<R: Clock + Eprint + Copy>(rt: &R) {
+    warn!(Logfmt(*rt); "etcd grants no lease, forbids what is asked, or does not answer: nobody leads, and it is asked again");
 }
 
 fn log_leading<R: Clock + Eprint + Copy, E>(rt: &R, opened: &Opened<E>) {
