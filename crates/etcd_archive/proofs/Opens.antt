@@ -11,8 +11,3 @@ pub opened_from : {D E : Type 0} (tells : Bool) (contents : D → Option (List �
     → IfOk r (IsOpenedFrom tells contents asked bytes)
 opened_from tells contents asked bytes start (Err e) read begun = tt
 opened_from tells contents asked bytes start (Ok opened) read begun = record { start = start; read = read; begun = begun }
-
--- in the epoch that it has
-pub in_epoch : {B E : Type 0} (P : ℕ → B → Type 0) (epoch : ℕ) (r : Result B E) → IfOk r (P epoch) → IfOk r (λ b. (e : ℕ) × P e b)
-in_epoch P epoch (Err e) is = tt
-in_epoch P epoch (Ok b) is = (epoch, is)

@@ -1,7 +1,5 @@
 //! The allocator that a journal in etcd leads to.
-ghost use Rattle.std.specs.Prelude.{◌≡◌, ℕ, IfOk, Some, map};
-ghost use Rattle.replay_lines.specs.Configurations.{spec_of};
-ghost use Rattle.sd_documents.specs.Config.{job_data};
+ghost use Rattle.std.specs.Prelude.{◌≡◌, IfOk, Some};
 ghost use Rattle.journal_files.specs.Opening.{IsBegunAs, IsBegunWith, IsNextOf};
 ghost use Rattle.journal_files.specs.Starting.{asked_by};
 ghost use Rattle.etcd_archive.specs.Opening.{IsOpenedFrom};
@@ -9,13 +7,12 @@ ghost use Rattle.etcd_archive.specs.Opening.{IsOpenedFrom};
 use crate::archive::EtcdArchive;
 use crate::device::EtcdDevice;
 use allocation_core::Core;
-use durable_journal::{Archive, Begun, Device, FirstLine, next_epoch};
+use durable_journal::{Archive, Begun, Device, FirstLine};
 use etcd_journal::EtcdJournal;
 use etcd_turns::Etcd;
 use journal_files::{Fault, Journal, Next, Opened, Past, Start, Wanted, read_journal};
 use log::info;
 use logfmt::Logfmt;
-use sd_documents::Job;
 use sealed_lines::Chain;
 use std::alloc::{AllocError, Global};
 use std::io;
@@ -38,31 +35,21 @@ struct Written<F> {
     chain: Option<Chain>,
 }
 
-/// The allocator that a journal which was opened in etcd leads to, under these jobs of a configuration. Where it has other jobs it is renewed under these, and
-/// another epoch begins. A new journal begins with this line of the configuration. A round is so many milliseconds long. The name is that of the journal, as it is
-/// told.
+/// The allocator that a journal which was opened in etcd leads to, under what is wanted. Where it has other jobs than those it is renewed under these, and another
+/// epoch begins. A new journal begins with the line that is wanted. The name is that of the journal, as it is told.
 pub fn open_allocator<R, E>(
     rt: &R,
     alloc: Global,
     name: &str,
     stood: etcd_journal::Opened<E>,
-    line: &str,
-    jobs: &[Job],
-    round: u64,
+    wanted: Wanted<'_>,
 ) -> Result<Began<R, E>, Fault>
 where
     R: Wait + Clock + Eprint + Copy + Drop,
     E: Etcd + Drop,
-    ensures { IfOk result (λ b. (epoch : ℕ) × IsOpenedFrom ⟦<EtcdDevice<R, E> as Device>⟧.tells ⟦<EtcdDevice<R, E> as Write>⟧.contents (record { line = line.now; jobs = map spec_of (map job_data jobs.now); epoch = epoch }) stood.lines b.opened) }
+    ensures { IfOk result (λ b. IsOpenedFrom ⟦<EtcdDevice<R, E> as Device>⟧.tells ⟦<EtcdDevice<R, E> as Write>⟧.contents (asked_by wanted.entry) stood.lines b.opened) }
 {
     let etcd_journal::Opened { journal, lines } = stood;
-    let epoch = next_epoch(rt, 0);
-    let wanted = Wanted {
-        line,
-        jobs,
-        epoch,
-        round,
-    };
     match archive_of(rt, alloc, journal) {
         Ok((archive, device)) => open_in(
             rt,

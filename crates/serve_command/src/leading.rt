@@ -6,10 +6,11 @@ use crate::in_etcd::Begun;
 use crate::instance::Instance;
 use crate::running::{log_address, log_end};
 use command_words::VERSION;
+use durable_journal::next_epoch;
 use etcd_archive::{Began, open_allocator};
 use etcd_client::EtcdClient;
 use etcd_journal::Opened;
-use journal_files::Fault;
+use journal_files::{Fault, Wanted};
 use kept_journal::JournalFile;
 use log::warn;
 use logfmt::{Logfmt, Quoted};
@@ -142,9 +143,7 @@ where
         instance.alloc,
         instance.name(),
         opened,
-        service.line(),
-        service.jobs(),
-        service.scrape_interval(),
+        wanted_by(rt, &service),
     ) {
         Ok(began) => serve_began(
             rt,
@@ -159,6 +158,16 @@ where
             drop((service, configuration, listener, device));
             Err(fault)
         }
+    }
+}
+
+/// What a journal is to go on with under a service.
+fn wanted_by<'a, R: Clock>(rt: &R, service: &'a Service) -> Wanted<'a> {
+    Wanted {
+        line: service.line(),
+        jobs: service.jobs(),
+        epoch: next_epoch(rt, 0),
+        round: service.scrape_interval(),
     }
 }
 
