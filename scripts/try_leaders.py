@@ -300,7 +300,8 @@ def no_quorum(t):
     t.holds(f"it is not kept: {status} {text}", status == 503 and "NotKept" in text)
     for i in others:
         t.cluster.signal(i, signal.SIGCONT)
-    t.holds("a join", comes(lambda: a.process.poll() is not None or a.join("behind") == 200, 40) and a.process.poll() is None)
+    t.holds("it is ready again", comes(lambda: a.process.poll() is not None or a.ask("GET", "/-/ready")[0] == 200, 40) and a.process.poll() is None)
+    t.holds("a join", a.join("behind") == 200)
     names = t.all_kept()
     t.holds(f"in order: {names}", names == ["before", "meanwhile", "behind"])
 
