@@ -630,7 +630,10 @@ def figures(folder):
     for path in READ_ONLY:
         service.ask("GET", path)
     tell("and what only reads enters nothing", bytes_written() == before == service.figure("allocd_journal_written_bytes_total"))
+    looks = [service.ask(method, f"/jobs/n/targets?collector_id=b{look}")[0] for method, look in (("GET", "&take=false"), ("HEAD", ""))]
     service.ask("POST", "/collectors/1/drain", {})
+    new = lines_of(f"{folder}/journal")[first + before :]
+    tell("nor does who only looks at a list that nobody asked for yet", looks == [200, 200] and b'"drain"' in new and b'"serve"' not in new and b'"take"' not in new, (looks, new))
     tell("a drained collector is emptied, and the figures say how", has(service, 'allocd_collector_targets{collector="b"}', 4))
     moved = [service.figure(name) for name in ("allocd_allocation_moved", "allocd_allocation_left", 'allocd_collector_draining{collector="a"}')]
     tell("how many moved, how many are left, and who drains", moved == [4, 0, 1], moved)

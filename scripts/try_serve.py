@@ -503,7 +503,12 @@ def hand_overs(folder):
         json.dump(config, it)
     ask(service.port, "POST", "/-/reload")
     comes(lambda: ask(service.port, "GET", "/jobs")[2].count("one more") > 0, 5)
-    tell("and another one once the allocator is renewed", int(list_of(service.port, "b")[1]["x-allocator-epoch"]) > epoch)
+    renewed = int(list_of(service.port, "b")[1]["x-allocator-epoch"])
+    tell("and another one once the allocator is renewed", renewed > epoch)
+    service.quit()
+    service = Service(folder, journal, config)
+    service.is_up()
+    tell("which is the journal's, too, behind the next start", int(list_of(service.port, "b")[1]["x-allocator-epoch"]) == renewed)
     service.quit()
 
 
