@@ -25,9 +25,9 @@ CLAIMS = [
 ]
 # What the running service promises: which public function carries it, and which contracts, or clauses of them, say it.
 PROMISES = [
-    ("A list that was answered", "what a list was answered is of a history that is legal from where the desk began; that this is the one that the journal has, and kept before, is tested alone", "sd_server Handler::entry",
+    ("A list that was answered", "what a list was answered is of the one history that the journal has, and kept before", "sd_server Handler::entry",
      [("sd_server", "handler.rt", "entry", {"kept", "moves"}), ("sd_server", "collector_lists.rt", "collector", None)]),
-    ("An event that was answered", "what an event was answered is the machine's answer to it in a history that is legal from where the desk began; that this is the one that the journal has, and kept before, is tested alone", "sd_server Handler::entry",
+    ("An event that was answered", "what an event was answered is the answer to an entry of the one history that the journal has, and kept before", "sd_server Handler::entry",
      [("sd_server", "handler.rt", "entry", {"kept", "moves"}), ("sd_server", "handler.rt", "entered", None)]),
     ("The journal's file", "over all desks, reloads and renewals the file of a device that tells its bytes leads to the allocator that is served", "service_tasks continued",
      [("daemon", "serving.rt", "serve", None), ("daemon", "one_desk.rt", "serve_desk", None), ("service_tasks", "renewing.rt", "continued", None)]),

@@ -11,9 +11,9 @@ use durable_journal::Device;
 use event_loops::{Gate, Times};
 use file_configs::ReadFiles;
 use http_get::FetchSeveral;
-use kept_journal::{DeskJournal, JournalName};
+use kept_journal::{DeskJournal, JournalName, Kept};
 use sd_server::{Handler, ListTexts};
-use service_state::{ConfigPages, Kept, ServiceState};
+use service_state::{ConfigPages, ServiceState};
 use service_tasks::{Configuration, Crew, Ending, Journal, Office, Service, Shared, kept_of};
 use std::alloc::{AllocError, AllocGlobal, Global};
 use std::io;
@@ -189,7 +189,7 @@ fn handler_of<R: Wait + Copy, L: Ledger, B: Ledger, N: JournalName, S, F: Device
 /// What a handler shows beside its desk.
 #[derive(Drop)]
 struct Shown<N: JournalName> {
-    kept: Option<Arc<Kept>>,
+    kept: Option<Arc<Kept<N>>>,
     texts: Arc<ListTexts<N>>,
     pages: Arc<ConfigPages>,
     state: Arc<ServiceState>,
@@ -317,25 +317,64 @@ where
     requires { handler.now.kept ≡ None → journal.old ≡ None }
 {
     let gate = gate_of(handler.alloc, office)?;
-    let shared = shared_by(rt, service, office, handler)?;
-    let ending = match shared.begin(&mut crew.scheduler, service, office) {
-        Ok(()) => {
-            let served = Served {
-                rt: *rt,
-                alloc: handler.alloc,
-                shared: &shared,
-                handler,
-                gate: &gate,
-            };
-            match served.run(office, journal, crew) {
-                Ok(()) => Ok(shared.ending()),
-                Err(error) => Err(error),
-            }
+    match shared_by(rt, service, office, handler) {
+        Ok(shared) => {
+            let ending = run_over(rt, service, office, journal, handler, crew, &gate, &shared);
+            drop((shared, gate));
+            ending
         }
-        Err(error) => Err(error.into()),
+        Err(error) => {
+            drop(gate);
+            Err(error.into())
+        }
+    }
+}
+
+/// Enters what the configuration begins with, and runs the threads until the desk is to be closed.
+fn run_over<R, L, B, N, S, F, C>(
+    rt: &R,
+    service: &Service,
+    office: &mut Office<S, F, C>,
+    journal: &mut Option<DeskJournal<F, N>>,
+    handler: &Handler<R, L, B, N>,
+    crew: &mut Crew<L, B, N>,
+    gate: &Arc<Gate>,
+    shared: &Shared<R, L, B, N>,
+) -> io::Result<Ending>
+where
+    R: Wait
+        + Threads
+        + Clock
+        + Net<Listener = TcpListener, Stream = TcpStream>
+        + RandomSource
+        + AllocGlobal
+        + Eprint
+        + Sync
+        + Send
+        + Copy
+        + Drop,
+    L: Ledger + Send + Sync,
+    B: Ledger + Send + Sync,
+    N: JournalName + Send + Sync,
+    S: FetchSeveral + ReadFiles + Send + Drop,
+    F: Device + Send + Drop,
+    C: Configuration + Send + Drop,
+    requires { handler.now.kept ≡ None → journal.old ≡ None }
+{
+    if let Err(error) = shared.begin(&mut crew.scheduler, service, office) {
+        return Err(error.into());
+    }
+    let served = Served {
+        rt: *rt,
+        alloc: handler.alloc,
+        shared,
+        handler,
+        gate,
     };
-    drop((shared, gate));
-    ending
+    match served.run(office, journal, crew) {
+        Ok(()) => Ok(shared.ending()),
+        Err(error) => Err(error),
+    }
 }
 
 /// What the threads over a handler's desk share.

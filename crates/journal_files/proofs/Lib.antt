@@ -1,0 +1,4 @@
+pub mod WholeLines
+pub mod Leading
+pub mod Starts
+pub mod Opens

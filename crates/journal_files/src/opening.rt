@@ -1,17 +1,24 @@
 //! The file of the journal, and the allocator to begin with.
+ghost use Rattle.std.specs.Prelude.{◌≡◌, IfOk, Some, map};
+ghost use Rattle.replay_lines.specs.Configurations.{spec_of};
+ghost use Rattle.sd_documents.specs.Config.{job_data};
+ghost use Rattle.journal_files.specs.Opening.{AllocatorOf, IsBegunAs, IsBegunWith, IsNextOf, IsOpened};
+ghost use Rattle.journal_files.specs.Starting.{asked_by};
+
 use crate::disk::Disk;
 use crate::fault::Fault;
 use crate::journals::{Journals, end_renewal, lock_file, open_journal, sync_folder};
 use crate::names::NamedCollector;
 use crate::reading::{Journal, Next, Past, Start, Wanted, configured, read_journal};
 use allocation_core::Core;
-use durable_journal::{Begun, FirstLine, next_epoch};
+use durable_journal::{Begun, Device, FirstLine, next_epoch};
 use log::{info, warn};
 use logfmt::Logfmt;
 use sd_documents::Job;
 use sealed_lines::Chain;
 use std::alloc::{AllocGlobal, Global};
 use std::fs::{File, OpenFile};
+use std::io::Write;
 use std::rt::Files;
 use std::time::Clock;
 use std::{fs, io};
@@ -47,7 +54,9 @@ pub fn open_allocator<R: Files<File = File> + AllocGlobal + Clock + Eprint + Cop
     line: &str,
     jobs: &[Job],
     round: u64,
-) -> Result<Opened<Disk>, Fault> {
+) -> Result<Opened<Disk>, Fault>
+    ensures { IfOk result (AllocatorOf ⟦<Disk as Device>⟧.tells ⟦<Disk as Write>⟧.contents line.now (map spec_of (map job_data jobs.now))) }
+{
     let epoch = next_epoch(&journals.rt, 0);
     match journals.path() {
         Some(path) => open_at(
@@ -75,7 +84,9 @@ fn open_at<R: Files<File = File> + AllocGlobal + Clock + Eprint + Copy + Drop>(
     journals: &Journals<R>,
     path: &str,
     wanted: Wanted<'_>,
-) -> Result<Opened<Disk>, Fault> {
+) -> Result<Opened<Disk>, Fault>
+    ensures { IfOk result (IsOpened ⟦<Disk as Device>⟧.tells ⟦<Disk as Write>⟧.contents (asked_by wanted.entry)) }
+{
     let mut file = own_journal(&journals.rt, journals.alloc, path)?;
     match read_journal(journals.alloc, path, &mut file, wanted) {
         Ok(start) => begin(journals, path, file, start),
@@ -105,12 +116,15 @@ fn own_file<R: Files<File = File>>(
     end_renewal(rt, alloc, path)
 }
 
+/// The allocator of a start, with the file that is written from now on.
 fn begin<R: Files<File = File> + AllocGlobal + Clock + Eprint + Copy + Drop>(
     journals: &Journals<R>,
     path: &str,
     file: File,
     start: Start,
-) -> Result<Opened<Disk>, Fault> {
+) -> Result<Opened<Disk>, Fault>
+    ensures { IfOk result (IsBegunAs ⟦<Disk as Device>⟧.tells ⟦<Disk as Write>⟧.contents start) }
+{
     let Start {
         core,
         past,
@@ -127,7 +141,9 @@ fn begin<R: Files<File = File> + AllocGlobal + Clock + Eprint + Copy + Drop>(
     }
 }
 
-fn opened_with(core: Core, past: Past, written: Written) -> Opened<Disk> {
+fn opened_with(core: Core, past: Past, written: Written) -> Opened<Disk>
+    ensures { result ≡ record { core = core; epoch = past.epoch; names = past.names; file = Some written.file; bytes = written.bytes; chain = written.chain } }
+{
     Opened {
         core,
         epoch: past.epoch,
@@ -144,7 +160,9 @@ fn next_file<R: Files<File = File> + AllocGlobal + Clock + Eprint + Copy + Drop>
     path: &str,
     file: File,
     journal: &Journal,
-) -> io::Result<Written> {
+) -> io::Result<Written>
+    ensures { IfOk result (λ w. IsNextOf ⟦<Disk as Device>⟧.tells ⟦<Disk as Write>⟧.contents journal.now journal.now.next w.file w.bytes w.chain) }
+{
     cut(&journals.rt, &file, journal)?;
     match &journal.next {
         Next::Begins(first) => begun(journals, path, file, first),
@@ -169,14 +187,18 @@ fn replaced<R: Files<File = File> + AllocGlobal + Clock + Eprint + Copy + Drop>(
     journals: &Journals<R>,
     path: &str,
     first: &FirstLine,
-) -> io::Result<Written> {
+) -> io::Result<Written>
+    ensures { IfOk result (λ w. IsBegunWith ⟦<Disk as Device>⟧.tells ⟦<Disk as Write>⟧.contents first.now w.file w.bytes w.chain) }
+{
     let begun = journals.change(path, first)?;
     log_replaced(&journals.rt);
     Ok(begun_file(begun))
 }
 
 /// What is written from now on of a journal that has just begun.
-fn begun_file(begun: Begun<Disk>) -> Written {
+fn begun_file(begun: Begun<Disk>) -> Written
+    ensures { result ≡ record { file = begun.file; bytes = begun.bytes; chain = Some begun.chain } }
+{
     Written {
         file: begun.file,
         bytes: begun.bytes,
@@ -194,7 +216,9 @@ fn begun<R: Files<File = File>>(
     path: &str,
     file: File,
     first: &FirstLine,
-) -> io::Result<Written> {
+) -> io::Result<Written>
+    ensures { IfOk result (λ w. IsBegunWith ⟦<Disk as Device>⟧.tells ⟦<Disk as Write>⟧.contents first.now w.file w.bytes w.chain) }
+{
     let begun = first.begin(journals.alloc, Disk::new(file))?;
     match sync_folder(&journals.rt, path) {
         Ok(()) => Ok(begun_file(begun)),

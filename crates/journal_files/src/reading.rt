@@ -1,4 +1,12 @@
 //! The allocator that a journal leads to, under the jobs of a configuration.
+ghost use Rattle.std.specs.Prelude.{◌≡◌, IfOk, Ok, Some, map};
+ghost use Rattle.durable_journal.specs.Beginnings.{OpensRenewed};
+ghost use Rattle.replay_lines.specs.Configurations.{spec_of};
+ghost use Rattle.replay_lines.specs.Resumes.{resumed as resumed_text, resumption_at};
+ghost use Rattle.sd_documents.specs.Config.{job_data};
+ghost use Rattle.journal_files.specs.declared.reading.Next.TheVariants.{Begins};
+ghost use Rattle.journal_files.specs.Starting.{BeginsAnew, GoesBehind, IsConfigured, IsLaterEpoch, IsLedOn, IsMachine, IsRenewed, RenewsUnder, ReplacesWith, Starts, StartsIn, asked_by, epoch_at, has_these};
+
 use crate::fault::Fault;
 use crate::guarding::{altered, no_journal, too_long};
 use crate::names::{NamedCollector, names_in, with_names};
@@ -78,7 +86,9 @@ pub(crate) fn read_journal<F: Read>(
     path: &str,
     file: &mut F,
     wanted: Wanted<'_>,
-) -> Result<Start, Fault> {
+) -> Result<Start, Fault>
+    ensures { IfOk result (StartsIn (asked_by wanted.entry) (F.remaining file.old)) }
+{
     match recover(alloc, file)? {
         Recovered::Found {
             lines,
@@ -96,7 +106,9 @@ pub(crate) fn read_journal<F: Read>(
 }
 
 /// What begins of a journal of so many whole bytes.
-fn start_of(begun: Begun, chain: Option<Chain>, whole: u64, torn: usize) -> Start {
+fn start_of(begun: Begun, chain: Option<Chain>, whole: u64, torn: usize) -> Start
+    ensures { result ≡ record { core = begun.core; past = begun.past; journal = record { whole = whole; chain = chain; torn = torn; next = begun.next } } }
+{
     let Begun { core, past, next } = begun;
     Start {
         core,
@@ -112,7 +124,9 @@ fn start_of(begun: Begun, chain: Option<Chain>, whole: u64, torn: usize) -> Star
 
 /// The allocator that the lines of the journal at a path lead to, under the jobs of a configuration. Where there are no lines it is that of
 /// the configuration's line; where it has other jobs, or books reports of another number of rounds, it is renewed.
-fn start_over(alloc: Global, path: &str, lines: &[u8], wanted: Wanted<'_>) -> Result<Begun, Fault> {
+fn start_over(alloc: Global, path: &str, lines: &[u8], wanted: Wanted<'_>) -> Result<Begun, Fault>
+    ensures { IfOk result (λ b. Starts (asked_by wanted.entry) lines.now b.core b.past.epoch b.next) }
+{
     if lines.is_empty() {
         return start_anew(alloc, wanted);
     }
@@ -130,7 +144,10 @@ fn go_on(
     wanted: Wanted<'_>,
     core: Core,
     events: u64,
-) -> Result<Begun, Fault> {
+) -> Result<Begun, Fault>
+    requires { resumed_text lines.now ≡ Ok (resumption_at core events) }
+    ensures { IfOk result (λ b. IsLedOn (asked_by wanted.entry) lines.now b.core b.past.epoch b.next) }
+{
     match past_of(alloc, lines, &core) {
         Ok(past) => start_behind(alloc, path, wanted, core, past, events),
         Err(error) => {
@@ -148,11 +165,12 @@ fn start_behind(
     core: Core,
     past: Past,
     events: u64,
-) -> Result<Begun, Fault> {
+) -> Result<Begun, Fault>
+    ensures { IfOk result (λ b. GoesBehind (asked_by wanted.entry) core past.epoch events b.core b.past.epoch b.next) }
+{
     match machine_in(alloc, wanted.line) {
         Ok((jobs, report_rounds)) => {
-            let is_same = core.report_rounds().count() == report_rounds.count();
-            if is_same && are_jobs_of(core.fleet().jobs(), wanted.jobs) {
+            if has_these(&core, wanted.jobs, report_rounds) {
                 drop(jobs);
                 let next = Next::GoesOn(events);
                 return Ok(Begun { core, past, next });
@@ -166,25 +184,41 @@ fn start_behind(
     }
 }
 
+/// Whether an allocator has these jobs and books reports of so many rounds.
+fn has_these(core: &Core, jobs: &[Job], report_rounds: ReportRounds) -> bool
+    ensures { result ≡ has_these core.now (map spec_of (map job_data jobs.now)) report_rounds }
+{
+    core.report_rounds().count() == report_rounds.count() && are_jobs_of(core.fleet().jobs(), jobs)
+}
+
 /// What the lines of a journal tell beside their allocator.
-fn past_of(alloc: Global, lines: &[u8], core: &Core) -> Result<Past, AllocError> {
+fn past_of(alloc: Global, lines: &[u8], core: &Core) -> Result<Past, AllocError>
+    ensures { IfOk result (λ p. p.epoch ≡ epoch_at lines.now) }
+{
     let epoch = last_epoch(alloc, lines)?;
     let names = names_in(alloc, lines, core)?;
     Ok(Past { epoch, names })
 }
 
 /// The epoch of the journal of these lines: 0 where it has none.
-fn last_epoch(alloc: Global, lines: &[u8]) -> Result<u64, AllocError> {
+fn last_epoch(alloc: Global, lines: &[u8]) -> Result<u64, AllocError>
+    ensures { IfOk result (λ e. e ≡ epoch_at lines.now) }
+{
     let (line, _others) = first_line(lines);
     Ok(epoch_of(alloc, line)?.unwrap_or(0))
 }
 
 /// The allocator of a configuration's line.
-pub(crate) fn configured(alloc: Global, line: &[u8]) -> Result<Core, Fault> {
+pub(crate) fn configured(alloc: Global, line: &[u8]) -> Result<Core, Fault>
+    ensures { IfOk result (IsConfigured line.now) }
+{
     Ok(resumed(alloc, line, "the configuration")?.core)
 }
 
-fn start_anew(alloc: Global, wanted: Wanted<'_>) -> Result<Begun, Fault> {
+/// The allocator of a configuration's line with the epoch, whose journal is to begin.
+fn start_anew(alloc: Global, wanted: Wanted<'_>) -> Result<Begun, Fault>
+    ensures { IfOk result (λ b. BeginsAnew (asked_by wanted.entry) b.core b.past.epoch b.next) }
+{
     let line = with_epoch(alloc, wanted.line.as_bytes(), wanted.epoch)?;
     let first = given(FirstLine::configured(alloc, line.as_slice())?)?;
     match configured(alloc, line.as_slice()) {
@@ -196,7 +230,11 @@ fn start_anew(alloc: Global, wanted: Wanted<'_>) -> Result<Begun, Fault> {
     }
 }
 
-fn begun_anew(alloc: Global, epoch: u64, first: FirstLine, core: Core) -> Begun {
+fn begun_anew(alloc: Global, epoch: u64, first: FirstLine, core: Core) -> Begun
+    ensures core { result.core ≡ core }
+    ensures epoch { result.past.epoch ≡ epoch }
+    ensures next { result.next ≡ Begins first }
+{
     let names = Vec::new(alloc);
     Begun {
         core,
@@ -214,7 +252,11 @@ fn start_renewed(
     past: Past,
     jobs: Vec<JobSpec>,
     report_rounds: ReportRounds,
-) -> Result<Begun, Fault> {
+) -> Result<Begun, Fault>
+    ensures { IfOk result (λ b. RenewsUnder core past.epoch jobs.items report_rounds b.core b.past.epoch b.next) }
+{
+    // (its pairs ascend)
+    let _pairs = core.allocation().len();
     match core.renew(jobs, report_rounds) {
         Ok(renewed) => replaced(alloc, wanted, past, renewed),
         Err(NotRenewed { core, why }) => {
@@ -225,7 +267,9 @@ fn start_renewed(
 }
 
 /// What the allocator of a configuration's line has: its jobs, and of how many rounds it books reports.
-fn machine_in(alloc: Global, line: &str) -> Result<(Vec<JobSpec>, ReportRounds), Fault> {
+fn machine_in(alloc: Global, line: &str) -> Result<(Vec<JobSpec>, ReportRounds), Fault>
+    ensures { IfOk result (λ r. IsMachine line.now r.0.items r.1) }
+{
     let core = configured(alloc, line.as_bytes())?;
     let jobs = copies(alloc, core.fleet().jobs());
     let report_rounds = core.report_rounds();
@@ -233,7 +277,11 @@ fn machine_in(alloc: Global, line: &str) -> Result<(Vec<JobSpec>, ReportRounds),
     Ok((jobs?, report_rounds))
 }
 
-fn replaced(alloc: Global, wanted: Wanted<'_>, past: Past, core: Core) -> Result<Begun, Fault> {
+/// The renewed allocator, whose journal is to begin in the place of the last one.
+fn replaced(alloc: Global, wanted: Wanted<'_>, past: Past, core: Core) -> Result<Begun, Fault>
+    requires { IsRenewed core }
+    ensures { IfOk result (λ b. ReplacesWith core past.epoch b.core b.past.epoch b.next) }
+{
     let epoch = epoch_behind(wanted, past.epoch);
     match renewed_line(alloc, wanted.line, epoch, past.names.as_slice(), &core) {
         Ok(first) => Ok(Begun {
@@ -252,7 +300,9 @@ fn replaced(alloc: Global, wanted: Wanted<'_>, past: Past, core: Core) -> Result
 }
 
 /// The epoch behind another: when the open round began, or the next number where that is not later.
-fn epoch_behind(wanted: Wanted<'_>, last: u64) -> u64 {
+fn epoch_behind(wanted: Wanted<'_>, last: u64) -> u64
+    ensures { IsLaterEpoch last result }
+{
     let age = round_age(last, wanted.epoch, wanted.round);
     wanted.epoch.saturating_sub(age).max(last.saturating_add(1))
 }
@@ -264,14 +314,18 @@ fn renewed_line(
     epoch: u64,
     names: &[NamedCollector],
     core: &Core,
-) -> Result<FirstLine, Fault> {
+) -> Result<FirstLine, Fault>
+    ensures { IfOk result (OpensRenewed core.now) }
+{
     let line = with_epoch(alloc, line.as_bytes(), epoch)?;
     let line = with_names(alloc, line.as_slice(), names)?;
     given(FirstLine::renewed(alloc, line.as_slice(), core)?)
 }
 
 /// The first line, if a document has one, as that of a configuration has.
-fn given(line: Option<FirstLine>) -> Result<FirstLine, Fault> {
+fn given(line: Option<FirstLine>) -> Result<FirstLine, Fault>
+    ensures { IfOk result (λ first. line ≡ Some first) }
+{
     match line {
         Some(line) => Ok(line),
         None => Err(Fault::Machine(io::ErrorKind::InvalidData.into())),
@@ -290,7 +344,9 @@ fn not_renewed(alloc: Global, path: &str, why: RenewalError) -> Fault {
     }
 }
 
-fn resumed(alloc: Global, lines: &[u8], path: &str) -> Result<Resumption, Fault> {
+fn resumed(alloc: Global, lines: &[u8], path: &str) -> Result<Resumption, Fault>
+    ensures { IfOk result (λ r. resumed_text lines.now ≡ Ok r) }
+{
     match resume(alloc, lines)? {
         Ok(resumption) => Ok(resumption),
         Err(Damage { line }) => Err(Fault::Told(format!(in alloc;

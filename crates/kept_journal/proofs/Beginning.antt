@@ -1,9 +1,8 @@
 -- A journal that has just begun leads to the state that its first line opens.
-use Rattle.std.proofs.Common.{◌≡◌, ℕ, List, [], ◌∷◌, Bool, Option, Some, refl, sym, subst}
+use Rattle.std.proofs.Common.{ℕ, List, [], ◌∷◌, Bool, Option, Some, refl, sym, subst}
 use Rattle.allocation_core.specs.State.{State}
 use Rattle.durable_journal.specs.Beginnings.{IsBegunAnew, IsLine, Opens}
 use Rattle.durable_journal.specs.Events.{SaysEvents}
-use Rattle.durable_journal.specs.Files.{IsFileOf}
 use Rattle.durable_journal.specs.declared.beginning.Begun.{Begun}
 use Rattle.durable_journal.specs.declared.beginning.FirstLine.{FirstLine}
 use Rattle.durable_journal.proofs.FileTexts.{begins_file}

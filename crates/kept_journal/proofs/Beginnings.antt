@@ -1,9 +1,9 @@
 -- Beginnings of a list, by their lengths.
-use Rattle.std.proofs.Common.{◌≡◌, ◌≤◌, ◌+◌, ℕ, List, [], ◌∷◌, ◌++◌, length, refl, ap, sym, subst, ◌∙◌, arith, take, drop, take-append-drop, append_assoc}
+use Rattle.std.proofs.Common.{◌≡◌, ◌≤◌, ◌+◌, ℕ, List, ◌++◌, length, ap, sym, subst, ◌∙◌, arith, take, drop, take-append-drop, append_assoc}
 use Rattle.std.proofs.lemmas.List.{length-append, length-take-le, take-append-le}
 use Rattle.std.proofs.Math.Seq.{take-append_seam}
 use mathlib.Core.List.{IsPrefix}
-use Rattle.alloc_desk.proofs.Prefixes.{prefix_shorter, prefix_length, prefix_whole}
+use Rattle.alloc_desk.proofs.Prefixes.{prefix_shorter, prefix_length}
 
 -- so many of the first of a list begin it
 pub taken_begins : {A : Type 0} (n : ℕ) (xs : List A) → IsPrefix (take n xs) xs

@@ -1,11 +1,11 @@
 -- Files that grow by the lines of entries.
-use Rattle.std.proofs.Common.{◌≡◌, ℕ, List, [], ◌∷◌, ◌++◌, length, Bool, true, Option, Some, None, refl, ap, sym, subst, ◌∙◌, append_assoc, append-nil}
+use Rattle.std.proofs.Common.{◌≡◌, ℕ, List, [], ◌++◌, Bool, Option, Some, None, refl, ap, sym, subst, ◌∙◌, append_assoc, append-nil}
 use Rattle.std.specs.Io.KnownBytes.{Appends}
 use Rattle.allocation_core.specs.Runs.{state_of}
 use Rattle.allocation_core.specs.State.{State}
 use Rattle.allocation_core.proofs.RunLemmas.{state_of_append}
 use Rattle.durable_journal.specs.Events.{AreSaid, event_lines, events_text}
-use Rattle.durable_journal.specs.Files.{bytes_of, chain_past, IsFileOf}
+use Rattle.durable_journal.specs.Files.{bytes_of, chain_past}
 use Rattle.durable_journal.specs.Journals.{IsJournal}
 use Rattle.durable_journal.specs.Kept.{kept_in}
 use Rattle.durable_journal.proofs.EventLines.{kept_parts}

@@ -1,5 +1,5 @@
 -- What of a desk's journal is written, and what is not yet.
-use Rattle.std.specs.Prelude.{◌≡◌, ℕ, List, ◌++◌, length, Option}
+use Rattle.std.specs.Prelude.{◌≡◌, List, ◌++◌, length, Option}
 use mathlib.Core.List.{IsPrefix}
 use Rattle.durable_journal.specs.Events.{AreSaid, event_lines}
 use Rattle.durable_journal.specs.Files.{bytes_of, chain_past}

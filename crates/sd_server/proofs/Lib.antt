@@ -1,4 +1,8 @@
+pub mod SpanLemmas
 pub mod TextLemmas
 pub mod Weaker
 pub mod ReportLemmas
-pub mod BookLemmas
+pub mod ComingLemmas
+pub mod OpenLemmas
+pub mod KnownLemmas
+pub mod MomentLemmas

@@ -2,9 +2,11 @@ pub mod Allocations
 pub mod Replies
 pub mod Entries
 pub mod Says
+pub mod Spans
 pub mod Listing
 pub mod Texts
 pub mod Looks
 pub mod Writing
 pub mod Yaml
 pub mod Keeping
+pub mod Moments

@@ -1,21 +1,22 @@
 -- What a reply may be.
-use Rattle.std.specs.Prelude.{◌≡◌, ◌⊎◌, ℕ, List, [], Option, Some, None, Result, Ok, Err, IfOk, IsSome, Bool, ◌&&◌, true, false, IsTrue}
+use Rattle.std.specs.Prelude.{◌≡◌, ◌⊎◌, ℕ, List, [], Option, Result, Ok, Err, IfOk, IsSome, Bool, true, false}
 use Rattle.std.specs.Arc.{arc_value}
 use Rattle.std.specs.declared.alloc.AllocError.{AllocError}
 use Rattle.std.specs.declared.sync.ledger.Ledger as Ledger
 use Rattle.http.specs.declared.response.Response.{Response}
 use Rattle.http_body_util.specs.declared.full.Full.{Full}
 use Rattle.allocation_core.specs.State.{State}
+use Rattle.journal_entries.specs.declared.entry.Entry.{Entry as Line}
 use Rattle.alloc_desk.specs.declared.name.DeskName as DeskName
-use Rattle.sd_routes.specs.Gives.{Fails}
 use Rattle.sd_routes.specs.declared.ask.Ask.{Ask}
 use Rattle.sd_routes.specs.declared.ask.Ask.TheVariants as ask
 use Rattle.sd_routes.specs.declared.request_error.RequestError.{RequestError}
 use Rattle.sd_routes.specs.declared.request_error.RequestError.TheVariants.{TooLong, Shape, Memory}
 use Rattle.sd_routes.specs.declared.responding.Said.{Said}
 use Rattle.sd_routes.specs.declared.responding.Said.TheVariants.{Refused}
-use Rattle.sd_server.specs.Entries.{Leads, MaySayEntry}
+use Rattle.sd_server.specs.Entries.{Leads, MaySayEntry, OnceKept}
 use Rattle.sd_server.specs.Says.{Says}
+use Rattle.sd_server.specs.Spans.{Span, Moves}
 use Rattle.sd_server.specs.Writing.{Writes}
 use Rattle.service_state.specs.declared.config_pages.ConfigPages.{ConfigPages}
 use Rattle.sd_server.specs.declared.reply.Reply.{Reply}
@@ -25,9 +26,9 @@ use Rattle.sd_server.specs.declared.service.Begun.{Begun}
 use Rattle.sd_server.specs.declared.service.Begun.TheVariants as begun
 
 -- what is said once a body was read, or could not be
-abbrev pub SaysRead : State → ConfigPages → Ask → Said → Type 0
-SaysRead opening pages asked said =
-    (said ≡ Refused TooLong) ⊎ ((said ≡ Refused Shape) ⊎ ((said ≡ Refused Memory) ⊎ ((body : List ℕ) × Says opening pages asked body said)))
+abbrev pub SaysRead : Span → ConfigPages → Ask → Said → Type 0
+SaysRead span pages asked said =
+    (said ≡ Refused TooLong) ⊎ ((said ≡ Refused Shape) ⊎ ((said ≡ Refused Memory) ⊎ ((body : List ℕ) × Says span pages asked body said)))
 
 -- the requests whose body is read
 abbrev pub has_body : Ask → Bool
@@ -38,26 +39,27 @@ has_body ask.Report = true
 has_body _ = false
 
 -- what is said to a request whose body is read, and to another
-abbrev pub SaysAsked : State → ConfigPages → Ask → Said → Type 0
-SaysAsked opening pages asked said = ((has_body asked ≡ true) × SaysRead opening pages asked said) ⊎ ((has_body asked ≡ false) × Says opening pages asked [] said)
+abbrev pub SaysAsked : Span → ConfigPages → Ask → Said → Type 0
+SaysAsked span pages asked said = ((has_body asked ≡ true) × SaysRead span pages asked said) ⊎ ((has_body asked ≡ false) × Says span pages asked [] said)
 
 -- what is said to what a head comes to
-abbrev pub SaysRouted : State → ConfigPages → Result Ask RequestError → Said → Type 0
-SaysRouted opening pages (Ok asked) said = SaysAsked opening pages asked said
-SaysRouted opening pages (Err error) said = said ≡ Refused error
+abbrev pub SaysRouted : Span → ConfigPages → Result Ask RequestError → Said → Type 0
+SaysRouted span pages (Ok asked) said = SaysAsked span pages asked said
+SaysRouted span pages (Err error) said = said ≡ Refused error
 
 -- that, or that memory ran out
-abbrev pub SaysAtMost : State → ConfigPages → Result Ask RequestError → Said → Type 0
-SaysAtMost opening pages came said = SaysRouted opening pages came said ⊎ (said ≡ Refused Memory)
+abbrev pub SaysAtMost : Span → ConfigPages → Result Ask RequestError → Said → Type 0
+SaysAtMost span pages came said = SaysRouted span pages came said ⊎ (said ≡ Refused Memory)
 
--- what the head of a request begins
-abbrev pub BeginsWith : State → ConfigPages → Ask → Begun → Type 0
-BeginsWith opening pages asked (begun.Told entry route) = (has_body asked ≡ false) × Leads (Says opening pages asked []) entry
-BeginsWith opening pages asked (begun.Reads read) = (read ≡ asked) × (has_body asked ≡ true)
+module _ {N K : Type 0} where
+  -- what the head of a request begins
+  abbrev pub BeginsWith : Option K → (List Line → Type 0) → Span → ConfigPages → Ask → Begun N → Type 0
+  BeginsWith kept keeps span pages asked (begun.Told entry route) = (has_body asked ≡ false) × Leads keeps (Says span pages asked []) entry × Leads keeps (OnceKept kept keeps span) entry
+  BeginsWith kept keeps span pages asked (begun.Reads read) = (read ≡ asked) × (has_body asked ≡ true)
 
-abbrev pub Begins : State → ConfigPages → Result Ask RequestError → Begun → Type 0
-Begins opening pages came (begun.Told entry route) = Leads (SaysAtMost opening pages came) entry
-Begins opening pages came (begun.Reads asked) = (came ≡ Ok asked) × (has_body asked ≡ true)
+  abbrev pub Begins : Option K → (List Line → Type 0) → Span → ConfigPages → Result Ask RequestError → Begun N → Type 0
+  Begins kept keeps span pages came (begun.Told entry route) = Leads keeps (SaysAtMost span pages came) entry × Leads keeps (OnceKept kept keeps span) entry
+  Begins kept keeps span pages came (begun.Reads asked) = (came ≡ Ok asked) × (has_body asked ≡ true)
 
 module _ {R L B N I : Type 0} {l : Ledger.Ghosts L} {b : Ledger.Ghosts B} {n : DeskName.Ghosts N} where
   abbrev pub CanGoOn : Stage R L B N I l b n → Type 0
@@ -68,15 +70,27 @@ module _ {R L B N I : Type 0} {l : Ledger.Ghosts L} {b : Ledger.Ghosts B} {n : D
   abbrev pub CanRead : Reply R L B N I l b n → Type 0
   CanRead reply = CanGoOn reply.stage
 
-  -- what a stage may still say
-  abbrev pub MaySay : Stage R L B N I l b n → Said → Type 0
-  MaySay (stage.Told entry) said = MaySayEntry entry said
-  MaySay (stage.Reading reading) said = SaysRead n.opening (arc_value reading.handler.pages) reading.ask said
+  -- what a stage may still say, once this has been seen of the journal: where a body is awaited, what is said to it then
+  abbrev pub MaySay : (List Line → Type 0) → Span → Stage R L B N I l b n → Said → Type 0
+  MaySay keeps seen (stage.Told entry) said = MaySayEntry keeps entry said
+  MaySay keeps seen (stage.Reading reading) said =
+      (later : Span) × Moves seen later × SaysRead later (arc_value reading.handler.pages) reading.ask said × OnceKept reading.handler.kept keeps later said
 
   -- the written form of something that it may say
-  abbrev pub Gives : Reply R L B N I l b n → Result (Response (Full (List ℕ))) AllocError → Type 0
-  Gives reply given = IfOk given (λ response. (said : Said) × MaySay reply.stage said × Writes reply.manner said response)
+  abbrev pub Gives : (List Line → Type 0) → Reply R L B N I l b n → Result (Response (Full (List ℕ))) AllocError → Type 0
+  Gives keeps reply given = IfOk given (λ response. (said : Said) × MaySay keeps reply.seen reply.stage said × Writes reply.manner said response)
 
-  -- whatever the reply to such a request says is what is said to it
-  abbrev pub IsReplyTo : State → ConfigPages → Result Ask RequestError → Reply R L B N I l b n → Type 0
-  IsReplyTo opening pages came reply = (said : Said) → MaySay reply.stage said → SaysAtMost opening pages came said
+  -- it reads the body of what is asked, and waits where that is to be kept
+  abbrev pub Reads : {K : Type 0} → Option K → ConfigPages → Ask → Stage R L B N I l b n → Type 0
+  Reads kept pages asked (stage.Told entry) = ⊥
+  Reads kept pages asked (stage.Reading reading) = (reading.ask ≡ asked) × (arc_value reading.handler.pages ≡ pages) × (IsSome kept → IsSome reading.handler.kept)
+
+  -- whatever it says is what is said to such a request; or it reads the body of what is asked
+  abbrev pub IsTo : {K : Type 0} → (List Line → Type 0) → Option K → ConfigPages → Result Ask RequestError → Span → Stage R L B N I l b n → Type 0
+  IsTo keeps kept pages came seen (stage.Told entry) = Leads keeps (SaysAtMost seen pages came) entry × Leads keeps (OnceKept kept keeps seen) entry
+  IsTo keeps kept pages came seen (stage.Reading reading) =
+      (came ≡ Ok reading.ask) × (has_body reading.ask ≡ true) × (arc_value reading.handler.pages ≡ pages) × (IsSome kept → IsSome reading.handler.kept)
+
+  -- a reply to such a request, of the journal of a desk that was opened with a state
+  abbrev pub IsReplyTo : {K : Type 0} → State → (List Line → Type 0) → Option K → ConfigPages → Result Ask RequestError → Reply R L B N I l b n → Type 0
+  IsReplyTo opening keeps kept pages came reply = (reply.seen.opening ≡ opening) × IsTo keeps kept pages came reply.seen reply.stage

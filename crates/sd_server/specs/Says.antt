@@ -1,5 +1,6 @@
 -- What a request is told.
-use Rattle.std.specs.Prelude.{◌≡◌, ◌⊎◌, ◌≤◌, ℕ, List, [], ◌∷◌, Option, Some, None, Result, Ok, Err, IsSome, codes, length, map, if◌then◌else◌}
+use Rattle.std.specs.Prelude.{◌≡◌, ◌⊎◌, ◌≤◌, ℕ, List, [], ◌∷◌, Option, Some, None, Result, Ok, Err, Bool, true, false, IsSome, codes, length, map, if◌then◌else◌}
+use mathlib.Core.List.{IsPrefix}
 use Rattle.fleet.specs.Fleet.{id_named, is_joined}
 use Rattle.fleet_events.specs.declared.event.Event.{Event}
 use Rattle.fleet_events.specs.declared.event.Event.TheVariants.{Take, Serve}
@@ -8,9 +9,9 @@ use Rattle.fleet_events.specs.declared.answer.Answer.TheVariants.{Taken as HasTa
 use Rattle.fleet_events.specs.declared.refusal.Refusal.TheVariants.{UnknownJob, UnknownCollector}
 use Rattle.allocation_core.specs.Idle.{IsIdle}
 use Rattle.allocation_core.specs.State.{State}
-use Rattle.alloc_desk.specs.Counts.{Counts}
+use Rattle.journal_entries.specs.declared.entry.Entry.{Entry as Line}
 use Rattle.alloc_desk.specs.History.{History}
-use Rattle.alloc_desk.specs.Reached.{Reached, IsReceipt, IsFull}
+use Rattle.alloc_desk.specs.Reached.{IsFull}
 use Rattle.alloc_desk.specs.declared.receipt.Receipt.{Receipt}
 use Rattle.target_shares.specs.declared.numbered_target.NumberedTarget.{NumberedTarget}
 use Rattle.serde_json.specs.Written.{compact_text}
@@ -49,61 +50,56 @@ use Rattle.sd_server.specs.Keeping.{FindsKept}
 use Rattle.sd_server.specs.Looks.{HeadIs, IsLook}
 use Rattle.sd_server.specs.declared.look.Look.{Look}
 use Rattle.sd_server.specs.declared.found.TheConstants.{MOST_FOUND}
-use Rattle.sd_server.specs.Texts.{certificate_text, job_text, list_text}
+use Rattle.sd_server.specs.Listing.{IsListText}
+use Rattle.sd_server.specs.Spans.{Span, OfSome, IsEntered}
+use Rattle.sd_server.specs.Texts.{certificate_text, job_text}
 use Rattle.service_state.specs.declared.config_pages.ConfigPages.{ConfigPages}
-
--- this holds of some history that is legal from the opening state
-abbrev pub OfSome : State → (History → Type 0) → Type 0
-OfSome opening Holds = (counts : Counts) × Reached opening counts Holds
-
--- the receipt of an event that was entered
-abbrev pub IsEntered : State → Event → Receipt → Type 0
-IsEntered opening event receipt = (counts : Counts) × Reached opening counts (IsReceipt event counts receipt)
 
 -- why there is no answer to an event: it was not entered, since the journal is full or memory was wanted; or it may have been entered,
 -- and is not kept
-abbrev pub SaysNot : State → RequestError → Type 0
-SaysNot opening JournalFull = OfSome opening IsFull
-SaysNot opening NotKept = Unit {0}
-SaysNot opening Memory = Unit {0}
-SaysNot opening _ = ⊥
+abbrev pub SaysNot : Span → RequestError → Type 0
+SaysNot span JournalFull = OfSome span IsFull
+SaysNot span NotKept = Unit {0}
+SaysNot span Memory = Unit {0}
+SaysNot span _ = ⊥
 
 -- An answer to an event: that of an event that was entered, or that at a moment at which the event would change nothing.
-abbrev pub IsAnswered : State → Event → Answer → Type 0
-IsAnswered opening event answer = ((receipt : Receipt) × IsEntered opening event receipt × (answer ≡ receipt.answer)) ⊎ OfSome opening (λ h. IsIdle h.state event (Some answer))
+abbrev pub IsAnswered : Span → Event → Answer → Type 0
+IsAnswered span event answer = ((receipt : Receipt) × IsEntered span event receipt × (answer ≡ receipt.answer)) ⊎ OfSome span (λ h. IsIdle h.state event (Some answer))
 
 -- the machine's answer to an event that was entered
-abbrev pub IsAnswerTo : State → Event → Answer → Type 0
-IsAnswerTo opening event answer = (receipt : Receipt) × IsEntered opening event receipt × (answer ≡ receipt.answer)
+abbrev pub IsAnswerTo : Span → Event → Answer → Type 0
+IsAnswerTo span event answer = (receipt : Receipt) × IsEntered span event receipt × (answer ≡ receipt.answer)
 
-abbrev pub SaysEvent : State → Event → Said → Type 0
-SaysEvent opening event (Answered answer) = IsAnswerTo opening event answer
-SaysEvent opening event (Refused error) = SaysNot opening error
-SaysEvent opening event _ = ⊥
+abbrev pub SaysEvent : Span → Event → Said → Type 0
+SaysEvent span event (Answered answer) = IsAnswerTo span event answer
+SaysEvent span event (Refused error) = SaysNot span error
+SaysEvent span event _ = ⊥
 
--- to each event its own answer, in order
-abbrev pub AreAnswers : State → List Event → List Answer → Type 0
-AreAnswers opening [] [] = Unit {0}
-AreAnswers opening [] (answer ∷ answers) = ⊥
-AreAnswers opening (event ∷ events) [] = ⊥
-AreAnswers opening (event ∷ events) (answer ∷ answers) = IsAnswerTo opening event answer × AreAnswers opening events answers
+-- to each event its own answer, the entry of each behind those of the events before it
+abbrev pub AreAnswers : Span → List Event → List Answer → Type 0
+AreAnswers span [] [] = IsPrefix span.before span.after
+AreAnswers span [] (answer ∷ answers) = ⊥
+AreAnswers span (event ∷ events) [] = ⊥
+AreAnswers span (event ∷ events) (answer ∷ answers) =
+    (middle : List Line) × IsAnswerTo (record span { after = middle }) event answer × AreAnswers (record span { before = middle }) events answers
 
 -- the answers to all reports of a list, and a round that was open; or why there is none to one of them
-abbrev pub SaysReports : State → List Event → Said → Type 0
-SaysReports opening events (Answers answers round) = AreAnswers opening events answers × OfSome opening (λ h. h.state.round ≡ round)
-SaysReports opening events (Refused error) = SaysNot opening error
-SaysReports opening events _ = ⊥
+abbrev pub SaysReports : Span → List Event → Said → Type 0
+SaysReports span events (Answers answers round) = AreAnswers span events answers × OfSome span (λ h. h.state.round ≡ round)
+SaysReports span events (Refused error) = SaysNot span error
+SaysReports span events _ = ⊥
 
 -- of a collector that left, the lists can be let go, where its number is known
-abbrev pub SaysOfLeft : State → Change → Said → Type 0
-SaysOfLeft opening Release said = (said ≡ Answered (Not UnknownCollector)) ⊎ ((id : ℕ) × SaysEvent opening (change_event Release id) said)
-SaysOfLeft opening _ said = said ≡ Answered (Not UnknownCollector)
+abbrev pub SaysOfLeft : Span → Change → Said → Type 0
+SaysOfLeft span Release said = (said ≡ Answered (Not UnknownCollector)) ⊎ ((id : ℕ) × SaysEvent span (change_event Release id) said)
+SaysOfLeft span _ said = said ≡ Answered (Not UnknownCollector)
 
 -- what happens to the collector of a name is an event of the live one that has it
-unfoldable pub SaysChange : State → List ℕ → Change → Said → Type 0
-SaysChange opening name change said =
-    (OfSome opening (λ h. id_named h.state.fleet.collectors name ≡ None) × SaysOfLeft opening change said)
-    ⊎ ((id : ℕ) × OfSome opening (λ h. id_named h.state.fleet.collectors name ≡ Some id) × SaysEvent opening (change_event change id) said)
+unfoldable pub SaysChange : Span → List ℕ → Change → Said → Type 0
+SaysChange span name change said =
+    (OfSome span (λ h. id_named h.state.fleet.collectors name ≡ None) × SaysOfLeft span change said)
+    ⊎ ((id : ℕ) × OfSome span (λ h. id_named h.state.fleet.collectors name ≡ Some id) × SaysEvent span (change_event change id) said)
 
 -- the answer to an event of a collector has these targets, and the head of a list tells the rest of it
 abbrev pub IsTold : ℕ → Answer → ListHead → List ℕ → Type 0
@@ -113,10 +109,10 @@ IsTold id _ head targets = ⊥
 
 -- a list with this head and the groups of those of these targets that are of a job, acknowledged where that is told to; unless memory ran
 -- out
-abbrev pub SaysGroups : State → Option (List ℕ) → List ℕ → ℕ → ListHead → List ℕ → Said → Type 0
-SaysGroups opening at job place head targets (ListOf told groups) = (told ≡ head) × OfSome opening (λ h. groups ≡ list_text at job head place targets h)
-SaysGroups opening at job place head targets (Refused error) = error ≡ Memory
-SaysGroups opening at job place head targets _ = ⊥
+abbrev pub SaysGroups : Span → Option (List ℕ) → List ℕ → ℕ → ListHead → List ℕ → Said → Type 0
+SaysGroups span at job place head targets (ListOf told groups) = (told ≡ head) × IsListText span at job head place targets groups
+SaysGroups span at job place head targets (Refused error) = error ≡ Memory
+SaysGroups span at job place head targets _ = ⊥
 
 -- where a list is acknowledged: one that is served
 abbrev pub at_of : Option (List ℕ) → Answer → Option (List ℕ)
@@ -124,42 +120,42 @@ at_of at (HasServed allocation round listed others) = at
 at_of at _ = None
 
 -- what the answer to a Take or a Serve of a collector is told as: the groups of a job's targets; unless memory ran out
-abbrev pub SaysTold : State → Option (List ℕ) → List ℕ → ℕ → ℕ → Answer → Said → Type 0
-SaysTold opening at job place id answer (ListOf head groups) =
-    (targets : List ℕ) × IsTold id answer head targets × OfSome opening (λ h. groups ≡ list_text (at_of at answer) job head place targets h)
-SaysTold opening at job place id answer (Answered told) = told ≡ answer
-SaysTold opening at job place id answer (Refused error) = error ≡ Memory
-SaysTold opening at job place id answer _ = ⊥
+abbrev pub SaysTold : Span → Option (List ℕ) → List ℕ → ℕ → ℕ → Answer → Said → Type 0
+SaysTold span at job place id answer (ListOf head groups) =
+    (targets : List ℕ) × IsTold id answer head targets × IsListText span (at_of at answer) job head place targets groups
+SaysTold span at job place id answer (Answered told) = told ≡ answer
+SaysTold span at job place id answer (Refused error) = error ≡ Memory
+SaysTold span at job place id answer _ = ⊥
 
 -- there is no answer to an event
-abbrev pub SaysNoAnswer : State → Said → Type 0
-SaysNoAnswer opening said = (error : RequestError) × SaysNot opening error × (said ≡ Refused error)
+abbrev pub SaysNoAnswer : Span → Said → Type 0
+SaysNoAnswer span said = (error : RequestError) × SaysNot span error × (said ≡ Refused error)
 
 -- what a collector is told of a job by the answer to an event
-abbrev pub SaysGiven : State → Option (List ℕ) → List ℕ → ℕ → ℕ → Event → Said → Type 0
-SaysGiven opening at job place id event said =
-    ((answer : Answer) × IsAnswered opening event answer × SaysTold opening at job place id answer said) ⊎ SaysNoAnswer opening said
+abbrev pub SaysGiven : Span → Option (List ℕ) → List ℕ → ℕ → ℕ → Event → Said → Type 0
+SaysGiven span at job place id event said =
+    ((answer : Answer) × IsAnswered span event answer × SaysTold span at job place id answer said) ⊎ SaysNoAnswer span said
 
 -- what a look is told as: the groups of a job's targets; unless memory ran out
-abbrev pub SaysLookOf : State → Option (List ℕ) → List ℕ → ℕ → ℕ → Look → Said → Type 0
-SaysLookOf opening at job place id look (ListOf head groups) =
-    HeadIs id look.allocation look.round look.left_out head × OfSome opening (λ h. groups ≡ list_text at job head place look.targets h)
-SaysLookOf opening at job place id look (Refused error) = error ≡ Memory
-SaysLookOf opening at job place id look _ = ⊥
+abbrev pub SaysLookOf : Span → Option (List ℕ) → List ℕ → ℕ → ℕ → Look → Said → Type 0
+SaysLookOf span at job place id look (ListOf head groups) =
+    HeadIs id look.allocation look.round look.left_out head × IsListText span at job head place look.targets groups
+SaysLookOf span at job place id look (Refused error) = error ≡ Memory
+SaysLookOf span at job place id look _ = ⊥
 
 -- what is shown to who only looks: what a look finds; unless memory ran out
-abbrev pub SaysLook : State → ℕ → List ℕ → ℕ → Said → Type 0
-SaysLook opening place job id said =
-    ((look : Look) × OfSome opening (λ h. IsLook h.state job id look) × SaysLookOf opening None job place id look said) ⊎ (said ≡ Refused Memory)
+abbrev pub SaysLook : Span → ℕ → List ℕ → ℕ → Said → Type 0
+SaysLook span place job id said =
+    ((look : Look) × OfSome span (λ h. IsLook h.state job id look) × SaysLookOf span None job place id look said) ⊎ (said ≡ Refused Memory)
 
 -- what a collector is told of a job whose last list is to let targets go, until it is acknowledged: what that list keeps
-abbrev pub SaysKept : State → Option (List ℕ) → List ℕ → ℕ → ℕ → Said → Type 0
-SaysKept opening at job place id said =
-    IsSome at × ((look : Look) × OfSome opening (λ h. FindsKept h.state place id look) × SaysLookOf opening at job place id look said)
+abbrev pub SaysKept : Span → Option (List ℕ) → List ℕ → ℕ → ℕ → Said → Type 0
+SaysKept span at job place id said =
+    IsSome at × ((look : Look) × OfSome span (λ h. FindsKept h.state place id look) × SaysLookOf span at job place id look said)
 
 -- what a collector is served of a job, or what its list keeps
-abbrev pub SaysServed : State → Option (List ℕ) → List ℕ → ℕ → ℕ → Said → Type 0
-SaysServed opening at job place id said = SaysGiven opening at job place id (Serve id job) said ⊎ SaysKept opening at job place id said
+abbrev pub SaysServed : Span → Option (List ℕ) → List ℕ → ℕ → ℕ → Said → Type 0
+SaysServed span at job place id said = SaysGiven span at job place id (Serve id job) said ⊎ SaysKept span at job place id said
 
 -- a text that does not change, unless memory ran out
 abbrev pub SaysCopy : List ℕ → Said → Type 0
@@ -167,34 +163,34 @@ SaysCopy text said = (said ≡ Page text) ⊎ (said ≡ Refused Memory)
 
 -- what is told under a name that nobody has: nothing is to be scraped by a collector that had it, unless its lists could not be let go
 -- or memory ran out, and no other is known
-abbrev pub SaysGone : State → Said → Type 0
-SaysGone opening said = (said ≡ Answered (Not UnknownCollector)) ⊎ (SaysCopy (codes "[]") said ⊎ SaysNoAnswer opening said)
+abbrev pub SaysGone : Span → Said → Type 0
+SaysGone span said = (said ≡ Answered (Not UnknownCollector)) ⊎ (SaysCopy (codes "[]") said ⊎ SaysNoAnswer span said)
 
 -- what a collector is told of a job: it takes, or is served, or looks
-abbrev pub SaysList : State → Option (List ℕ) → ℕ → List ℕ → ℕ → Said → Type 0
-SaysList opening at place job id said =
-    SaysGiven opening at job place id (Take id) said ⊎ (SaysServed opening at job place id said ⊎ SaysLook opening place job id said)
+abbrev pub SaysList : Span → Option (List ℕ) → ℕ → List ℕ → ℕ → Said → Type 0
+SaysList span at place job id said =
+    SaysGiven span at job place id (Take id) said ⊎ (SaysServed span at job place id said ⊎ SaysLook span place job id said)
 
 -- nobody has the name, or its collector has a list
-unfoldable pub SaysHeld : State → Option (List ℕ) → ℕ → List ℕ → List ℕ → Said → Type 0
-SaysHeld opening at place job name said =
-    (OfSome opening (λ h. id_named h.state.fleet.collectors name ≡ None) × SaysGone opening said)
-    ⊎ ((id : ℕ) × OfSome opening (λ h. id_named h.state.fleet.collectors name ≡ Some id) × SaysList opening at place job id said)
+unfoldable pub SaysHeld : Span → Option (List ℕ) → ℕ → List ℕ → List ℕ → Said → Type 0
+SaysHeld span at place job name said =
+    (OfSome span (λ h. id_named h.state.fleet.collectors name ≡ None) × SaysGone span said)
+    ⊎ ((id : ℕ) × OfSome span (λ h. id_named h.state.fleet.collectors name ≡ Some id) × SaysList span at place job id said)
 
 -- a page, unless memory ran out
-abbrev pub SaysText : State → (History → List ℕ) → Said → Type 0
-SaysText opening text (Page page) = OfSome opening (λ h. page ≡ text h)
-SaysText opening text (Refused error) = error ≡ Memory
-SaysText opening text _ = ⊥
+abbrev pub SaysText : Span → (History → List ℕ) → Said → Type 0
+SaysText span text (Page page) = OfSome span (λ h. page ≡ text h)
+SaysText span text (Refused error) = error ≡ Memory
+SaysText span text _ = ⊥
 
 -- what a job has, where there is such a job
-abbrev pub SaysJob : State → List ℕ → Option ℕ → Said → Type 0
-SaysJob opening job None said = said ≡ Answered (Not UnknownJob)
-SaysJob opening job (Some place) said = SaysText opening (job_text job place) said
+abbrev pub SaysJob : Span → List ℕ → Option ℕ → Said → Type 0
+SaysJob span job None said = said ≡ Answered (Not UnknownJob)
+SaysJob span job (Some place) said = SaysText span (job_text job place) said
 
-abbrev pub SaysCollector : State → Option (List ℕ) → List ℕ → List ℕ → Option ℕ → Said → Type 0
-SaysCollector opening at job name None said = said ≡ Answered (Not UnknownJob)
-SaysCollector opening at job name (Some place) said = SaysHeld opening at place job name said
+abbrev pub SaysCollector : Span → Option (List ℕ) → List ℕ → List ℕ → Option ℕ → Said → Type 0
+SaysCollector span at job name None said = said ≡ Answered (Not UnknownJob)
+SaysCollector span at job name (Some place) said = SaysHeld span at place job name said
 
 -- what a collector is told that follows a list: no figures, or that there is no such path where no list is acknowledged
 abbrev pub SaysAcknowledged : Option (List ℕ) → Said → Type 0
@@ -279,17 +275,17 @@ id_meant m (Number id) = if is_joined m.fleet id then Some id else None
 id_meant m (Name name) = id_named m.fleet.collectors name
 
 -- what is told of the collector that is meant
-abbrev pub IsCollectorText : State → WhichCollector → List ℕ → Type 0
-IsCollectorText opening which text =
-    (row : CollectorRow) × OfSome opening (λ h. id_meant h.state which ≡ Some row.id) × (text ≡ compact_text (collector_data row))
+abbrev pub IsCollectorText : Span → WhichCollector → List ℕ → Type 0
+IsCollectorText span which text =
+    (row : CollectorRow) × OfSome span (λ h. id_meant h.state which ≡ Some row.id) × (text ≡ compact_text (collector_data row))
 
 -- the same in JSON, or a page for people
-abbrev pub SaysCollectorPage : State → WhichCollector → Said → Type 0
-SaysCollectorPage opening which (Page page) = IsCollectorText opening which page
-SaysCollectorPage opening which (Document text) = Unit {0}
-SaysCollectorPage opening which (Answered answer) = answer ≡ Not UnknownCollector
-SaysCollectorPage opening which (Refused error) = error ≡ Memory
-SaysCollectorPage opening which _ = ⊥
+abbrev pub SaysCollectorPage : Span → WhichCollector → Said → Type 0
+SaysCollectorPage span which (Page page) = IsCollectorText span which page
+SaysCollectorPage span which (Document text) = Unit {0}
+SaysCollectorPage span which (Answered answer) = answer ≡ Not UnknownCollector
+SaysCollectorPage span which (Refused error) = error ≡ Memory
+SaysCollectorPage span which _ = ⊥
 
 -- the page of at most 100 targets
 abbrev pub IsFoundText : List ℕ → Type 0
@@ -317,53 +313,62 @@ SaysAllocations _ = ⊥
 -- ---- what was booked
 
 -- the page of what some state has booked in the round that is asked for, or in the last one that is over
-abbrev pub IsBooksText : State → Option ℕ → List ℕ → Type 0
-IsBooksText opening asked text = (row : BooksRow) × OfSome opening (λ h. IsBooks h.state asked (Some row)) × (text ≡ compact_text (books_data row))
+abbrev pub IsBooksText : Span → Option ℕ → List ℕ → Type 0
+IsBooksText span asked text = (row : BooksRow) × OfSome span (λ h. IsBooks h.state asked (Some row)) × (text ≡ compact_text (books_data row))
 
 -- why it is not told: some state has no such round, or memory ran out
-abbrev pub SaysNoBooks : State → Option ℕ → RequestError → Type 0
-SaysNoBooks opening asked UnknownRound = OfSome opening (λ h. IsBooks h.state asked None)
-SaysNoBooks opening asked Memory = Unit {0}
-SaysNoBooks opening asked _ = ⊥
+abbrev pub SaysNoBooks : Span → Option ℕ → RequestError → Type 0
+SaysNoBooks span asked UnknownRound = OfSome span (λ h. IsBooks h.state asked None)
+SaysNoBooks span asked Memory = Unit {0}
+SaysNoBooks span asked _ = ⊥
 
 -- the same in JSON, or a page for people
-abbrev pub SaysBooks : State → Option ℕ → Said → Type 0
-SaysBooks opening asked (Page page) = IsBooksText opening asked page
-SaysBooks opening asked (Document text) = Unit {0}
-SaysBooks opening asked (Refused error) = SaysNoBooks opening asked error
-SaysBooks opening asked _ = ⊥
+abbrev pub SaysBooks : Span → Option ℕ → Said → Type 0
+SaysBooks span asked (Page page) = IsBooksText span asked page
+SaysBooks span asked (Document text) = Unit {0}
+SaysBooks span asked (Refused error) = SaysNoBooks span asked error
+SaysBooks span asked _ = ⊥
 
 -- ---- all of them
 
 -- what is told without an event of the body's
-abbrev pub SaysPage : State → ConfigPages → Ask → Said → Type 0
-SaysPage opening pages (ask.ScrapeConfigs rules) said = SaysCopy (if rules then pages.as_read else pages.scrape_configs) said
-SaysPage opening pages ask.Jobs said = SaysCopy pages.jobs said
-SaysPage opening pages ask.Allocations said = SaysAllocations said
-SaysPage opening pages (ask.Books round) said = SaysBooks opening round said
-SaysPage opening pages ask.Certificate said = SaysText opening certificate_text said
-SaysPage opening pages ask.Healthy said = said ≡ Noticed Healthy
-SaysPage opening pages ask.Live said = SaysLive said
-SaysPage opening pages ask.Ready said = SaysReady said
-SaysPage opening pages ask.Metrics said = SaysMetrics said
-SaysPage opening pages ask.Reload said = SaysReload said
-SaysPage opening pages ask.Quit said = SaysQuit said
-SaysPage opening pages ask.Status said = SaysDocument said
-SaysPage opening pages (ask.Uncovered job) said = SaysUncovered (place_of job pages.names) said
-SaysPage opening pages (ask.Job job) said = SaysOneJob job (place_of job pages.names) said
-SaysPage opening pages (ask.JobTargets job) said = SaysJob opening job (place_of job pages.names) said
-SaysPage opening pages (ask.CollectorTargets job name takes) said = SaysCollector opening pages.acknowledge job name (place_of job pages.names) said
-SaysPage opening pages ask.Collectors said = SaysCollectors said
-SaysPage opening pages (ask.Collector which) said = SaysCollectorPage opening which said
-SaysPage opening pages (ask.FindTargets text) said = SaysFound said
-SaysPage opening pages (ask.Acknowledged told counts) said = SaysAcknowledged pages.acknowledge said
-SaysPage opening pages _ said = Unit {0}
+abbrev pub SaysPage : Span → ConfigPages → Ask → Said → Type 0
+SaysPage span pages (ask.ScrapeConfigs rules) said = SaysCopy (if rules then pages.as_read else pages.scrape_configs) said
+SaysPage span pages ask.Jobs said = SaysCopy pages.jobs said
+SaysPage span pages ask.Allocations said = SaysAllocations said
+SaysPage span pages (ask.Books round) said = SaysBooks span round said
+SaysPage span pages ask.Certificate said = SaysText span certificate_text said
+SaysPage span pages ask.Healthy said = said ≡ Noticed Healthy
+SaysPage span pages ask.Live said = SaysLive said
+SaysPage span pages ask.Ready said = SaysReady said
+SaysPage span pages ask.Metrics said = SaysMetrics said
+SaysPage span pages ask.Reload said = SaysReload said
+SaysPage span pages ask.Quit said = SaysQuit said
+SaysPage span pages ask.Status said = SaysDocument said
+SaysPage span pages (ask.Uncovered job) said = SaysUncovered (place_of job pages.names) said
+SaysPage span pages (ask.Job job) said = SaysOneJob job (place_of job pages.names) said
+SaysPage span pages (ask.JobTargets job) said = SaysJob span job (place_of job pages.names) said
+SaysPage span pages (ask.CollectorTargets job name takes) said = SaysCollector span pages.acknowledge job name (place_of job pages.names) said
+SaysPage span pages ask.Collectors said = SaysCollectors said
+SaysPage span pages (ask.Collector which) said = SaysCollectorPage span which said
+SaysPage span pages (ask.FindTargets text) said = SaysFound said
+SaysPage span pages (ask.Acknowledged told counts) said = SaysAcknowledged pages.acknowledge said
+SaysPage span pages _ said = Unit {0}
 
 -- what is asked waits for nothing
 abbrev pub IsAtOnce : Ask → Type 0
 IsAtOnce ask.Reload = ⊥
 IsAtOnce (ask.CollectorTargets job name takes) = ⊥
 IsAtOnce _ = Unit {0}
+
+-- and its page is not of what the desk has
+abbrev pub IsPlain : Ask → Type 0
+IsPlain (ask.Books round) = ⊥
+IsPlain ask.Certificate = ⊥
+IsPlain (ask.Uncovered job) = ⊥
+IsPlain (ask.JobTargets job) = ⊥
+IsPlain (ask.Collector which) = ⊥
+IsPlain asked = IsAtOnce asked
 
 -- some member is told at which a body is not of the documented shape
 abbrev pub IsMisshapen : Said → Type 0
@@ -374,17 +379,29 @@ IsMisshapen _ = ⊥
 abbrev pub SaysRefused : RequestError → Said → Type 0
 SaysRefused error said = (said ≡ Refused error) ⊎ ((error ≡ Shape) × IsMisshapen said)
 
-abbrev pub SaysBy : State → ConfigPages → Ask → Result (Option Wanted) RequestError → Said → Type 0
-SaysBy opening pages asked (Ok (Some (AnEvent event))) said = SaysEvent opening event said
-SaysBy opening pages asked (Ok (Some (OfNamed name change))) said = SaysChange opening name change said
-SaysBy opening pages asked (Ok (Some (Reports events))) said = SaysReports opening events said
-SaysBy opening pages asked (Ok None) said = SaysPage opening pages asked said
-SaysBy opening pages asked (Err error) said = SaysRefused error said
+abbrev pub SaysBy : Span → ConfigPages → Ask → Result (Option Wanted) RequestError → Said → Type 0
+SaysBy span pages asked (Ok (Some (AnEvent event))) said = SaysEvent span event said
+SaysBy span pages asked (Ok (Some (OfNamed name change))) said = SaysChange span name change said
+SaysBy span pages asked (Ok (Some (Reports events))) said = SaysReports span events said
+SaysBy span pages asked (Ok None) said = SaysPage span pages asked said
+SaysBy span pages asked (Err error) said = SaysRefused error said
+
+-- it is an answer, or a list
+abbrev pub is_of_journal : Said → Bool
+is_of_journal (Answered answer) = true
+is_of_journal (Answers answers round) = true
+is_of_journal (ListOf head groups) = true
+is_of_journal _ = false
+
+-- there is an answer or a list, and it is not told, since the journal is not kept
+abbrev pub IsWithheld : (Said → Type 0) → Said → Type 0
+IsWithheld Tells said = (said ≡ Refused NotKept) × ((told : Said) × (is_of_journal told ≡ true) × Tells told)
 
 -- what is told in an epoch to a request with this body: a report of another epoch is refused
-unfoldable pub SaysIn : State → ConfigPages → Ask → ℕ → List ℕ → Said → Type 0
-SaysIn opening pages asked epoch body said = SaysBy opening pages asked (event_said asked epoch body) said ⊎ (said ≡ Refused Memory)
+unfoldable pub SaysIn : Span → ConfigPages → Ask → ℕ → List ℕ → Said → Type 0
+SaysIn span pages asked epoch body said =
+    SaysBy span pages asked (event_said asked epoch body) said ⊎ ((said ≡ Refused Memory) ⊎ IsWithheld (SaysBy span pages asked (event_said asked epoch body)) said)
 
 -- what is told to a request with this body, in the epoch that it is
-abbrev pub Says : State → ConfigPages → Ask → List ℕ → Said → Type 0
-Says opening pages asked body said = (epoch : ℕ) × SaysIn opening pages asked epoch body said
+abbrev pub Says : Span → ConfigPages → Ask → List ℕ → Said → Type 0
+Says span pages asked body said = (epoch : ℕ) × SaysIn span pages asked epoch body said

@@ -1,15 +1,15 @@
 //! Lists that let targets go once they are acknowledged.
 ghost use Rattle.std.specs.Prelude.{IfOk, IfSome, IsSome};
 ghost use Rattle.std.specs.Arc.{arc_value};
-ghost use Rattle.sd_server.specs.Entries.{Leads};
 ghost use Rattle.sd_server.specs.Keeping.{FindsKept};
-ghost use Rattle.sd_server.specs.Says.{OfSome, SaysAcknowledged, SaysServed};
+ghost use Rattle.sd_server.specs.Says.{SaysAcknowledged, SaysServed};
+ghost use Rattle.sd_server.specs.Spans.{Moves, now_of};
 
-use crate::entry::Entry;
 use crate::handler::Handler;
 use crate::keeping::{Keeping, kept_at};
-use alloc_desk::DeskName;
+use crate::seen::Seen;
 use fleet_events::{AllocationNumber, CollectorId};
+use kept_journal::JournalName;
 use lists::Text;
 use sd_routes::{Acknowledgement, RequestError, Said};
 use service_state::FollowedList;
@@ -18,37 +18,58 @@ use std::sync::Wait;
 use std::sync::ledger::Ledger;
 use std::time::Clock;
 
-impl<R: Wait + Clock + Copy, L: Ledger, B: Ledger, N: DeskName> Handler<R, L, B, N> {
+impl<R: Wait + Clock + Copy, L: Ledger, B: Ledger, N: JournalName> Handler<R, L, B, N> {
     /// What a collector is served of a job. Where its last list has targets that another collector holds, and it did not tell that it
     /// follows a list without them, what that list keeps.
-    pub(crate) fn acknowledged_list(&self, place: usize, job: &Text, id: CollectorId) -> Entry
+    #[tactic(auto, using(crate::proofs::SpanLemmas::moves_trans))]
+    pub(crate) fn acknowledged_list(
+        &self,
+        seen: &mut Seen<N>,
+        place: usize,
+        job: &Text,
+        id: CollectorId,
+    ) -> Said
         requires { IsSome (arc_value self.now.pages).acknowledge }
-        ensures { Leads (SaysServed N.opening (arc_value self.now.pages).acknowledge job.now place id) result }
+        ensures says { SaysServed seen.new (arc_value self.now.pages).acknowledge job.now place id result }
+        ensures moves { Moves seen.old seen.new }
     {
-        match self.kept(place, id) {
-            Ok(Some(kept)) => self.kept_list(place, job, id, &kept),
-            Ok(None) => self.served(place, job, id),
-            Err(_) => Entry::Now(Said::Refused(RequestError::Memory)),
+        match self.kept(seen, place, id) {
+            Ok(Some(kept)) => self.kept_list(seen, place, job, id, &kept),
+            Ok(None) => self.served(seen, place, job, id),
+            Err(_) => Said::Refused(RequestError::Memory),
         }
     }
 
     /// What its last list keeps, where that has targets which another collector holds and no list without them is acknowledged.
-    fn kept(&self, place: usize, id: CollectorId) -> Result<Option<Keeping>, AllocError>
-        ensures { IfOk result (λ found. IfSome found (λ k. OfSome N.opening (λ h. FindsKept h.state place id k.look))) }
+    fn kept(
+        &self,
+        seen: &mut Seen<N>,
+        place: usize,
+        id: CollectorId,
+    ) -> Result<Option<Keeping>, AllocError>
+        ensures read { IfOk result (λ found. IfSome found (λ k. FindsKept (now_of seen.new).state place id k.look)) }
+        ensures moves { Moves seen.old seen.new }
     {
-        let found = self.kept_now(place, id)?;
+        let found = self.kept_now(seen, place, id)?;
         if self.may_go(place, id, &found) {
             return Ok(None);
         }
         Ok(found)
     }
 
-    fn kept_now(&self, place: usize, id: CollectorId) -> Result<Option<Keeping>, AllocError>
-        ensures { IfOk result (λ found. IfSome found (λ k. OfSome N.opening (λ h. FindsKept h.state place id k.look))) }
+    fn kept_now(
+        &self,
+        seen: &mut Seen<N>,
+        place: usize,
+        id: CollectorId,
+    ) -> Result<Option<Keeping>, AllocError>
+        ensures read { IfOk result (λ found. IfSome found (λ k. FindsKept (now_of seen.new).state place id k.look)) }
+        ensures moves { Moves seen.old seen.new }
     {
         let mut pass = self.pass.lock(&self.rt);
-        self.desk.read(
+        seen.latest.read(
             &self.rt,
+            &self.desk,
             &mut *pass,
             |record| kept_at(self.alloc, record, place, id),
         )
@@ -86,17 +107,25 @@ impl<R: Wait + Clock + Copy, L: Ledger, B: Ledger, N: DeskName> Handler<R, L, B,
         }
     }
 
-    /// What its last list keeps, once so many entries of the journal are kept.
-    fn kept_list(&self, place: usize, job: &Text, id: CollectorId, kept: &Keeping) -> Entry
+    /// What its last list keeps.
+    fn kept_list(
+        &self,
+        seen: &mut Seen<N>,
+        place: usize,
+        job: &Text,
+        id: CollectorId,
+        kept: &Keeping,
+    ) -> Said
         requires at { IsSome (arc_value self.now.pages).acknowledge }
-        requires look { OfSome N.opening (λ h. FindsKept h.state place id kept.now.look) }
-        ensures { Leads (SaysServed N.opening (arc_value self.now.pages).acknowledge job.now place id) result }
+        requires look { FindsKept (now_of seen.old).state place id kept.now.look }
+        ensures says { SaysServed seen.new (arc_value self.now.pages).acknowledge job.now place id result }
+        ensures moves { Moves seen.old seen.new }
     {
         if self.is_broken() {
-            return Entry::Now(Said::Refused(RequestError::NotKept));
+            seen.now();
+            return Said::Refused(RequestError::NotKept);
         }
-        let said = self.look_told(&self.pages.acknowledge, place, job, id, &kept.look);
-        self.once_kept(kept.entries, said)
+        self.look_told(seen, &self.pages.acknowledge, place, job, id, &kept.look)
     }
 
     /// A collector tells that it follows a list: it scrapes that it does, and is given no figures. It is noted where that is to count.

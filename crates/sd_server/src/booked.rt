@@ -1,11 +1,14 @@
 //! What is told of a round that was booked.
 ghost use Rattle.std.specs.Prelude.{IfOk, Some};
 ghost use Rattle.service_state.specs.Booked.{IsBooks};
-ghost use Rattle.sd_server.specs.Says.{OfSome, SaysBooks};
+ghost use Rattle.sd_server.specs.Says.{SaysBooks};
+ghost use Rattle.sd_server.specs.Spans.{Moves, now_of};
 
 use crate::handler::Handler;
-use alloc_desk::DeskName;
+use crate::seen::Seen;
+use alloc_desk::Record;
 use fleet_events::Round;
+use kept_journal::JournalName;
 use lists::Text;
 use sd_routes::{BookCounts, BooksRow, JobBooks, RequestError, Said, books_page};
 use service_pages::{BookLine, Reporter, ShownBooks, books_document};
@@ -15,14 +18,15 @@ use std::sync::Wait;
 use std::sync::ledger::Ledger;
 use std::time::Clock;
 
-impl<R: Wait + Clock + Copy, L: Ledger, B: Ledger, N: DeskName> Handler<R, L, B, N> {
+impl<R: Wait + Clock + Copy, L: Ledger, B: Ledger, N: JournalName> Handler<R, L, B, N> {
     /// What was booked in the round that is asked for, or in the last one that is over.
-    pub(crate) fn books(&self, asked: Option<Round>) -> Said
-        ensures { SaysBooks N.opening asked result }
+    pub(crate) fn books(&self, seen: &mut Seen<N>, asked: Option<Round>) -> Said
+        ensures says { SaysBooks seen.new asked result }
+        ensures moves { Moves seen.old seen.new }
     {
-        match self.books_asked(asked) {
+        match self.books_asked(seen, asked) {
             Ok(Some(row)) => {
-                let said = self.books_told(asked, &row);
+                let said = self.books_told(seen, asked, &row);
                 drop(row);
                 said
             }
@@ -31,32 +35,40 @@ impl<R: Wait + Clock + Copy, L: Ledger, B: Ledger, N: DeskName> Handler<R, L, B,
         }
     }
 
-    fn books_told(&self, asked: Option<Round>, row: &BooksRow) -> Said
-        requires { OfSome N.opening (λ h. IsBooks h.state asked (Some row.now)) }
-        ensures { SaysBooks N.opening asked result }
+    fn books_told(&self, seen: &Seen<N>, asked: Option<Round>, row: &BooksRow) -> Said
+        requires { IsBooks (now_of seen.now).state asked (Some row.now) }
+        ensures { SaysBooks seen.now asked result }
     {
+        seen.now();
         match books_page(self.alloc, row) {
             Ok(text) => Said::Page(text),
             Err(_) => Said::Refused(RequestError::Memory),
         }
     }
 
-    fn books_asked(&self, asked: Option<Round>) -> Result<Option<BooksRow>, AllocError>
-        ensures { IfOk result (λ found. OfSome N.opening (λ h. IsBooks h.state asked found)) }
+    fn books_asked(
+        &self,
+        seen: &mut Seen<N>,
+        asked: Option<Round>,
+    ) -> Result<Option<BooksRow>, AllocError>
+        ensures read { IfOk result (IsBooks (now_of seen.new).state asked) }
+        ensures moves { Moves seen.old seen.new }
     {
         let mut pass = self.pass.lock(&self.rt);
-        self.desk.read(
+        seen.latest.read(
             &self.rt,
+            &self.desk,
             &mut *pass,
-            |record| books_asked(self.alloc, record.core(), asked),
+            |record| books_of(self.alloc, record, asked),
         )
     }
 
     /// The page of it for people.
-    pub(crate) fn books_document(&self, asked: Option<Round>) -> Said
-        ensures { SaysBooks N.opening asked result }
+    pub(crate) fn books_document(&self, seen: &mut Seen<N>, asked: Option<Round>) -> Said
+        ensures says { SaysBooks seen.new asked result }
+        ensures moves { Moves seen.old seen.new }
     {
-        match self.books_asked(asked) {
+        match self.books_asked(seen, asked) {
             Ok(Some(row)) => {
                 let text = self.books_document_text(&row);
                 drop(row);
@@ -79,6 +91,17 @@ impl<R: Wait + Clock + Copy, L: Ledger, B: Ledger, N: DeskName> Handler<R, L, B,
         };
         books_document(self.alloc, &shown)
     }
+}
+
+/// What was booked, as a desk has it now.
+fn books_of(
+    alloc: Global,
+    record: &Record,
+    asked: Option<Round>,
+) -> Result<Option<BooksRow>, AllocError>
+    ensures { IfOk result (IsBooks record.now.state asked) }
+{
+    books_asked(alloc, record.core(), asked)
 }
 
 /// A line for each job, with one for each of its collectors behind it.

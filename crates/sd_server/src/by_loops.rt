@@ -1,13 +1,13 @@
 //! The server that strangers talk to: event loops over one listener, each on a thread of its own, and each connection a task of a loop.
 use crate::handler::Handler;
-use crate::service::AllocatorService;
+use crate::service::{AllocatorService, shared_routes};
 use crate::spoken::Spoken;
-use alloc_desk::DeskName;
 use bytes::Bytes;
 use event_loops::{Connections, Exchanges, Gate, Limits, Paced, Serving, Socket, Timed, serve_all};
 use http_body_util::Full;
 use hyper::rt::TokioTimer;
 use hyper::server::conn::http1;
+use kept_journal::JournalName;
 use sd_routes::Routes;
 use std::alloc::{AllocError, AllocGlobal, Global};
 use std::hash::RandomState;
@@ -34,7 +34,7 @@ type Wire<R> = Socket<Spoken<tokio::net::TcpStream>, TokioTimer<R>>;
 
 /// What a loop serves its connections with.
 #[derive(Drop)]
-struct Host<'a, R, L: Ledger, B: Ledger, N: DeskName> {
+struct Host<'a, R, L: Ledger, B: Ledger, N: JournalName> {
     handler: Handler<R, L, B, N>,
     routes: Arc<Routes>,
     http: http1::Builder<TokioTimer<R>>,
@@ -43,7 +43,7 @@ struct Host<'a, R, L: Ledger, B: Ledger, N: DeskName> {
     connections: Connections,
 }
 
-impl<R: Wait + Clock + AllocGlobal + Copy + Drop, L: Ledger, B: Ledger, N: DeskName> Host<
+impl<R: Wait + Clock + AllocGlobal + Copy + Drop, L: Ledger, B: Ledger, N: JournalName> Host<
     '_,
     R,
     L,
@@ -143,7 +143,7 @@ impl<R: Wait + Clock + AllocGlobal + Copy + Drop, L: Ledger, B: Ledger, N: DeskN
     }
 }
 
-impl<R: Wait + Clock + AllocGlobal + Copy + Drop, L: Ledger, B: Ledger, N: DeskName> Serving
+impl<R: Wait + Clock + AllocGlobal + Copy + Drop, L: Ledger, B: Ledger, N: JournalName> Serving
     for Host<'_, R, L, B, N> {
     type Conn = Timed<
         http1::Connection<Wire<R>, Paced<AllocatorService<R, L, B, N>>, Full<Bytes>, TokioTimer<R>>,
@@ -207,7 +207,7 @@ pub fn serve_by_loops<
     R,
     L: Ledger + Send + Sync,
     B: Ledger + Send + Sync,
-    N: DeskName + Send + Sync,
+    N: JournalName + Send + Sync,
 >(
     rt: &R,
     alloc: Global,
@@ -241,7 +241,7 @@ where
 }
 
 /// Serves connections on this thread until the gate is stopped. Where it finds no memory to begin, it begins again after a pause.
-fn serve_here<R, L: Ledger, B: Ledger, N: DeskName>(
+fn serve_here<R, L: Ledger, B: Ledger, N: JournalName>(
     rt: &R,
     gate: &Arc<Gate>,
     listener: &TcpListener,
@@ -268,7 +268,7 @@ where
     unreachable!()
 }
 
-fn serve_until_stopped<R, L: Ledger, B: Ledger, N: DeskName>(
+fn serve_until_stopped<R, L: Ledger, B: Ledger, N: JournalName>(
     rt: &R,
     gate: &Arc<Gate>,
     listener: &TcpListener,
@@ -284,16 +284,48 @@ where
         + Drop,
 {
     let mut runtime = LocalRuntime::new(rt)?;
-    let listener = tokio::net::TcpListener::from_std(
-        listener.try_clone()?,
-        runtime.handle().reactor(),
-    )?;
-    let host = host_of(rt, &runtime, gate, handler)?;
-    serve_all(rt, &mut runtime, listener, &host, gate)
+    let ended = serve_on(rt, &mut runtime, gate, listener, handler);
+    drop(runtime);
+    ended
+}
+
+/// Serves connections on a runtime until the gate is stopped.
+fn serve_on<R, L: Ledger, B: Ledger, N: JournalName>(
+    rt: &R,
+    runtime: &mut LocalRuntime,
+    gate: &Arc<Gate>,
+    listener: &TcpListener,
+    handler: &Handler<R, L, B, N>,
+) -> io::Result<()>
+where
+    R: Wait
+        + Clock
+        + Net<Listener = TcpListener, Stream = TcpStream>
+        + RandomSource
+        + AllocGlobal
+        + Copy
+        + Drop,
+{
+    let host = host_of(rt, runtime, gate, handler)?;
+    let ended = match listener_on(runtime, listener) {
+        Ok(listener) => serve_all(rt, runtime, listener, &host, gate),
+        Err(error) => Err(error),
+    };
+    drop(host);
+    ended
+}
+
+/// Another for the same socket, which the runtime waits for.
+fn listener_on(
+    runtime: &LocalRuntime,
+    listener: &TcpListener,
+) -> io::Result<tokio::net::TcpListener> {
+    let another = listener.try_clone()?;
+    tokio::net::TcpListener::from_std(another, runtime.handle().reactor())
 }
 
 /// What a loop serves its connections with.
-fn host_of<'a, R, L: Ledger, B: Ledger, N: DeskName>(
+fn host_of<'a, R, L: Ledger, B: Ledger, N: JournalName>(
     rt: &R,
     runtime: &LocalRuntime,
     gate: &'a Arc<Gate>,
@@ -303,17 +335,69 @@ where
     R: Wait + Clock + RandomSource + AllocGlobal + Copy,
 {
     let time = runtime.handle().time();
-    let routes = Arc::new(rt.alloc(), Routes::open(rt.alloc())?)?;
-    let http = builder(rt, time)?;
-    let connections = Connections::new(rt.alloc())?;
-    Ok(Host {
-        handler: handler.of_loop(time, gate)?,
-        routes,
-        http,
-        time: time.clone()?,
-        gate,
-        connections,
-    })
+    let handler = handler.of_loop(time, gate)?;
+    match beside_handler(rt, time) {
+        Ok((routes, http, time, connections)) => Ok(Host {
+            handler,
+            routes,
+            http,
+            time,
+            gate,
+            connections,
+        }),
+        Err(error) => {
+            drop(handler);
+            Err(error)
+        }
+    }
+}
+
+/// What a loop has beside its handler.
+fn beside_handler<R: Clock + RandomSource + AllocGlobal + Copy>(
+    rt: &R,
+    time: &Handle,
+) -> io::Result<
+    (
+        Arc<Routes>,
+        http1::Builder<TokioTimer<R>>,
+        Handle,
+        Connections,
+    ),
+> {
+    let (routes, connections) = routes_and_connections(rt.alloc())?;
+    match timed_builder(rt, time) {
+        Ok((http, time)) => Ok((routes, http, time, connections)),
+        Err(error) => {
+            drop((routes, connections));
+            Err(error)
+        }
+    }
+}
+
+fn routes_and_connections(alloc: Global) -> io::Result<(Arc<Routes>, Connections)> {
+    let connections = Connections::new(alloc)?;
+    match shared_routes(alloc) {
+        Ok(routes) => Ok((routes, connections)),
+        Err(error) => {
+            drop(connections);
+            Err(error.into())
+        }
+    }
+}
+
+/// How connections are read, and the timers of a loop.
+fn timed_builder<R: Clock + RandomSource + AllocGlobal + Copy>(
+    rt: &R,
+    time: &Handle,
+) -> io::Result<(http1::Builder<TokioTimer<R>>, Handle)> {
+    let timers = time.clone()?;
+    match builder(rt, time) {
+        Ok(http) => Ok((http, timers)),
+        Err(error) => {
+            drop(timers);
+            Err(error)
+        }
+    }
 }
 
 /// How connections are read. Their limits of time are those of `Timed`.

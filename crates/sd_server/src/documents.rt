@@ -3,16 +3,18 @@ ghost use Rattle.std.specs.Prelude.{◌≡◌, [], IfOk, IfSome};
 ghost use Rattle.std.specs.Arc.{arc_value};
 ghost use Rattle.service_state.specs.Jobs.{place_of};
 ghost use Rattle.sd_server.specs.Says.{IsJobRowText, Says, SaysCollectorPage, SaysFound, SaysOneJob};
+ghost use Rattle.sd_server.specs.Spans.{Moves, Span};
 ghost use Rattle.sd_routes.specs.declared.which_collector.WhichCollector.{WhichCollector};
 
 use crate::collector_state::{CollectorState, collector_state};
 use crate::found_state::{FoundState, found_state};
 use crate::handler::Handler;
 use crate::job_state::{JobState, held_by_name, job_state, source_rows};
-use alloc_desk::DeskName;
+use crate::seen::Seen;
 use allocation_core::{Answer, Refusal};
 use fleet_events::TargetId;
 use json_values::{Spelled, text_of};
+use kept_journal::JournalName;
 use lists::{List, Text};
 use sd_routes::{Ask, JobRow, RequestError, Said, SourceRow, WhichCollector, job_row_page};
 use service_pages::{
@@ -24,17 +26,31 @@ use std::sync::Wait;
 use std::sync::ledger::Ledger;
 use std::time::Clock;
 
-impl<R: Wait + Clock + Copy, L: Ledger, B: Ledger, N: DeskName> Handler<R, L, B, N> {
+impl<R: Wait + Clock + Copy, L: Ledger, B: Ledger, N: JournalName> Handler<R, L, B, N> {
     /// The page for people of what is asked for, where it has one.
-    pub(crate) fn document(&self, ask: &Ask) -> Option<Said>
-        ensures { IfSome result (λ said. Says N.opening (arc_value self.now.pages) ask.now [] said) }
+    pub(crate) fn document(&self, seen: &mut Seen<N>, ask: &Ask) -> Option<Said>
+        ensures says { IfSome result (λ said. Says seen.new (arc_value self.now.pages) ask.now [] said) }
+        ensures moves { Moves seen.old seen.new }
+    {
+        match ask {
+            Ask::Books(round) => Some(self.books_document(seen, *round)),
+            _ => {
+                seen.now();
+                self.plain_document(ask)
+            }
+        }
+    }
+
+    /// That which is not of what a contract tells of a desk.
+    fn plain_document(&self, ask: &Ask) -> Option<Said>
+        ensures { IfSome result (λ said. (span : Span) → Says span (arc_value self.now.pages) ask.now [] said) }
     {
         match ask {
             Ask::Job(job) => Some(self.job_document(job.as_str())),
             Ask::Collector(which) => Some(self.collector_document(which)),
             Ask::FindTargets(text) => Some(self.found_document(text.as_str())),
-            Ask::Books(round) => Some(self.books_document(*round)),
-            Ask::Status
+            Ask::Books(_)
+            | Ask::Status
             | Ask::ScrapeConfigs { rules: _ }
             | Ask::Jobs
             | Ask::JobTargets(_)
@@ -200,7 +216,7 @@ impl<R: Wait + Clock + Copy, L: Ledger, B: Ledger, N: DeskName> Handler<R, L, B,
     }
 
     fn collector_document(&self, which: &WhichCollector) -> Said
-        ensures { SaysCollectorPage N.opening which.now result }
+        ensures { (span : Span) → SaysCollectorPage span which.now result }
     {
         match self.collector_state(which) {
             Ok(Some(state)) => self.collector_told(&state),
@@ -210,7 +226,7 @@ impl<R: Wait + Clock + Copy, L: Ledger, B: Ledger, N: DeskName> Handler<R, L, B,
     }
 
     fn collector_told(&self, state: &CollectorState) -> Said
-        ensures { (which : WhichCollector) → SaysCollectorPage N.opening which result }
+        ensures { (span : Span) (which : WhichCollector) → SaysCollectorPage span which result }
     {
         match self.collector_document_text(state) {
             Ok(text) => Said::Document(text),

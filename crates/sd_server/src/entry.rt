@@ -1,10 +1,12 @@
 //! What is said, or what it waits for.
-ghost use Rattle.std.specs.Prelude.{◌≡◌};
-ghost use Rattle.sd_server.specs.Entries.{MaySayEntry, MaySayLater};
+ghost use Rattle.std.specs.Prelude.{◌≡◌, IsTrue};
+ghost use Rattle.sd_server.specs.Entries.{KeptPast, MaySayEntry, MaySayLater};
 ghost use Rattle.sd_server.specs.Says.{SaysReload};
 
+use alloc_desk::Front;
 use futures::task::{Context, Poll};
 use futures::{Future, ready};
+use kept_journal::{Durable, JournalName};
 use lists::Text;
 use sd_routes::{RequestError, Said};
 use service_state::unanswered;
@@ -17,18 +19,18 @@ use tokio::time::error::Elapsed;
 
 /// What is said, or what it waits for.
 #[derive(Drop)]
-pub enum Entry {
+pub enum Entry<N: JournalName> {
     Now(Said),
-    /// An entry of the journal is to be kept before.
-    Later(Later),
+    /// What was seen of the journal is to be kept before.
+    Later(Later<N>),
     /// The configuration is read again before.
     Reload(Reload),
 }
 
-impl Future for Entry {
+impl<N: JournalName> Future for Entry<N> {
     type Output = Said;
 
-    ghost gives = { MaySayEntry };
+    ghost gives = { MaySayEntry N.keeps };
 
     fn poll(&mut self, cx: &mut Context<'_>) -> Poll<Said> {
         match self {
@@ -48,22 +50,39 @@ impl Future for Entry {
     }
 }
 
-/// What is said once an entry is kept.
+/// What is said once all that a front has seen is kept.
 #[derive(Drop)]
-pub struct Later {
+pub struct Later<N: JournalName> {
     pub(crate) said: Option<Said>,
-    pub(crate) told: Timeout<Receiver<bool>>,
+    pub(crate) front: Front<N>,
+    pub(crate) told: Timeout<Receiver<Durable<N>>>,
 }
 
-impl Later {
+impl<N: JournalName> Later<N> {
     /// What is said after this was told.
-    pub(crate) fn said(&mut self, told: Result<Result<bool, RecvError>, Elapsed>) -> Said
-        ensures { MaySayLater self.old result }
+    pub(crate) fn said(&mut self, told: Result<Result<Durable<N>, RecvError>, Elapsed>) -> Said
+        ensures { MaySayLater N.keeps self.old result }
     {
-        match (told, self.said.take()) {
-            (Ok(Ok(true)), Some(said)) => said,
+        let durable = match told {
+            Ok(Ok(durable)) => Some(durable),
+            _ => None,
+        };
+        let is_kept = has(&durable, &self.front);
+        drop(durable);
+        match self.said.take() {
+            Some(said) if is_kept => said,
             _ => Said::Refused(RequestError::NotKept),
         }
+    }
+}
+
+/// Whether this is kept, and has all that a front has seen.
+pub(crate) fn has<N: JournalName>(durable: &Option<Durable<N>>, front: &Front<N>) -> bool
+    ensures { IsTrue result → KeptPast N.keeps front.now }
+{
+    match durable {
+        Some(durable) => durable.has(front),
+        None => false,
     }
 }
 

@@ -1,27 +1,31 @@
 //! What a request is handled with.
-ghost use Rattle.std.specs.Prelude.{◌≡◌, Some, IfOk, IfErr};
+ghost use Rattle.std.specs.Prelude.{◌≡◌, Some, IfOk, IfErr, IsSome};
 ghost use Rattle.std.specs.Arc.{arc_value};
 ghost use Rattle.alloc_desk.specs.Views.{shares_of};
 ghost use Rattle.fleet_events.specs.declared.answer.Answer.TheVariants.{Not};
 ghost use Rattle.fleet_events.specs.declared.refusal.Refusal.TheVariants.{UnknownCollector};
 ghost use Rattle.sd_routes.specs.declared.change.Change.TheVariants.{Release};
-ghost use Rattle.sd_routes.specs.declared.responding.Said.TheVariants.{Answer as Answered};
+ghost use Rattle.sd_routes.specs.declared.request_error.RequestError.TheVariants.{NotKept};
+ghost use Rattle.sd_routes.specs.declared.responding.Said.TheVariants.{Answer as Answered, Refused};
 ghost use Rattle.service_state.specs.Jobs.{place_of};
+ghost use Rattle.sd_server.specs.Spans.{IsEntered, Moves, Span, between, now_of};
 ghost use Rattle.sd_server.specs.Texts.{certificate_text, job_text};
-ghost use Rattle.sd_server.specs.Entries.{Leads, OnceKept};
-ghost use Rattle.sd_server.specs.Says.{IsAtOnce, IsEntered, IsUncoveredText, OfSome, Says, SaysCopy, SaysDocument, SaysEvent, SaysChange, SaysIn, SaysJob, SaysLive, SaysMetrics, SaysNot, SaysOfLeft, SaysPage, SaysQuit, SaysReady, SaysRefused, SaysReload, SaysText, SaysUncovered};
+ghost use Rattle.sd_server.specs.Entries.{Comes, Leads, OnceKept, WaitsFor};
+ghost use Rattle.sd_server.specs.Says.{IsAtOnce, IsPlain, IsUncoveredText, Says, SaysCopy, SaysDocument, SaysEvent, SaysChange, SaysIn, SaysJob, SaysLive, SaysMetrics, SaysNot, SaysOfLeft, SaysPage, SaysQuit, SaysReady, SaysRefused, SaysReload, SaysText, SaysUncovered, is_of_journal};
 
 use crate::certificate_page::certificate_page;
 use crate::counter::Counter;
-use crate::entry::{Entry, Later, Reload};
+use crate::entry::{Entry, Later, Reload, has};
 use crate::list_texts::ListTexts;
+use crate::seen::Seen;
 use crate::tags::Tags;
 use crate::uncovered::{Uncovered, uncovered_of};
 use admission::Admission;
-use alloc_desk::{Desk, DeskName, EnterError, Pass, Receipt};
+use alloc_desk::{Desk, EnterError, Front, Pass, Receipt};
 use allocation_core::{Answer, Event, Refusal};
 use event_loops::Gate;
 use fleet_events::{CollectorId, TargetId};
+use kept_journal::{Asked, Durable, JournalName, Kept, LONGEST_WAIT_MILLIS};
 use lists::{List, Plain, Text};
 use price_certificate::{Instance, Plan};
 use reach_rules::CollectorName;
@@ -31,8 +35,8 @@ use sd_routes::{
 };
 use service_pages::{Shown, status_page};
 use service_state::{
-    Asked, ChangeNote, ConfigPages, EventKind, Figures, Kept, LONGEST_WAIT_MILLIS, Notes, Route,
-    ServiceState, figures_of, metrics_page,
+    ChangeNote, ConfigPages, EventKind, Figures, Notes, Route, ServiceState, figures_of,
+    metrics_page,
 };
 use std::alloc::{AllocError, Global};
 use std::net::SocketAddr;
@@ -45,7 +49,7 @@ use tokio::time::{Handle, Timeout};
 
 /// What a request is handled with: the runtime's handle, the desk, a pass of it and the configuration's pages.
 #[derive(Drop)]
-pub struct Handler<R, L: Ledger, B: Ledger, N: DeskName> {
+pub struct Handler<R, L: Ledger, B: Ledger, N: JournalName> {
     pub rt: R,
     pub alloc: Global,
     pub desk: Arc<Desk<L, B, N>>,
@@ -53,7 +57,7 @@ pub struct Handler<R, L: Ledger, B: Ledger, N: DeskName> {
     pub pages: Arc<ConfigPages>,
     pub state: Arc<ServiceState>,
     /// How much of the journal is kept, where it is to be kept before an answer is given.
-    pub kept: Option<Arc<Kept>>,
+    pub kept: Option<Arc<Kept<N>>>,
     /// What changes with each renewal and each new journal. A report that names another one is refused.
     pub epoch: u64,
     /// The texts of the lists that were taken.
@@ -68,10 +72,10 @@ pub struct Handler<R, L: Ledger, B: Ledger, N: DeskName> {
     pub gate: Option<Arc<Gate>>,
 }
 
-impl<R: Wait + Clock + Copy, L: Ledger, B: Ledger, N: DeskName> Handler<R, L, B, N> {
+impl<R: Wait + Clock + Copy, L: Ledger, B: Ledger, N: JournalName> Handler<R, L, B, N> {
     /// Another for the same desk and the same pass.
     pub fn another(&self) -> Result<Handler<R, L, B, N>, AllocError>
-        ensures { IfOk result (λ h. arc_value h.pages ≡ arc_value self.now.pages) }
+        ensures { IfOk result (λ h. (arc_value h.pages ≡ arc_value self.now.pages) × (IsSome self.now.kept → IsSome h.kept)) }
     {
         let time = self.timers()?;
         match self.same_gate() {
@@ -89,7 +93,7 @@ impl<R: Wait + Clock + Copy, L: Ledger, B: Ledger, N: DeskName> Handler<R, L, B,
         time: Option<Handle>,
         gate: Option<Arc<Gate>>,
     ) -> Result<Handler<R, L, B, N>, AllocError>
-        ensures { IfOk result (λ h. arc_value h.pages ≡ arc_value self.now.pages) }
+        ensures { IfOk result (λ h. (arc_value h.pages ≡ arc_value self.now.pages) × (IsSome self.now.kept → IsSome h.kept)) }
     {
         let (desk, pass) = match self.same_desk() {
             Ok(same) => same,
@@ -154,7 +158,9 @@ impl<R: Wait + Clock + Copy, L: Ledger, B: Ledger, N: DeskName> Handler<R, L, B,
 
     fn same_texts(
         &self,
-    ) -> Result<(Option<Arc<Kept>>, Arc<ListTexts<N>>, Arc<Admission>), AllocError> {
+    ) -> Result<(Option<Arc<Kept<N>>>, Arc<ListTexts<N>>, Arc<Admission>), AllocError>
+        ensures { IfOk result (λ r. IsSome self.now.kept → IsSome r.0) }
+    {
         let kept = Kept::shared(&self.kept)?;
         let texts = match Arc::try_clone(&self.texts) {
             Ok(texts) => texts,
@@ -226,31 +232,57 @@ impl<R: Wait + Clock + Copy, L: Ledger, B: Ledger, N: DeskName> Handler<R, L, B,
         Some(Tags { rt: self.rt, texts })
     }
 
-    /// What a request with this body is told, or what that waits for.
-    pub fn entry(&self, ask: &Ask, body: &[u8]) -> Entry
-        ensures { Leads (Says N.opening (arc_value self.now.pages) ask.now body.now) result }
+    /// What the journal has when a request comes.
+    pub fn seen(&self) -> Seen<N>
+        ensures opening { result.opening ≡ N.opening }
+        ensures same { result.before ≡ result.after }
     {
-        self.entry_now(ask, body)
+        Seen::of(self.desk.front(&self.rt))
     }
 
+    /// What a request with this body is told, or what that waits for. It is told of the one journal that comes out of the desk, of which
+    /// both had been seen: what is new when the request comes, and what has been seen then.
+    /// An answer and a list come only once the device has all of it.
+    pub fn entry(&self, seen: &mut Seen<N>, ask: &Ask, body: &[u8]) -> Entry<N>
+        ensures says { Leads N.keeps (Says seen.new (arc_value self.now.pages) ask.now body.now) result }
+        ensures kept { Leads N.keeps (OnceKept self.now.kept N.keeps seen.new) result }
+        ensures moves { Moves seen.old seen.new }
+    {
+        match ask {
+            Ask::Reload => {
+                seen.now();
+                self.reload()
+            }
+            _ => {
+                let said = self.said(seen, ask, body);
+                self.once_kept(seen, said)
+            }
+        }
+    }
+
+    /// What is told, once it may be.
     #[tactic(auto, unfolding(crate::specs::Says::SaysIn))]
-    fn entry_now(&self, ask: &Ask, body: &[u8]) -> Entry
-        ensures { Leads (SaysIn N.opening (arc_value self.now.pages) ask.now self.now.epoch body.now) result }
+    fn said(&self, seen: &mut Seen<N>, ask: &Ask, body: &[u8]) -> Said
+        ensures says { SaysIn seen.new (arc_value self.now.pages) ask.now self.now.epoch body.now result }
+        ensures moves { Moves seen.old seen.new }
     {
         match event_of(self.alloc, ask, body, self.epoch) {
-            Ok(Some(Wanted::Event(event))) => self.entered(event),
+            Ok(Some(Wanted::Event(event))) => self.entered(seen, event),
             Ok(Some(Wanted::OfNamed { name, change })) => {
-                let entry = self.changed(&name, change);
+                let said = self.changed(seen, &name, change);
                 drop(name);
-                entry
+                said
             }
             Ok(Some(Wanted::Reports(events))) => {
-                let entry = self.reported(events.as_slice());
+                let said = self.reported(seen, events.as_slice());
                 drop(events);
-                entry
+                said
             }
-            Ok(None) => self.shown(ask),
-            Err(error) => Entry::Now(self.refused(ask, body, error)),
+            Ok(None) => self.shown(seen, ask),
+            Err(error) => {
+                seen.now();
+                self.refused(ask, body, error)
+            }
         }
     }
 
@@ -269,31 +301,39 @@ impl<R: Wait + Clock + Copy, L: Ledger, B: Ledger, N: DeskName> Handler<R, L, B,
 
     /// It happens to the collector that has the name. Its number is never another's, so where it leaves before, it happens to none.
     #[tactic(auto, unfolding(crate::specs::Says::SaysChange))]
-    fn changed(&self, name: &CollectorName, change: Change) -> Entry
-        ensures { Leads (SaysChange N.opening name.now change) result }
+    fn changed(&self, seen: &mut Seen<N>, name: &CollectorName, change: Change) -> Said
+        ensures says { SaysChange seen.new name.now change result }
+        ensures moves { Moves seen.old seen.new }
     {
-        match self.named(name.as_str()) {
-            Some(id) => self.entered(change.event(id)),
-            None => self.changed_of_left(name.as_str(), change),
+        match self.named(seen, name.as_str()) {
+            Some(id) => self.entered(seen, change.event(id)),
+            None => self.changed_of_left(seen, name.as_str(), change),
         }
     }
 
     /// Of a collector that left, the lists can be let go.
-    fn changed_of_left(&self, name: &str, change: Change) -> Entry
-        ensures { Leads (SaysOfLeft N.opening change) result }
+    fn changed_of_left(&self, seen: &mut Seen<N>, name: &str, change: Change) -> Said
+        ensures says { SaysOfLeft seen.new change result }
+        ensures moves { Moves seen.old seen.new }
     {
         match change {
-            Change::Release => self.released_of_left(name),
-            Change::Leave | Change::Drain | Change::SetLimits(_) => unknown_collector(),
+            Change::Release => self.released_of_left(seen, name),
+            Change::Leave => nobody(seen),
+            Change::Drain => nobody(seen),
+            Change::SetLimits(limits) => {
+                drop(limits);
+                nobody(seen)
+            }
         }
     }
 
-    fn released_of_left(&self, name: &str) -> Entry
-        ensures { Leads (SaysOfLeft N.opening Release) result }
+    fn released_of_left(&self, seen: &mut Seen<N>, name: &str) -> Said
+        ensures says { SaysOfLeft seen.new Release result }
+        ensures moves { Moves seen.old seen.new }
     {
         match self.left_number(name) {
-            Some(id) => self.entered(Change::Release.event(id)),
-            None => unknown_collector(),
+            Some(id) => self.entered(seen, Change::Release.event(id)),
+            None => nobody(seen),
         }
     }
 
@@ -304,17 +344,17 @@ impl<R: Wait + Clock + Copy, L: Ledger, B: Ledger, N: DeskName> Handler<R, L, B,
         Some(known.1)
     }
 
-    fn entered(&self, event: Event) -> Entry
-        ensures { Leads (SaysEvent N.opening event) result }
+    fn entered(&self, seen: &mut Seen<N>, event: Event) -> Said
+        ensures says { SaysEvent seen.new event result }
+        ensures moves { Moves seen.old seen.new }
     {
         let change = self.change_of(&event);
-        match self.submitted(event) {
+        match self.submitted(seen, event) {
             Ok(receipt) => {
                 self.note_change(change, &receipt.answer);
-                let rests = receipt.position.saturating_add(1);
-                self.once_kept(rests, Said::Answer(receipt.answer))
+                Said::Answer(receipt.answer)
             }
-            Err(error) => Entry::Now(Said::Refused(error)),
+            Err(error) => Said::Refused(error),
         }
     }
 
@@ -354,41 +394,63 @@ impl<R: Wait + Clock + Copy, L: Ledger, B: Ledger, N: DeskName> Handler<R, L, B,
         }
     }
 
-    fn shown(&self, ask: &Ask) -> Entry
-        ensures { Leads (SaysPage N.opening (arc_value self.now.pages) ask.now) result }
+    fn shown(&self, seen: &mut Seen<N>, ask: &Ask) -> Said
+        ensures says { SaysPage seen.new (arc_value self.now.pages) ask.now result }
+        ensures moves { Moves seen.old seen.new }
     {
         match ask {
-            Ask::Reload => self.reload(),
-            Ask::CollectorTargets { job, name, takes } => self.collector(job, name, *takes),
-            _ => Entry::Now(self.page(ask)),
+            Ask::CollectorTargets { job, name, takes } => self.collector(seen, job, name, *takes),
+            Ask::Reload => {
+                seen.now();
+                Said::Refused(RequestError::Memory)
+            }
+            _ => self.page(seen, ask),
         }
     }
 
     /// What is told at once.
-    fn page(&self, ask: &Ask) -> Said
-        ensures { IsAtOnce ask.now → SaysPage N.opening (arc_value self.now.pages) ask.now result }
+    fn page(&self, seen: &mut Seen<N>, ask: &Ask) -> Said
+        ensures says { IsAtOnce ask.now → SaysPage seen.new (arc_value self.now.pages) ask.now result }
+        ensures moves { Moves seen.old seen.new }
+    {
+        match ask {
+            Ask::Books(round) => self.books(seen, *round),
+            Ask::Certificate => self.certificate(seen),
+            Ask::Uncovered(job) => self.uncovered(seen, job.as_str()),
+            Ask::JobTargets(job) => self.job(seen, job.as_str()),
+            Ask::Collector(which) => self.one_collector(seen, which),
+            _ => {
+                seen.now();
+                self.plain_page(ask)
+            }
+        }
+    }
+
+    /// What is told at once, and not of what the desk has.
+    fn plain_page(&self, ask: &Ask) -> Said
+        ensures { IsPlain ask.now → (span : Span) → SaysPage span (arc_value self.now.pages) ask.now result }
     {
         match ask {
             Ask::ScrapeConfigs { rules: true } => copied(&self.pages.as_read),
             Ask::ScrapeConfigs { rules: false } => copied(&self.pages.scrape_configs),
             Ask::Jobs => copied(&self.pages.jobs),
             Ask::Allocations => self.allocations(),
-            Ask::Books(round) => self.books(*round),
-            Ask::Certificate => self.certificate(),
             Ask::Healthy => Said::Notice(Notice::Healthy),
             Ask::Live => self.live(),
             Ask::Ready => self.ready(),
             Ask::Metrics => self.metrics(),
             Ask::Quit => self.quit(),
             Ask::Status => self.status(),
-            Ask::Uncovered(job) => self.uncovered(job.as_str()),
             Ask::FindTargets(text) => self.found(text.as_str()),
             Ask::Job(job) => self.one_job(job.as_str()),
-            Ask::JobTargets(job) => self.job(job.as_str()),
             Ask::Acknowledged { told, counts } => self.acknowledged(told, *counts),
             Ask::Collectors => self.collectors(),
-            Ask::Collector(which) => self.one_collector(which),
-            Ask::Reload
+            Ask::Books(_)
+            | Ask::Certificate
+            | Ask::Uncovered(_)
+            | Ask::JobTargets(_)
+            | Ask::Collector(_)
+            | Ask::Reload
             | Ask::CollectorTargets { .. }
             | Ask::Join
             | Ask::Leave(_)
@@ -417,8 +479,8 @@ impl<R: Wait + Clock + Copy, L: Ledger, B: Ledger, N: DeskName> Handler<R, L, B,
         Said::Notice(Notice::NotReady)
     }
 
-    fn reload(&self) -> Entry
-        ensures { Leads SaysReload result }
+    fn reload(&self) -> Entry<N>
+        ensures { Leads N.keeps SaysReload result }
     {
         if !self.state.may_reload() {
             return Entry::Now(Said::Notice(Notice::NoLifecycle));
@@ -515,81 +577,110 @@ impl<R: Wait + Clock + Copy, L: Ledger, B: Ledger, N: DeskName> Handler<R, L, B,
         )
     }
 
-    fn certificate(&self) -> Said
-        ensures { SaysText N.opening certificate_text result }
+    fn certificate(&self, seen: &mut Seen<N>) -> Said
+        ensures says { SaysText seen.new certificate_text result }
+        ensures moves { Moves seen.old seen.new }
     {
-        match self.certificate_text() {
+        match self.certificate_text(seen) {
             Ok(text) => Said::Page(text),
             Err(_) => Said::Refused(RequestError::Memory),
         }
     }
 
-    fn certificate_text(&self) -> Result<Text, AllocError>
-        ensures { IfOk result (λ t. OfSome N.opening (λ h. t ≡ certificate_text h)) }
+    fn certificate_text(&self, seen: &mut Seen<N>) -> Result<Text, AllocError>
+        ensures text { IfOk result (λ t. t ≡ certificate_text (now_of seen.new)) }
+        ensures moves { Moves seen.old seen.new }
     {
-        let (instance, plan) = self.published()?;
+        let (instance, plan) = self.published(seen)?;
         certificate_page(self.alloc, &instance, &plan)
     }
 
-    fn published(&self) -> Result<(Instance, Plan), AllocError>
-        ensures { IfOk result (λ c. OfSome N.opening (λ h. (c.0 ≡ h.state.problem) × (c.1 ≡ h.state.plan))) }
+    fn published(&self, seen: &mut Seen<N>) -> Result<(Instance, Plan), AllocError>
+        ensures read { IfOk result (λ c. (c.0 ≡ (now_of seen.new).state.problem) × (c.1 ≡ (now_of seen.new).state.plan)) }
+        ensures moves { Moves seen.old seen.new }
     {
         let mut pass = self.pass.lock(&self.rt);
-        self.desk.certificate(&self.rt, &mut *pass)
+        seen.latest.certificate(&self.rt, &self.desk, &mut *pass)
     }
 
-    fn job(&self, job: &str) -> Said
-        ensures { SaysJob N.opening job.now (place_of job.now (arc_value self.now.pages).names) result }
+    fn job(&self, seen: &mut Seen<N>, job: &str) -> Said
+        ensures says { SaysJob seen.new job.now (place_of job.now (arc_value self.now.pages).names) result }
+        ensures moves { Moves seen.old seen.new }
     {
-        let Some(place) = self.pages.place(job) else {
-            return Said::Answer(Answer::Not(Refusal::UnknownJob));
-        };
-        match self.job_text(job, place) {
+        match self.pages.place(job) {
+            Some(place) => self.job_at(seen, job, place),
+            None => {
+                seen.now();
+                Said::Answer(Answer::Not(Refusal::UnknownJob))
+            }
+        }
+    }
+
+    fn job_at(&self, seen: &mut Seen<N>, job: &str, place: usize) -> Said
+        ensures says { SaysText seen.new (job_text job.now place) result }
+        ensures moves { Moves seen.old seen.new }
+    {
+        match self.job_text(seen, job, place) {
             Ok(text) => Said::Page(text),
             Err(_) => Said::Refused(RequestError::Memory),
         }
     }
 
-    fn job_text(&self, job: &str, place: usize) -> Result<Text, AllocError>
-        ensures { IfOk result (λ t. OfSome N.opening (λ h. t ≡ job_text job.now place h)) }
+    fn job_text(&self, seen: &mut Seen<N>, job: &str, place: usize) -> Result<Text, AllocError>
+        ensures text { IfOk result (λ t. t ≡ job_text job.now place (now_of seen.new)) }
+        ensures moves { Moves seen.old seen.new }
     {
-        let shares = self.shares(place)?;
+        let shares = self.shares(seen, place)?;
         job_page(self.alloc, job, shares.as_slice())
     }
 
-    fn shares(&self, place: usize) -> Result<List<Share>, AllocError>
-        ensures { IfOk result (λ l. OfSome N.opening (λ h. l ≡ shares_of h.state place)) }
+    fn shares(&self, seen: &mut Seen<N>, place: usize) -> Result<List<Share>, AllocError>
+        ensures read { IfOk result (λ l. l ≡ shares_of (now_of seen.new).state place) }
+        ensures moves { Moves seen.old seen.new }
     {
         let mut pass = self.pass.lock(&self.rt);
-        self.desk.shares(&self.rt, self.alloc, &mut *pass, place)
+        seen.latest
+            .shares(&self.rt, &self.desk, &mut *pass, self.alloc, place)
     }
 
-    fn uncovered(&self, job: &str) -> Said
-        ensures { SaysUncovered (place_of job.now (arc_value self.now.pages).names) result }
+    fn uncovered(&self, seen: &mut Seen<N>, job: &str) -> Said
+        ensures says { SaysUncovered (place_of job.now (arc_value self.now.pages).names) result }
+        ensures moves { Moves seen.old seen.new }
     {
         let Some(place) = self.pages.place(job) else {
+            seen.now();
             return Said::Answer(Answer::Not(Refusal::UnknownJob));
         };
-        match self.uncovered_text(place) {
+        match self.uncovered_text(seen, place) {
             Ok(text) => Said::Page(text),
             Err(_) => Said::Refused(RequestError::Memory),
         }
     }
 
-    fn uncovered_text(&self, place: usize) -> Result<Text, AllocError>
-        ensures { IfOk result IsUncoveredText }
+    #[tactic(auto, using(crate::proofs::SpanLemmas::moves_trans))]
+    fn uncovered_text(&self, seen: &mut Seen<N>, place: usize) -> Result<Text, AllocError>
+        ensures text { IfOk result IsUncoveredText }
+        ensures moves { Moves seen.old seen.new }
     {
-        let uncovered = self.uncovered_at(place)?;
-        let text = self.uncovered_text_of(place, &uncovered);
+        let uncovered = self.uncovered_at(seen, place)?;
+        let text = self.uncovered_text_of(seen, place, &uncovered);
         drop(uncovered);
         text
     }
 
-    fn uncovered_text_of(&self, place: usize, uncovered: &Uncovered) -> Result<Text, AllocError>
-        ensures { IfOk result IsUncoveredText }
+    #[tactic(auto, using(crate::proofs::SpanLemmas::moves_trans))]
+    fn uncovered_text_of(
+        &self,
+        seen: &mut Seen<N>,
+        place: usize,
+        uncovered: &Uncovered,
+    ) -> Result<Text, AllocError>
+        ensures text { IfOk result IsUncoveredText }
+        ensures moves { Moves seen.old seen.new }
     {
-        let full = self.numbered(place, uncovered.full.as_slice())?;
+        let full = self.numbered(seen, place, uncovered.full.as_slice())?;
         let (waiting, unreached) = match self.numbered_both(
+            seen,
             place,
             uncovered.handing_over.as_slice(),
             uncovered.unreached.as_slice(),
@@ -610,14 +701,18 @@ impl<R: Wait + Clock + Copy, L: Ledger, B: Ledger, N: DeskName> Handler<R, L, B,
         text
     }
 
+    #[tactic(auto, using(crate::proofs::SpanLemmas::moves_trans))]
     fn numbered_both(
         &self,
+        seen: &mut Seen<N>,
         place: usize,
         some: &[TargetId],
         others: &[TargetId],
-    ) -> Result<(List<NumberedTarget>, List<NumberedTarget>), AllocError> {
-        let some = self.numbered(place, some)?;
-        match self.numbered(place, others) {
+    ) -> Result<(List<NumberedTarget>, List<NumberedTarget>), AllocError>
+        ensures moves { Moves seen.old seen.new }
+    {
+        let some = self.numbered(seen, place, some)?;
+        match self.numbered(seen, place, others) {
             Ok(others) => Ok((some, others)),
             Err(error) => {
                 drop(some);
@@ -626,26 +721,35 @@ impl<R: Wait + Clock + Copy, L: Ledger, B: Ledger, N: DeskName> Handler<R, L, B,
         }
     }
 
-    fn uncovered_at(&self, place: usize) -> Result<Uncovered, AllocError> {
+    fn uncovered_at(&self, seen: &mut Seen<N>, place: usize) -> Result<Uncovered, AllocError>
+        ensures moves { Moves seen.old seen.new }
+    {
         let mut pass = self.pass.lock(&self.rt);
-        self.desk.read(
+        seen.latest.read(
             &self.rt,
+            &self.desk,
             &mut *pass,
             |record| uncovered_of(self.alloc, record.core(), place),
         )
     }
 
     /// The receipt of an event that was entered.
-    pub(crate) fn submitted(&self, event: Event) -> Result<Receipt, RequestError>
-        ensures receipt { IfOk result (IsEntered N.opening event) }
-        ensures not { IfErr result (SaysNot N.opening) }
+    pub(crate) fn submitted(
+        &self,
+        seen: &mut Seen<N>,
+        event: Event,
+    ) -> Result<Receipt, RequestError>
+        ensures receipt { IfOk result (IsEntered (between seen.old seen.new) event) }
+        ensures not { IfErr result (SaysNot seen.new) }
+        ensures moves { Moves seen.old seen.new }
     {
         if self.is_broken() {
             drop(event);
+            seen.now();
             return Err(RequestError::NotKept);
         }
         let kind = EventKind::of(&event);
-        match self.entered_now(event) {
+        match self.entered_now(seen, event) {
             Ok(receipt) => {
                 self.state.count_event(&self.rt, kind, &receipt.answer);
                 Ok(receipt)
@@ -662,34 +766,64 @@ impl<R: Wait + Clock + Copy, L: Ledger, B: Ledger, N: DeskName> Handler<R, L, B,
         }
     }
 
-    /// What is said once so many entries of the journal are kept, where they are to be.
-    pub(crate) fn once_kept(&self, entries: u64, said: Said) -> Entry
-        ensures { Leads (OnceKept said) result }
+    /// It is said at once, or, where it is of the journal, once all that was seen of that is kept.
+    pub(crate) fn once_kept(&self, seen: &Seen<N>, said: Said) -> Entry<N>
+        ensures { Leads N.keeps (Comes self.now.kept N.keeps seen.now said) result }
     {
-        let (Some(kept), Some(position)) = (&self.kept, entries.checked_sub(1)) else {
+        if !is_of_journal(&said) {
             return Entry::Now(said);
-        };
-        match kept.ask(&self.rt, position) {
-            Ok(Asked::Known(true)) => Entry::Now(said),
-            Ok(Asked::Told(told)) => self.later(told, said),
-            _ => Entry::Now(Said::Refused(RequestError::NotKept)),
+        }
+        match &self.kept {
+            Some(kept) => self.once_kept_by(kept, seen.now(), said),
+            None => Entry::Now(said),
         }
     }
 
-    fn later(&self, told: Receiver<bool>, said: Said) -> Entry
-        ensures { Leads (OnceKept said) result }
+    /// It is said once all that a front has seen is kept.
+    fn once_kept_by(&self, kept: &Kept<N>, front: &Front<N>, said: Said) -> Entry<N>
+        ensures { Leads N.keeps (WaitsFor N.keeps front.now said) result }
+    {
+        match kept.ask(&self.rt, front) {
+            Ok(Asked::Known(durable)) => self.once_known(durable, front, said),
+            Ok(Asked::Told(told)) => self.later(told, front, said),
+            Err(error) => {
+                drop((error, said));
+                not_kept()
+            }
+        }
+    }
+
+    /// It is said where this is kept, and has all that a front has seen.
+    fn once_known(&self, durable: Option<Durable<N>>, front: &Front<N>, said: Said) -> Entry<N>
+        ensures { Leads N.keeps (WaitsFor N.keeps front.now said) result }
+    {
+        if has(&durable, front) {
+            drop(durable);
+            Entry::Now(said)
+        } else {
+            drop((durable, said));
+            not_kept()
+        }
+    }
+
+    fn later(&self, told: Receiver<Durable<N>>, front: &Front<N>, said: Said) -> Entry<N>
+        ensures { Leads N.keeps (WaitsFor N.keeps front.now said) result }
     {
         match self.waiting(told) {
             Some(told) => Entry::Later(Later {
                 said: Some(said),
+                front: front.again(),
                 told,
             }),
-            None => Entry::Now(Said::Refused(RequestError::NotKept)),
+            None => {
+                drop(said);
+                not_kept()
+            }
         }
     }
 
     /// What waits for it, where there are timers, and for how long at most.
-    fn waiting(&self, told: Receiver<bool>) -> Option<Timeout<Receiver<bool>>> {
+    fn waiting(&self, told: Receiver<Durable<N>>) -> Option<Timeout<Receiver<Durable<N>>>> {
         let longest = Duration::from_millis(LONGEST_WAIT_MILLIS);
         match &self.time {
             Some(time) => time.timeout(&self.rt, longest, told).ok(),
@@ -697,12 +831,13 @@ impl<R: Wait + Clock + Copy, L: Ledger, B: Ledger, N: DeskName> Handler<R, L, B,
         }
     }
 
-    fn entered_now(&self, event: Event) -> Result<Receipt, RequestError>
-        ensures receipt { IfOk result (IsEntered N.opening event) }
-        ensures not { IfErr result (SaysNot N.opening) }
+    fn entered_now(&self, seen: &mut Seen<N>, event: Event) -> Result<Receipt, RequestError>
+        ensures receipt { IfOk result (IsEntered (between seen.old seen.new) event) }
+        ensures not { IfErr result (SaysNot seen.new) }
+        ensures moves { Moves seen.old seen.new }
     {
         let mut pass = self.pass.lock(&self.rt);
-        match self.desk.submit(&self.rt, &mut *pass, event) {
+        match seen.latest.submit(&self.rt, &self.desk, &mut *pass, event) {
             Ok(receipt) => Ok(receipt),
             Err(EnterError::JournalFull) => Err(RequestError::JournalFull),
             Err(EnterError::Memory) => Err(RequestError::Memory),
@@ -710,10 +845,35 @@ impl<R: Wait + Clock + Copy, L: Ledger, B: Ledger, N: DeskName> Handler<R, L, B,
     }
 }
 
-fn unknown_collector() -> Entry
-    ensures { Leads (λ said. said ≡ Answered (Not UnknownCollector)) result }
+fn nobody<N: JournalName>(seen: &mut Seen<N>) -> Said
+    ensures says { result ≡ Answered (Not UnknownCollector) }
+    ensures moves { Moves seen.old seen.new }
 {
-    Entry::Now(Said::Answer(Answer::Not(Refusal::UnknownCollector)))
+    seen.now();
+    Said::Answer(Answer::Not(Refusal::UnknownCollector))
+}
+
+fn not_kept<N: JournalName>() -> Entry<N>
+    ensures { Leads N.keeps (λ said. said ≡ Refused NotKept) result }
+{
+    Entry::Now(Said::Refused(RequestError::NotKept))
+}
+
+/// Whether what is said is an answer of the journal, or a list of it.
+fn is_of_journal(said: &Said) -> bool
+    ensures { result ≡ is_of_journal said.now }
+{
+    match said {
+        Said::Answer(_) | Said::Answers { .. } | Said::List { .. } => true,
+        Said::Page(_)
+        | Said::Refused(_)
+        | Said::Misshapen(_)
+        | Said::Notice(_)
+        | Said::Metrics(_)
+        | Said::Document(_)
+        | Said::Reloaded(_)
+        | Said::NotReloaded(_) => false,
+    }
 }
 
 fn copied(text: &Text) -> Said

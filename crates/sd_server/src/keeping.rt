@@ -15,8 +15,6 @@ use std::alloc::{AllocError, Global};
 /// What a collector's last list of a job keeps, which another collector waits for.
 #[derive(Debug, Drop)]
 pub(crate) struct Keeping {
-    /// How many entries of the journal it rests on.
-    pub(crate) entries: u64,
     pub(crate) look: Look,
     /// The targets that the list is to let go, in order of number: other collectors hold them.
     pub(crate) goes: List<TargetId>,
@@ -39,7 +37,6 @@ pub(crate) fn kept_at(
     let held = core.held(id)?;
     let look = look_at_kept(alloc, core, place, id, held.as_slice())?;
     Ok(Some(Keeping {
-        entries: record.journal().len() as u64,
         look,
         goes: List::from_vec(goes),
     }))

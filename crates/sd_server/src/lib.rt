@@ -1,8 +1,8 @@
 //! The HTTP server of a desk: it reads a request, asks the desk and writes the answer. `sd_routes` says what requests ask for and
 //! how answers are written.
 //!
-//! Contracts say of a reply that what it writes is the written form of what the desk told, of some history that is legal from its
-//! opening state. Of connections, time and order they say nothing.
+//! Contracts say of a reply that what it writes is the written form of what the desk told, of the one journal that comes out of it. Of
+//! connections and time they say nothing.
 #![tactic(auto)]
 
 mod accept;
@@ -22,6 +22,7 @@ mod found_state;
 mod handler;
 mod job_state;
 mod keeping;
+mod laws;
 mod list_text;
 mod list_texts;
 mod look;
@@ -29,6 +30,7 @@ mod manner;
 mod one_by_one;
 mod reply;
 mod reported;
+mod seen;
 mod service;
 mod shown;
 mod spoken;
@@ -40,7 +42,9 @@ mod yaml;
 pub use by_loops::{DEFAULT_LOOPS, serve_by_loops};
 pub use entry::Entry;
 pub use handler::Handler;
+pub use laws::lists_are_of_one_moment;
 pub use list_texts::ListTexts;
 pub use one_by_one::serve_one_by_one;
 pub use reply::Reply;
+pub use seen::Seen;
 pub use service::AllocatorService;

@@ -1,9 +1,10 @@
 //! The texts of the lists that collectors took, kept for the next time that they ask.
-ghost use Rattle.std.specs.Prelude.{IfOk};
-ghost use Rattle.sd_server.specs.Listing.{IfGroups, IsGroups};
+ghost use Rattle.std.specs.Prelude.{◌≡◌, IfOk};
+ghost use Rattle.sd_server.specs.Listing.{IfGroups};
+ghost use Rattle.sd_server.specs.Spans.{Span};
 
 use crate::list_text::ListText;
-use alloc_desk::DeskName;
+use alloc_desk::{DeskName, Front};
 use bytes::Bytes;
 use entity_tags::KnownTags;
 use fleet_events::{AllocationNumber, CollectorId, TargetId};
@@ -37,18 +38,19 @@ impl<N: DeskName> ListTexts<N> {
         }
     }
 
-    /// The text of what a collector holds of a job, where it is kept.
+    /// The text of what a collector holds of a job, where it is kept, and of what the front has seen.
     pub(crate) fn text(
         &self,
         rt: &impl Wait,
+        front: &Front<N>,
         collector: CollectorId,
         place: usize,
         held: &[TargetId],
     ) -> Result<Option<Bytes>, AllocError>
-        ensures { IfOk result (IfGroups N.opening place held.now) }
+        ensures { IfOk result (λ found. (span : Span) → span.opening ≡ N.opening → span.after ≡ front.now → IfGroups span place held.now found) }
     {
         match self.kept_text(rt, collector, place)? {
-            Some(text) => text.text(place, held),
+            Some(text) => text.text(front, place, held),
             None => Ok(None),
         }
     }

@@ -1,8 +1,8 @@
 //! The server of tests and of a session: one connection after the other on the calling thread, each for one request.
 use crate::handler::Handler;
-use crate::service::AllocatorService;
-use alloc_desk::DeskName;
+use crate::service::{AllocatorService, shared_routes};
 use hyper::server::conn::http1;
+use kept_journal::JournalName;
 use sd_routes::Routes;
 use std::alloc::AllocGlobal;
 use std::hash::RandomState;
@@ -20,7 +20,7 @@ use tokio::runtime::LocalRuntime;
 const LONGEST_SECONDS: u64 = 5;
 
 /// Serves one connection after the other, each for one request, until the flag is set and one more connection came.
-pub fn serve_one_by_one<R, L: Ledger, B: Ledger, N: DeskName>(
+pub fn serve_one_by_one<R, L: Ledger, B: Ledger, N: JournalName>(
     rt: &R,
     runtime: &mut LocalRuntime,
     mut listener: TcpListener,
@@ -32,11 +32,11 @@ where
 {
     let mut http = http1::Builder::new(rt.alloc(), RandomState::new(rt)?);
     http.keep_alive(false);
-    let routes = Arc::new(rt.alloc(), Routes::open(rt.alloc())?)?;
+    let routes = shared_routes(rt.alloc())?;
     serve_each(rt, runtime, &mut listener, &http, handler, &routes, stop)
 }
 
-fn serve_each<R, L: Ledger, B: Ledger, N: DeskName>(
+fn serve_each<R, L: Ledger, B: Ledger, N: JournalName>(
     rt: &R,
     runtime: &mut LocalRuntime,
     listener: &mut TcpListener,
@@ -58,7 +58,7 @@ where
     unreachable!()
 }
 
-fn serve_one<R, L: Ledger, B: Ledger, N: DeskName>(
+fn serve_one<R, L: Ledger, B: Ledger, N: JournalName>(
     rt: &R,
     runtime: &mut LocalRuntime,
     http: &http1::Builder,

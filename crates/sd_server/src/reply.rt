@@ -2,19 +2,20 @@
 ghost use Rattle.std.specs.Prelude.{◌≡◌, ◌⊎◌, IfOk};
 ghost use Rattle.std.specs.Arc.{arc_value};
 ghost use Rattle.sd_routes.specs.declared.request_error.RequestError.TheVariants.{Shape, Memory};
-ghost use Rattle.sd_routes.specs.declared.responding.Said.{Said};
 ghost use Rattle.sd_routes.specs.declared.responding.Said.TheVariants.{Refused};
-ghost use Rattle.sd_server.specs.Entries.{Leads, MaySayEntry};
-ghost use Rattle.sd_server.specs.Replies.{CanRead, Gives, MaySay, SaysRead};
+ghost use Rattle.sd_server.specs.Entries.{Leads, OnceKept};
+ghost use Rattle.sd_server.specs.Replies.{CanRead, Gives, Reads, SaysRead};
+ghost use Rattle.sd_server.specs.Spans.{Moves};
+ghost use Rattle.sd_server.specs.declared.reply.Stage.TheVariants as stage;
 ghost use Rattle.sd_server.specs.Writing.{Writes};
 
 use crate::counter::Counter;
 use crate::entry::Entry;
 use crate::handler::Handler;
 use crate::manner::Manner;
+use crate::seen::Seen;
 use crate::tags::Tags;
 use admission::LONGEST_BODY;
-use alloc_desk::DeskName;
 use bytes::Bytes;
 use futures::task::{Context, Poll};
 use futures::{Future, ready};
@@ -22,6 +23,7 @@ use http::Response;
 use http_body_util::combinators::Collect;
 use http_body_util::{BodyExt, Collected, Full, Limited, LimitedError};
 use hyper::body::Incoming;
+use kept_journal::JournalName;
 use sd_routes::{Ask, RequestError, Said};
 use service_state::Route;
 use std::alloc::{AllocError, Global};
@@ -31,8 +33,10 @@ use std::time::Clock;
 
 /// The response to a request, once its body has come and what it rests on is kept.
 #[derive(Drop)]
-pub struct Reply<R, L: Ledger, B: Ledger, N: DeskName, I> {
+pub struct Reply<R, L: Ledger, B: Ledger, N: JournalName, I> {
     alloc: Global,
+    /// What has been seen of the journal. What is said is of it.
+    seen: Seen<N>,
     stage: Stage<R, L, B, N, I>,
     manner: Manner,
     /// What counts the request once it is answered.
@@ -42,33 +46,36 @@ pub struct Reply<R, L: Ledger, B: Ledger, N: DeskName, I> {
 }
 
 #[derive(Drop)]
-enum Stage<R, L: Ledger, B: Ledger, N: DeskName, I> {
-    Told(Entry),
+enum Stage<R, L: Ledger, B: Ledger, N: JournalName, I> {
+    Told(Entry<N>),
     Reading(Reading<R, L, B, N, I>),
 }
 
 /// A request whose body comes.
 #[derive(Drop)]
-struct Reading<R, L: Ledger, B: Ledger, N: DeskName, I> {
+struct Reading<R, L: Ledger, B: Ledger, N: JournalName, I> {
     handler: Handler<R, L, B, N>,
     ask: Ask,
     body: Collect<Limited<Incoming<I>>>,
 }
 
-impl<R, L: Ledger, B: Ledger, N: DeskName, I: Drop> Reply<R, L, B, N, I> {
+impl<R, L: Ledger, B: Ledger, N: JournalName, I: Drop> Reply<R, L, B, N, I> {
     /// A reply to a request whose body is not read.
     pub(crate) fn of(
         alloc: Global,
         counter: Option<Counter<R>>,
         tags: Option<Tags<R, N>>,
-        entry: Entry,
+        seen: Seen<N>,
+        entry: Entry<N>,
         manner: Manner,
     ) -> Reply<R, L, B, N, I>
         ensures can_read { CanRead result }
-        ensures says { (said : Said) → MaySay result.stage said → MaySayEntry entry said }
+        ensures stage { result.stage ≡ stage.Told entry }
+        ensures seen { result.seen ≡ seen }
     {
         Reply {
             alloc,
+            seen,
             stage: Stage::Told(entry),
             manner,
             counter,
@@ -77,21 +84,24 @@ impl<R, L: Ledger, B: Ledger, N: DeskName, I: Drop> Reply<R, L, B, N, I> {
     }
 }
 
-impl<R: Wait + Clock + Copy, L: Ledger, B: Ledger, N: DeskName, I: Drop> Reply<R, L, B, N, I> {
+impl<R: Wait + Clock + Copy, L: Ledger, B: Ledger, N: JournalName, I: Drop> Reply<R, L, B, N, I> {
     /// A reply to a request with this body.
     pub(crate) fn to(
         handler: Handler<R, L, B, N>,
+        seen: Seen<N>,
         ask: Ask,
         body: Incoming<I>,
     ) -> Reply<R, L, B, N, I>
         ensures can_read { CanRead result }
-        ensures says { (said : Said) → MaySay result.stage said → SaysRead N.opening (arc_value handler.pages) ask said }
+        ensures stage { Reads handler.kept (arc_value handler.pages) ask result.stage }
+        ensures seen { result.seen ≡ seen }
     {
         let alloc = handler.alloc;
         let counter = handler.counter(Route::of(Some(&ask)), handler.now());
         let body = Limited::new(body, LONGEST_BODY as usize).collect(alloc);
         Reply {
             alloc,
+            seen,
             stage: Stage::Reading(Reading { handler, ask, body }),
             manner: Manner::plain(false),
             counter,
@@ -116,25 +126,47 @@ impl<R: Wait + Clock + Copy, L: Ledger, B: Ledger, N: DeskName, I: Drop> Reply<R
     }
 }
 
-impl<R: Wait + Clock + Copy, L: Ledger, B: Ledger, N: DeskName, I: Drop> Reading<R, L, B, N, I> {
+impl<R: Wait + Clock + Copy, L: Ledger, B: Ledger, N: JournalName, I: Drop> Reading<R, L, B, N, I> {
     /// What is said once the body has come, or what that waits for.
-    fn entry(&self, read: Result<Collected, LimitedError<hyper::Error>>) -> Entry
-        ensures { Leads (SaysRead N.opening (arc_value self.now.handler.pages) self.now.ask) result }
+    fn entry(
+        &self,
+        seen: &mut Seen<N>,
+        read: Result<Collected, LimitedError<hyper::Error>>,
+    ) -> Entry<N>
+        ensures says { Leads N.keeps (SaysRead seen.new (arc_value self.now.handler.pages) self.now.ask) result }
+        ensures kept { Leads N.keeps (OnceKept self.now.handler.kept N.keeps seen.new) result }
+        ensures moves { Moves seen.old seen.new }
     {
-        let collected = match read {
-            Ok(collected) => collected,
-            Err(LimitedError::LengthLimit) => return refused(RequestError::TooLong),
-            Err(LimitedError::Body(error)) => return refused(unread(&error)),
-        };
+        match read {
+            Ok(collected) => self.entry_of(seen, collected),
+            Err(LimitedError::LengthLimit) => {
+                seen.now();
+                refused(RequestError::TooLong)
+            }
+            Err(LimitedError::Body(error)) => {
+                seen.now();
+                refused(unread(&error))
+            }
+        }
+    }
+
+    fn entry_of(&self, seen: &mut Seen<N>, collected: Collected) -> Entry<N>
+        ensures says { Leads N.keeps (SaysRead seen.new (arc_value self.now.handler.pages) self.now.ask) result }
+        ensures kept { Leads N.keeps (OnceKept self.now.handler.kept N.keeps seen.new) result }
+        ensures moves { Moves seen.old seen.new }
+    {
         match collected.to_bytes() {
-            Ok(bytes) => self.handler.entry(&self.ask, bytes.as_slice()),
-            Err(_) => refused(RequestError::Memory),
+            Ok(bytes) => self.handler.entry(seen, &self.ask, bytes.as_slice()),
+            Err(_) => {
+                seen.now();
+                refused(RequestError::Memory)
+            }
         }
     }
 }
 
-fn refused(error: RequestError) -> Entry
-    ensures { Leads (λ said. said ≡ Refused error) result }
+fn refused<N: JournalName>(error: RequestError) -> Entry<N>
+    ensures { Leads N.keeps (λ said. said ≡ Refused error) result }
 {
     Entry::Now(Said::Refused(error))
 }
@@ -150,13 +182,13 @@ fn unread(error: &hyper::Error) -> RequestError
     }
 }
 
-impl<R: Wait + Clock + Copy + Drop, L: Ledger, B: Ledger, N: DeskName, I: Drop> Future
+impl<R: Wait + Clock + Copy + Drop, L: Ledger, B: Ledger, N: JournalName, I: Drop> Future
     for Reply<R, L, B, N, I> {
     type Output = Result<Response<Full<Bytes>>, AllocError>;
 
     ghost can_poll = { CanRead };
 
-    ghost gives = { Gives };
+    ghost gives = { Gives N.keeps };
 
     fn poll(&mut self, cx: &mut Context<'_>) -> Poll<Result<Response<Full<Bytes>>, AllocError>> {
         match &mut self.stage {
@@ -166,7 +198,7 @@ impl<R: Wait + Clock + Copy + Drop, L: Ledger, B: Ledger, N: DeskName, I: Drop> 
             }
             Stage::Reading(reading) => {
                 let read = ready!(reading.body.poll(cx));
-                let entry = reading.entry(read);
+                let entry = reading.entry(&mut self.seen, read);
                 drop(std::mem::replace(&mut self.stage, Stage::Told(entry)));
                 cx.yield_now()
             }

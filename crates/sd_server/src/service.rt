@@ -6,11 +6,13 @@ ghost use Rattle.http_uri.specs.Uri.{uri_path, uri_query};
 ghost use Rattle.sd_routes.specs.Asks.{asked};
 ghost use Rattle.admission.specs.Admission.{let_in};
 ghost use Rattle.sd_routes.specs.Gives.{Gives};
-ghost use Rattle.sd_server.specs.Entries.{Leads};
+ghost use Rattle.sd_server.specs.Entries.{Leads, OnceKept};
 ghost use Rattle.sd_server.specs.Says.{Says};
-ghost use Rattle.sd_server.specs.Replies.{Begins, BeginsWith, CanRead, IsReplyTo, MaySay};
+ghost use Rattle.sd_server.specs.Replies.{Begins, BeginsWith, CanRead, IsReplyTo};
+ghost use Rattle.sd_server.specs.Spans.{Moves};
 ghost use Rattle.sd_routes.specs.declared.request_error.RequestError.TheVariants.{Memory};
-ghost use Rattle.sd_routes.specs.declared.responding.Said.{Said};
+ghost use Rattle.sd_server.specs.declared.entry.Entry.TheVariants as entry;
+ghost use Rattle.sd_server.specs.declared.reply.Stage.TheVariants as stage;
 ghost use Rattle.sd_routes.specs.declared.responding.Said.TheVariants.{Refused};
 
 use crate::accept::wants_document;
@@ -18,16 +20,17 @@ use crate::entry::Entry;
 use crate::handler::Handler;
 use crate::manner::Manner;
 use crate::reply::Reply;
-use alloc_desk::DeskName;
+use crate::seen::Seen;
 use bytes::Bytes;
 use http::request::Parts;
 use http::{Request, Response};
 use http_body_util::Full;
 use hyper::body::Incoming;
 use hyper::service::Service;
+use kept_journal::JournalName;
 use sd_routes::{Ask, RequestError, Routes, Said, route};
 use service_state::Route;
-use std::alloc::AllocError;
+use std::alloc::{AllocError, Global};
 use std::net::SocketAddr;
 use std::sync::ledger::Ledger;
 use std::sync::{Arc, Wait};
@@ -35,7 +38,7 @@ use std::time::Clock;
 
 /// Answers requests with what a desk says.
 #[derive(Drop)]
-pub struct AllocatorService<R, L: Ledger, B: Ledger, N: DeskName> {
+pub struct AllocatorService<R, L: Ledger, B: Ledger, N: JournalName> {
     pub handler: Handler<R, L, B, N>,
     /// The table of paths.
     pub routes: Arc<Routes>,
@@ -43,12 +46,12 @@ pub struct AllocatorService<R, L: Ledger, B: Ledger, N: DeskName> {
 
 /// What a head comes to: something that is said, to a request of this route, or a body to be read.
 #[derive(Drop)]
-enum Begun {
-    Told(Entry, Route),
+enum Begun<N: JournalName> {
+    Told(Entry<N>, Route),
     Reads(Ask),
 }
 
-impl<R: Wait + Clock + Copy, L: Ledger, B: Ledger, N: DeskName> AllocatorService<R, L, B, N> {
+impl<R: Wait + Clock + Copy, L: Ledger, B: Ledger, N: JournalName> AllocatorService<R, L, B, N> {
     /// Another for the same desk, and for who asks.
     pub(crate) fn of(
         handler: &Handler<R, L, B, N>,
@@ -68,12 +71,16 @@ impl<R: Wait + Clock + Copy, L: Ledger, B: Ledger, N: DeskName> AllocatorService
         }
     }
 
-    fn begin(&self, head: &Parts) -> Begun
-        ensures { Begins N.opening (arc_value self.now.handler.pages) (let_in (arc_value self.now.handler.doors) head.now.headers (asked head.now.method (uri_path head.now.uri) (uri_query head.now.uri))) result }
+    fn begin(&self, seen: &mut Seen<N>, head: &Parts) -> Begun<N>
+        ensures moves { Moves seen.old seen.new }
+        ensures begins { Begins self.now.handler.kept N.keeps seen.new (arc_value self.now.handler.pages) (let_in (arc_value self.now.handler.doors) head.now.headers (asked head.now.method (uri_path head.now.uri) (uri_query head.now.uri))) result }
     {
         match self.came(head) {
-            Ok(ask) => self.begin_with(ask, wants_document(&head.headers)),
-            Err(error) => Begun::Told(Entry::Now(Said::Refused(error)), Route::of(None)),
+            Ok(ask) => self.begin_with(seen, ask, wants_document(&head.headers)),
+            Err(error) => {
+                seen.now();
+                Begun::Told(Entry::Now(Said::Refused(error)), Route::of(None))
+            }
         }
     }
 
@@ -95,38 +102,53 @@ impl<R: Wait + Clock + Copy, L: Ledger, B: Ledger, N: DeskName> AllocatorService
     }
 
     /// Of a request whose body is not read.
-    fn without_memory<I: Drop>(&self) -> Reply<R, L, B, N, I>
+    fn without_memory<I: Drop>(&self, seen: Seen<N>) -> Reply<R, L, B, N, I>
         ensures can_read { CanRead result }
-        ensures says { (said : Said) → MaySay result.stage said → said ≡ Refused Memory }
+        ensures stage { result.stage ≡ stage.Told (entry.Now (Refused Memory)) }
+        ensures seen { result.seen ≡ seen }
     {
         let entry = Entry::Now(Said::Refused(RequestError::Memory));
-        Reply::of(self.handler.alloc, None, None, entry, Manner::plain(true))
+        Reply::of(
+            self.handler.alloc,
+            None,
+            None,
+            seen,
+            entry,
+            Manner::plain(true),
+        )
     }
 
-    fn begin_with(&self, ask: Ask, for_people: bool) -> Begun
-        ensures { BeginsWith N.opening (arc_value self.now.handler.pages) ask result }
+    fn begin_with(&self, seen: &mut Seen<N>, ask: Ask, for_people: bool) -> Begun<N>
+        ensures begins { BeginsWith self.now.handler.kept N.keeps seen.new (arc_value self.now.handler.pages) ask result }
+        ensures moves { Moves seen.old seen.new }
     {
         match ask {
-            Ask::Join | Ask::Drain(_) | Ask::SetLimits(_) | Ask::Report => Begun::Reads(ask),
-            _ => Begun::Told(self.entry(&ask, for_people), Route::of(Some(&ask))),
+            Ask::Join | Ask::Drain(_) | Ask::SetLimits(_) | Ask::Report => {
+                seen.now();
+                Begun::Reads(ask)
+            }
+            _ => Begun::Told(self.entry(seen, &ask, for_people), Route::of(Some(&ask))),
         }
     }
 
     /// What a request without a body is told, or what that waits for: of what has a page for people, that page where it is asked for.
-    fn entry(&self, ask: &Ask, for_people: bool) -> Entry
-        ensures { Leads (Says N.opening (arc_value self.now.handler.pages) ask.now []) result }
+    #[tactic(auto, using(crate::proofs::SpanLemmas::moves_trans))]
+    fn entry(&self, seen: &mut Seen<N>, ask: &Ask, for_people: bool) -> Entry<N>
+        ensures says { Leads N.keeps (Says seen.new (arc_value self.now.handler.pages) ask.now []) result }
+        ensures kept { Leads N.keeps (OnceKept self.now.handler.kept N.keeps seen.new) result }
+        ensures moves { Moves seen.old seen.new }
     {
         if !for_people {
-            return self.handler.entry(ask, b"");
+            return self.handler.entry(seen, ask, b"");
         }
-        match self.handler.document(ask) {
-            Some(said) => Entry::Now(said),
-            None => self.handler.entry(ask, b""),
+        match self.handler.document(seen, ask) {
+            Some(said) => self.handler.once_kept(seen, said),
+            None => self.handler.entry(seen, ask, b""),
         }
     }
 }
 
-impl<R: Wait + Clock + Copy + Drop, L: Ledger, B: Ledger, N: DeskName, I: Drop> Service<
+impl<R: Wait + Clock + Copy + Drop, L: Ledger, B: Ledger, N: JournalName, I: Drop> Service<
     Request<Incoming<I>>,
 > for AllocatorService<R, L, B, N> {
     type Response = Response<Full<Bytes>>;
@@ -135,14 +157,15 @@ impl<R: Wait + Clock + Copy + Drop, L: Ledger, B: Ledger, N: DeskName, I: Drop> 
 
     type Future = Reply<R, L, B, N, I>;
 
-    ghost calls = { λ s req future. IsReplyTo N.opening (arc_value s.handler.pages)
+    ghost calls = { λ s req future. IsReplyTo N.opening N.keeps s.handler.kept (arc_value s.handler.pages)
         (let_in (arc_value s.handler.doors) (request.head_of req).headers
         (asked (request.head_of req).method (uri_path (request.head_of req).uri) (uri_query (request.head_of req).uri))) future };
 
     fn call(&self, req: Request<Incoming<I>>) -> Reply<R, L, B, N, I> {
         let begun = self.handler.now();
         let (head, body) = req.into_parts();
-        match self.begin(&head) {
+        let mut seen = self.handler.seen();
+        match self.begin(&mut seen, &head) {
             Begun::Told(entry, route) => {
                 let counter = self.handler.counter(route, begun);
                 let manner = Manner::of(&head.headers);
@@ -151,6 +174,7 @@ impl<R: Wait + Clock + Copy + Drop, L: Ledger, B: Ledger, N: DeskName, I: Drop> 
                     self.handler.alloc,
                     counter,
                     self.handler.tags(),
+                    seen,
                     entry,
                     manner,
                 )
@@ -158,13 +182,18 @@ impl<R: Wait + Clock + Copy + Drop, L: Ledger, B: Ledger, N: DeskName, I: Drop> 
             Begun::Reads(ask) => {
                 drop(head);
                 match self.handler.another() {
-                    Ok(handler) => Reply::to(handler, ask, body),
+                    Ok(handler) => Reply::to(handler, seen, ask, body),
                     Err(_) => {
                         drop((ask, body));
-                        self.without_memory()
+                        self.without_memory(seen)
                     }
                 }
             }
         }
     }
+}
+
+/// What a path means, for those who serve it.
+pub(crate) fn shared_routes(alloc: Global) -> Result<Arc<Routes>, AllocError> {
+    Ok(Arc::new(alloc, Routes::open(alloc)?)?)
 }

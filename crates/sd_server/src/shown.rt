@@ -1,15 +1,17 @@
 //! The pages of collectors, of targets that are searched for, and of the last allocations.
 ghost use Rattle.std.specs.Prelude.{◌≡◌, ◌≤◌, length, Some, IfOk, IfSome};
-ghost use Rattle.sd_server.specs.Says.{IsAllocationsText, IsCollectorText, IsCollectorsText, IsFoundText, OfSome, SaysAllocations, SaysCollectorPage, SaysCollectors, SaysFound, id_meant};
+ghost use Rattle.sd_server.specs.Says.{IsAllocationsText, IsCollectorText, IsCollectorsText, IsFoundText, SaysAllocations, SaysCollectorPage, SaysCollectors, SaysFound, id_meant};
+ghost use Rattle.sd_server.specs.Spans.{Moves, now_of};
 ghost use Rattle.sd_server.specs.declared.found.TheConstants.{MOST_FOUND};
 
 use crate::allocation_rows::allocations_text;
 use crate::collector_rows::{row_meant, rows_of};
 use crate::found::{Found, LOOKED_AT_ONCE, found_of, matching};
 use crate::handler::Handler;
-use alloc_desk::DeskName;
+use crate::seen::Seen;
 use allocation_core::{Answer, Refusal};
 use fleet_events::TargetId;
+use kept_journal::JournalName;
 use lists::Text;
 use sd_routes::{
     CollectorRow, RequestError, Said, WhichCollector, collector_page, collectors_page, found_page,
@@ -19,7 +21,7 @@ use std::sync::Wait;
 use std::sync::ledger::Ledger;
 use std::time::Clock;
 
-impl<R: Wait + Clock + Copy, L: Ledger, B: Ledger, N: DeskName> Handler<R, L, B, N> {
+impl<R: Wait + Clock + Copy, L: Ledger, B: Ledger, N: JournalName> Handler<R, L, B, N> {
     /// The page of the live collectors.
     pub(crate) fn collectors(&self) -> Said
         ensures { SaysCollectors result }
@@ -50,20 +52,22 @@ impl<R: Wait + Clock + Copy, L: Ledger, B: Ledger, N: DeskName> Handler<R, L, B,
     }
 
     /// The page of the live collector that is meant.
-    pub(crate) fn one_collector(&self, which: &WhichCollector) -> Said
-        ensures { SaysCollectorPage N.opening which.now result }
+    pub(crate) fn one_collector(&self, seen: &mut Seen<N>, which: &WhichCollector) -> Said
+        ensures says { SaysCollectorPage seen.new which.now result }
+        ensures moves { Moves seen.old seen.new }
     {
-        match self.row(which) {
-            Ok(Some(row)) => self.row_told(which, row),
+        match self.row(seen, which) {
+            Ok(Some(row)) => self.row_told(seen, which, row),
             Ok(None) => Said::Answer(Answer::Not(Refusal::UnknownCollector)),
             Err(_) => Said::Refused(RequestError::Memory),
         }
     }
 
-    fn row_told(&self, which: &WhichCollector, row: CollectorRow) -> Said
-        requires { OfSome N.opening (λ h. id_meant h.state which.now ≡ Some row.id) }
-        ensures { SaysCollectorPage N.opening which.now result }
+    fn row_told(&self, seen: &Seen<N>, which: &WhichCollector, row: CollectorRow) -> Said
+        requires { id_meant (now_of seen.now).state which.now ≡ Some row.id }
+        ensures { SaysCollectorPage seen.now which.now result }
     {
+        seen.now();
         let mut row = row;
         row.last_take = self.state.last_asked(&self.rt, row.id);
         match collector_page(self.alloc, &row) {
@@ -72,12 +76,18 @@ impl<R: Wait + Clock + Copy, L: Ledger, B: Ledger, N: DeskName> Handler<R, L, B,
         }
     }
 
-    fn row(&self, which: &WhichCollector) -> Result<Option<CollectorRow>, AllocError>
-        ensures { IfOk result (λ found. IfSome found (λ row. OfSome N.opening (λ h. id_meant h.state which.now ≡ Some row.id))) }
+    fn row(
+        &self,
+        seen: &mut Seen<N>,
+        which: &WhichCollector,
+    ) -> Result<Option<CollectorRow>, AllocError>
+        ensures read { IfOk result (λ found. IfSome found (λ row. id_meant (now_of seen.new).state which.now ≡ Some row.id)) }
+        ensures moves { Moves seen.old seen.new }
     {
         let mut pass = self.pass.lock(&self.rt);
-        self.desk.read(
+        seen.latest.read(
             &self.rt,
+            &self.desk,
             &mut *pass,
             |record| row_meant(self.alloc, record.core(), which),
         )

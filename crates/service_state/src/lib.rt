@@ -1,5 +1,5 @@
 //! What the threads of a service share with those that answer requests: what it counts and notes while it runs, its metrics, what its page
-//! for people shows, the pages of its configuration, how much of its journal is kept, how a request has it read its configuration again, and what was
+//! for people shows, the pages of its configuration, how a request has it read its configuration again, and what was
 //! asked of its fleet.
 //!
 //! Contracts say what the pages of a configuration are, of which rounds is told what was booked, and which reports are counted. They say nothing of
@@ -14,7 +14,6 @@ mod elapsed;
 mod figures;
 mod followed;
 mod handing_over;
-mod kept;
 mod kinds;
 mod metrics;
 mod names;
@@ -33,7 +32,6 @@ pub use config_pages::ConfigPages;
 pub use figures::figures_of;
 pub use followed::FollowedList;
 pub use handing_over::{HandingOver, targets_handing_over};
-pub use kept::{Asked, Kept, LONGEST_WAIT_MILLIS};
 pub use kinds::EventKind;
 pub use metrics::metrics_page;
 pub use notes::Notes;

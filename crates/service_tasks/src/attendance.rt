@@ -4,9 +4,10 @@ use crate::patience::Patience;
 use crate::scheduling::Schedule;
 use crate::shared::Shared;
 use crate::sighting::Sighting;
-use alloc_desk::{DeskName, Pass};
+use alloc_desk::Pass;
 use allocation_core::Core;
 use fleet_events::{Answer, CollectorId, Event};
+use kept_journal::JournalName;
 use lists::Text;
 use log::Level;
 use std::alloc::{AllocError, Global};
@@ -277,7 +278,7 @@ fn is_to_let_go(patience: Patience, sighting: &Sighting, now: Instant) -> bool {
     }
 }
 
-impl<R: Wait + Clock + Eprint + Copy, L: Ledger, B: Ledger, N: DeskName> Shared<R, L, B, N> {
+impl<R: Wait + Clock + Eprint + Copy, L: Ledger, B: Ledger, N: JournalName> Shared<R, L, B, N> {
     /// Lets the lists go of collectors that asked for nothing for long, live ones and those that left; drains live ones that asked for
     /// nothing for as long as their timeout, and has those leave that asked for nothing for twice as long.
     pub(crate) fn dismiss_absent<C>(

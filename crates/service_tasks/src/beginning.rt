@@ -3,9 +3,10 @@ use crate::office::Office;
 use crate::service::Service;
 use crate::shared::Shared;
 use crate::told_source::ToldSource;
-use alloc_desk::{DeskName, Pass};
+use alloc_desk::Pass;
 use allocation_core::Core;
 use fleet_events::Event;
+use kept_journal::JournalName;
 use label_sets::Target;
 use lists::{List, Plain};
 use relabel::{Found, Rules};
@@ -17,7 +18,7 @@ use std::sync::ledger::Ledger;
 use std::sync::{Arc, Wait};
 use std::time::Clock;
 
-impl<R: Wait + Clock + Eprint + Copy, L: Ledger, B: Ledger, N: DeskName> Shared<R, L, B, N> {
+impl<R: Wait + Clock + Eprint + Copy, L: Ledger, B: Ledger, N: JournalName> Shared<R, L, B, N> {
     /// Enters what a configuration begins with, where no desk was opened for it yet. Where nothing can be kept, that is left to the next
     /// start.
     pub fn begin<S, F, C>(

@@ -1,7 +1,7 @@
 //! What was asked of the fleet over HTTP, in the log.
 use crate::logging::level_of;
 use crate::shared::Shared;
-use alloc_desk::DeskName;
+use kept_journal::JournalName;
 use lists::Text;
 use log::{log, warn};
 use logfmt::{Logfmt, Quoted};
@@ -11,7 +11,7 @@ use std::sync::Wait;
 use std::sync::ledger::Ledger;
 use std::time::Clock;
 
-impl<R: Wait + Clock + Eprint + Copy, L: Ledger, B: Ledger, N: DeskName> Shared<R, L, B, N> {
+impl<R: Wait + Clock + Eprint + Copy, L: Ledger, B: Ledger, N: JournalName> Shared<R, L, B, N> {
     /// Logs what was asked of the fleet over HTTP since the last look.
     pub(crate) fn log_changes(&self) {
         let changes = self.state.take_changes(&self.rt);

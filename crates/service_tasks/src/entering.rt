@@ -3,8 +3,9 @@ use crate::control::Ending;
 use crate::logging::{level_of, log_warning};
 use crate::shared::Shared;
 use crate::told_source::ToldSource;
-use alloc_desk::{DeskName, EnterError, Pass};
+use alloc_desk::{EnterError, Pass};
 use fleet_events::{Answer, CollectorId, Event};
+use kept_journal::JournalName;
 use log::{info, log, warn};
 use logfmt::{Logfmt, Quoted, QuotedUrl};
 use service_state::EventKind;
@@ -13,7 +14,7 @@ use std::sync::Wait;
 use std::sync::ledger::Ledger;
 use std::time::Clock;
 
-impl<R: Wait + Clock + Eprint + Copy, L: Ledger, B: Ledger, N: DeskName> Shared<R, L, B, N> {
+impl<R: Wait + Clock + Eprint + Copy, L: Ledger, B: Ledger, N: JournalName> Shared<R, L, B, N> {
     /// What an event is answered. None where it was not entered: the desk is closed for that, or
     /// nothing is entered any more, or it is logged.
     pub(crate) fn enter(&self, pass: &mut Pass<L, B, N>, event: Event) -> Option<Answer> {

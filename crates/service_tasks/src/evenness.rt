@@ -1,9 +1,10 @@
 //! What the last search that made loads even told of them.
 use crate::logging::log_warning;
 use crate::shared::Shared;
-use alloc_desk::{DeskName, Pass, Record};
+use alloc_desk::{Pass, Record};
 use allocation_core::{Core, Event};
 use fleet::Collector;
+use kept_journal::JournalName;
 use service_state::LoadNote;
 use spread_certificate::{Even, Spread};
 use std::alloc::{AllocError, Global};
@@ -11,7 +12,7 @@ use std::sync::Wait;
 use std::sync::ledger::Ledger;
 use std::time::Clock;
 
-impl<R: Wait + Clock + Eprint + Copy, L: Ledger, B: Ledger, N: DeskName> Shared<R, L, B, N> {
+impl<R: Wait + Clock + Eprint + Copy, L: Ledger, B: Ledger, N: JournalName> Shared<R, L, B, N> {
     /// Notes for those who look at the service how even the collectors' loads are to be.
     pub(crate) fn note_loads(&self, pass: &mut Pass<L, B, N>) {
         if self.spread.is_none() {

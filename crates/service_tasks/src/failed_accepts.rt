@@ -1,7 +1,7 @@
 //! Connections that could not be taken, in the log.
 use crate::scheduling::Schedule;
 use crate::shared::Shared;
-use alloc_desk::DeskName;
+use kept_journal::JournalName;
 use log::warn;
 use logfmt::Logfmt;
 use std::sync::Wait;
@@ -42,7 +42,7 @@ impl FailedAccepts {
     }
 }
 
-impl<R: Wait + Clock + Eprint + Copy, L: Ledger, B: Ledger, N: DeskName> Shared<R, L, B, N> {
+impl<R: Wait + Clock + Eprint + Copy, L: Ledger, B: Ledger, N: JournalName> Shared<R, L, B, N> {
     /// Logs how many connections could not be taken since that was told last, once in a while.
     pub(crate) fn log_failed_accepts<C>(&self, schedule: &mut Schedule<C>) {
         if let Ok(now) = Instant::now(&self.rt) {

@@ -2,8 +2,9 @@
 use crate::logging::log_warning;
 use crate::scheduling::Schedule;
 use crate::shared::Shared;
-use alloc_desk::{DeskName, Pass, Record};
+use alloc_desk::{Pass, Record};
 use fleet_events::TargetId;
+use kept_journal::JournalName;
 use service_state::{HandingOver, targets_handing_over};
 use std::alloc::{AllocError, Global};
 use std::sync::Wait;
@@ -79,7 +80,7 @@ fn news(
     Ok(Some((now, targets_handing_over(alloc, record.core())?)))
 }
 
-impl<R: Wait + Clock + Eprint + Copy, L: Ledger, B: Ledger, N: DeskName> Shared<R, L, B, N> {
+impl<R: Wait + Clock + Eprint + Copy, L: Ledger, B: Ledger, N: JournalName> Shared<R, L, B, N> {
     /// Notes which targets are handed over, where something was entered.
     pub(crate) fn watch_handovers<C>(&self, pass: &mut Pass<L, B, N>, schedule: &mut Schedule<C>) {
         if self.note_handovers(pass, &mut schedule.handovers).is_err() {

@@ -5,8 +5,7 @@ ghost use Rattle.kept_journal.specs.Keeping.{IsOfService, MeansKeptWhere};
 use alloc_desk::{Closed, Front};
 use durable_journal::Device;
 use journal_files::NamedCollector;
-use kept_journal::{DeskJournal, JournalFile, JournalName};
-use service_state::Kept;
+use kept_journal::{DeskJournal, JournalFile, JournalName, Kept};
 use std::alloc::{AllocError, Global};
 use std::sync::{Arc, Wait};
 
@@ -58,7 +57,7 @@ pub fn kept_of<F: Device, N: JournalName>(
     rt: &impl Wait,
     alloc: Global,
     journal: &Option<DeskJournal<F, N>>,
-) -> Result<Option<Arc<Kept>>, AllocError>
+) -> Result<Option<Arc<Kept<N>>>, AllocError>
     ensures { IfOk result (λ kept. kept ≡ None → journal.now ≡ None) }
 {
     let Some(journal) = journal else {

@@ -3,8 +3,7 @@ use crate::control::Ending;
 use crate::logging::{log_error, log_info, log_warning};
 use crate::scheduling::Schedule;
 use crate::shared::Shared;
-use alloc_desk::DeskName;
-use service_state::Kept;
+use kept_journal::{JournalName, Kept};
 use std::sync::Wait;
 use std::sync::ledger::Ledger;
 use std::time::{Clock, Duration, Instant};
@@ -12,7 +11,7 @@ use std::time::{Clock, Duration, Instant};
 /// How long a write may take before the service is not ready, in milliseconds.
 const LONGEST_WRITE: u64 = 3_000;
 
-impl<R: Wait + Clock + Eprint + Copy, L: Ledger, B: Ledger, N: DeskName> Shared<R, L, B, N> {
+impl<R: Wait + Clock + Eprint + Copy, L: Ledger, B: Ledger, N: JournalName> Shared<R, L, B, N> {
     /// Tells when a write of the journal takes long, and has the service end a while after one failed.
     pub(crate) fn watch_device<C>(&self, schedule: &mut Schedule<C>) {
         if let (Some(kept), Ok(now)) = (&self.kept, Instant::now(&self.rt)) {
@@ -21,7 +20,7 @@ impl<R: Wait + Clock + Eprint + Copy, L: Ledger, B: Ledger, N: DeskName> Shared<
         }
     }
 
-    fn watch_write<C>(&self, kept: &Kept, schedule: &mut Schedule<C>, now: Instant) {
+    fn watch_write<C>(&self, kept: &Kept<N>, schedule: &mut Schedule<C>, now: Instant) {
         let longest = Duration::from_millis(LONGEST_WRITE);
         let is_hanging = kept.is_hanging(&self.rt, now, longest);
         if is_hanging != schedule.is_hanging {
@@ -42,7 +41,7 @@ impl<R: Wait + Clock + Eprint + Copy, L: Ledger, B: Ledger, N: DeskName> Shared<
         }
     }
 
-    fn end_when_broken<C>(&self, kept: &Kept, schedule: &mut Schedule<C>, now: Instant) {
+    fn end_when_broken<C>(&self, kept: &Kept<N>, schedule: &mut Schedule<C>, now: Instant) {
         if !kept.is_broken(&self.rt) {
             return;
         }

@@ -5,8 +5,7 @@ use crate::logging::{log_error_of, log_warning};
 use crate::shared::Shared;
 use alloc_desk::Pass;
 use durable_journal::Device;
-use kept_journal::{DeskJournal, JournalName, News};
-use service_state::Kept;
+use kept_journal::{DeskJournal, JournalName, Kept, News};
 use std::alloc::AllocError;
 use std::sync::Wait;
 use std::sync::atomic::{AtomicBool, Ordering};
@@ -45,7 +44,7 @@ impl<R: Wait + Clock + Eprint + Copy, L: Ledger, B: Ledger, N: JournalName> Shar
         &self,
         pass: &mut Pass<L, B, N>,
         journal: &mut DeskJournal<F, N>,
-        kept: &Kept,
+        kept: &Kept<N>,
         is_last: &AtomicBool,
     ) {
         let mut is_begun = false;
@@ -72,7 +71,7 @@ impl<R: Wait + Clock + Eprint + Copy, L: Ledger, B: Ledger, N: JournalName> Shar
         &self,
         pass: &mut Pass<L, B, N>,
         journal: &mut DeskJournal<F, N>,
-        kept: &Kept,
+        kept: &Kept<N>,
         is_begun: bool,
     ) -> io::Result<Turn> {
         match journal.news(&self.rt, &self.desk, pass, self.alloc) {
@@ -93,7 +92,7 @@ impl<R: Wait + Clock + Eprint + Copy, L: Ledger, B: Ledger, N: JournalName> Shar
     fn keep_news<F: Device>(
         &self,
         journal: &mut DeskJournal<F, N>,
-        kept: &Kept,
+        kept: &Kept<N>,
         news: &News,
         is_begun: bool,
     ) -> io::Result<()>
@@ -112,7 +111,7 @@ impl<R: Wait + Clock + Eprint + Copy, L: Ledger, B: Ledger, N: JournalName> Shar
         self.state.count_written(news.bytes());
         self.is_long
             .store(journal.file().is_long(), Ordering::SeqCst);
-        kept.keep(&self.rt, durable.len());
+        kept.keep(&self.rt, durable);
         Ok(())
     }
 
@@ -123,7 +122,12 @@ impl<R: Wait + Clock + Eprint + Copy, L: Ledger, B: Ledger, N: JournalName> Shar
     }
 
     /// The device failed: nothing is kept any more.
-    fn give_up<F: Device>(&self, journal: &mut DeskJournal<F, N>, kept: &Kept, error: io::Error) {
+    fn give_up<F: Device>(
+        &self,
+        journal: &mut DeskJournal<F, N>,
+        kept: &Kept<N>,
+        error: io::Error,
+    ) {
         log_error_of(&self.rt, "the journal cannot be written", &error);
         journal.break_down();
         self.state.break_down();

@@ -1,14 +1,15 @@
 //! Lists that count as let go, since lists are not served in order any more.
 use crate::shared::Shared;
-use alloc_desk::{DeskName, Pass};
+use alloc_desk::Pass;
 use allocation_core::Core;
 use fleet_events::{CollectorId, Event};
+use kept_journal::JournalName;
 use std::alloc::{AllocError, Global};
 use std::sync::Wait;
 use std::sync::ledger::Ledger;
 use std::time::Clock;
 
-impl<R: Wait + Clock + Eprint + Copy, L: Ledger, B: Ledger, N: DeskName> Shared<R, L, B, N> {
+impl<R: Wait + Clock + Eprint + Copy, L: Ledger, B: Ledger, N: JournalName> Shared<R, L, B, N> {
     /// Lets all lists go that were served in order.
     pub(crate) fn let_all_go(&self, pass: &mut Pass<L, B, N>) -> Result<(), AllocError> {
         let alloc = self.alloc;

@@ -2,7 +2,7 @@
 use crate::configuration::Configuration;
 use crate::scheduling::Schedule;
 use crate::shared::Shared;
-use alloc_desk::DeskName;
+use kept_journal::JournalName;
 use std::sync::Wait;
 use std::sync::ledger::Ledger;
 use std::time::{Clock, Duration, Instant};
@@ -10,7 +10,7 @@ use std::time::{Clock, Duration, Instant};
 /// How long after a look at the process the next one is due, in milliseconds.
 const NEXT_LOOK: u64 = 5_000;
 
-impl<R: Wait + Clock + Eprint + Copy, L: Ledger, B: Ledger, N: DeskName> Shared<R, L, B, N> {
+impl<R: Wait + Clock + Eprint + Copy, L: Ledger, B: Ledger, N: JournalName> Shared<R, L, B, N> {
     /// Notes what the machine says of the process, where that is due.
     pub(crate) fn look_at_process<C: Configuration>(&self, schedule: &mut Schedule<C>) {
         let Ok(now) = Instant::now(&self.rt) else {

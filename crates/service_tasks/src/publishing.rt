@@ -7,8 +7,9 @@ ghost use Rattle.service_tasks.specs.Published.{changes_at, changes_in};
 use crate::logging::{log_error, log_warning};
 use crate::moves::moves_of;
 use crate::shared::Shared;
-use alloc_desk::{DeskName, Pass};
+use alloc_desk::Pass;
 use allocation_core::Answer;
+use kept_journal::JournalName;
 use lists::{List, Text};
 use log::info;
 use logfmt::{Logfmt, Milliseconds, timestamp};
@@ -30,7 +31,7 @@ pub(crate) struct Changes {
     pub(crate) left: u64,
 }
 
-impl<R: Wait + Clock + Eprint + Copy, L: Ledger, B: Ledger, N: DeskName> Shared<R, L, B, N> {
+impl<R: Wait + Clock + Eprint + Copy, L: Ledger, B: Ledger, N: JournalName> Shared<R, L, B, N> {
     /// How many milliseconds went by, 0 where there is no clock.
     pub(crate) fn milliseconds_since(&self, begun: Option<Instant>) -> u64 {
         match (begun, Instant::now(&self.rt)) {

@@ -1,6 +1,7 @@
 //! The search for an allocation, by what the settings say.
 use crate::shared::Shared;
-use alloc_desk::{DeskName, Pass, ReallocateError, Reallocated, SpreadError};
+use alloc_desk::{Pass, ReallocateError, Reallocated, SpreadError};
+use kept_journal::JournalName;
 use service_settings::Spread;
 use service_state::EventKind;
 use std::sync::Wait;
@@ -44,7 +45,7 @@ impl From<SpreadError> for NotReallocated {
     }
 }
 
-impl<R: Wait + Copy, L: Ledger, B: Ledger, N: DeskName> Shared<R, L, B, N> {
+impl<R: Wait + Copy, L: Ledger, B: Ledger, N: JournalName> Shared<R, L, B, N> {
     /// Searches for an allocation of the moment and has it published: the best one, or where loads are made even the best one
     /// within caps that cost no coverage.
     pub(crate) fn search(&self, pass: &mut Pass<L, B, N>) -> Result<Reallocated, NotReallocated> {

@@ -5,10 +5,11 @@ use crate::shared::Shared;
 use crate::source::{Listed, Source};
 use crate::sources::Sources;
 use crate::told_source::ToldSource;
-use alloc_desk::{DeskName, Pass};
+use alloc_desk::Pass;
 use file_configs::{ReadFiles, patterns_of};
 use fleet_events::Event;
 use http_get::{Asker, Cause, FetchFault, FetchSeveral, Get, Listing, Next, Reply, get_of_source};
+use kept_journal::JournalName;
 use lists::{List, Plain, Text};
 use log::warn;
 use logfmt::{Logfmt, Quoted, QuotedUrl, timestamp};
@@ -47,7 +48,7 @@ pub struct Watch<S> {
 
 /// Who asks the sources, over one desk.
 #[derive(Drop)]
-struct Refresher<'a, R, L: Ledger, B: Ledger, N: DeskName, D> {
+struct Refresher<'a, R, L: Ledger, B: Ledger, N: JournalName, D> {
     shared: &'a Shared<R, L, B, N>,
     pass: &'a mut Pass<L, B, N>,
     files: &'a D,
@@ -60,7 +61,7 @@ where
     R: Wait + Clock + Eprint + Copy,
     L: Ledger,
     B: Ledger,
-    N: DeskName,
+    N: JournalName,
     D: ReadFiles,
 {
     /// The source that is due for longest is asked next. It is waited for answers, or, where none is to come, until a source is due.
@@ -84,7 +85,7 @@ where
     R: Wait + Clock + Eprint + Copy,
     L: Ledger,
     B: Ledger,
-    N: DeskName,
+    N: JournalName,
     D: ReadFiles,
 {
     /// Asks the source at a place, or reads its files at once. Where it cannot be asked, that is what it comes to.
@@ -149,7 +150,7 @@ where
     }
 }
 
-impl<R: Wait + Clock + Eprint + Copy, L: Ledger, B: Ledger, N: DeskName> Shared<R, L, B, N> {
+impl<R: Wait + Clock + Eprint + Copy, L: Ledger, B: Ledger, N: JournalName> Shared<R, L, B, N> {
     /// Refreshes sources until the desk is to be closed, each when it is due, whatever others do. A refresh that is under way then is given
     /// up: it is due over the next desk.
     pub fn refresh_sources<S: FetchSeveral + ReadFiles>(

@@ -3,9 +3,10 @@ use crate::differences::collector_named;
 use crate::logging::{log_of_name, log_of_number, log_warning};
 use crate::roster::{Roster, join_of, joining};
 use crate::shared::Shared;
-use alloc_desk::{DeskName, Pass};
+use alloc_desk::Pass;
 use allocation_core::Core;
 use fleet_events::{CollectorId, Event};
+use kept_journal::JournalName;
 use lists::Plain;
 use log::Level;
 use reach_rules::CollectorName;
@@ -15,7 +16,7 @@ use std::sync::Wait;
 use std::sync::ledger::Ledger;
 use std::time::Clock;
 
-impl<R: Wait + Clock + Eprint + Copy, L: Ledger, B: Ledger, N: DeskName> Shared<R, L, B, N> {
+impl<R: Wait + Clock + Eprint + Copy, L: Ledger, B: Ledger, N: JournalName> Shared<R, L, B, N> {
     /// Notes the names of the live collectors, so that they are told to let go once they have left.
     pub(crate) fn remember_names(&self, pass: &mut Pass<L, B, N>) {
         self.desk.read(&self.rt, pass, |record| {

@@ -5,8 +5,9 @@ use crate::differences::line_of_differences;
 use crate::scheduling::Schedule;
 use crate::service::{JobText, Service};
 use crate::shared::Shared;
-use alloc_desk::{DeskName, Pass};
+use alloc_desk::Pass;
 use allocation_core::Core;
+use kept_journal::JournalName;
 use lists::Text;
 use log::{info, warn};
 use logfmt::{Logfmt, Quoted};
@@ -28,7 +29,7 @@ struct Staying {
     staying: u64,
 }
 
-impl<R: Wait + Clock + Eprint + Copy, L: Ledger, B: Ledger, N: DeskName> Shared<R, L, B, N> {
+impl<R: Wait + Clock + Eprint + Copy, L: Ledger, B: Ledger, N: JournalName> Shared<R, L, B, N> {
     /// Reads the configuration again. Where it is faulty, or nothing can be kept now, nothing changes.
     pub(crate) fn reload<C: Configuration>(
         &self,

@@ -2,9 +2,10 @@
 use crate::differences::collector_named;
 use crate::logging::{log_of_name, log_warning};
 use crate::shared::Shared;
-use alloc_desk::{DeskName, Pass};
+use alloc_desk::Pass;
 use allocation_core::Core;
 use fleet_events::{AllocationNumber, CollectorId, Event};
+use kept_journal::JournalName;
 use lists::{List, Plain};
 use log::Level;
 use reach_rules::{CollectorName, OwnLimits, Reach};
@@ -154,7 +155,7 @@ impl Departure {
     }
 }
 
-impl<R: Wait + Clock + Eprint + Copy, L: Ledger, B: Ledger, N: DeskName> Shared<R, L, B, N> {
+impl<R: Wait + Clock + Eprint + Copy, L: Ledger, B: Ledger, N: JournalName> Shared<R, L, B, N> {
     /// Enters what the settings change of the collectors that they name, beside those of the configuration before, or where there is
     /// none beside those that are live.
     pub(crate) fn follow_collectors(

@@ -9,9 +9,10 @@ use crate::reallocating::NotReallocated;
 use crate::roster::Roster;
 use crate::service::JobText;
 use crate::shared::Shared;
-use alloc_desk::{DeskName, MOST_ENTRIES, Pass, Reallocated};
+use alloc_desk::{MOST_ENTRIES, Pass, Reallocated};
 use fleet::MOST_KNOWN_TARGETS;
 use fleet_events::{Answer, Event};
+use kept_journal::JournalName;
 use lists::List;
 use log::{info, warn};
 use logfmt::{Logfmt, Quoted};
@@ -91,7 +92,7 @@ impl<C> Schedule<C> {
     }
 }
 
-impl<R: Wait + Clock + Eprint + Copy, L: Ledger, B: Ledger, N: DeskName> Shared<R, L, B, N> {
+impl<R: Wait + Clock + Eprint + Copy, L: Ledger, B: Ledger, N: JournalName> Shared<R, L, B, N> {
     /// Opens rounds, reallocates, and reads the configuration again when it is asked to, until the desk is to be closed.
     pub fn keep_schedule<C: Configuration>(
         &self,

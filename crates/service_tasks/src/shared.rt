@@ -4,9 +4,10 @@ use crate::evenings::evenings_of;
 use crate::office::Office;
 use crate::patience::Patience;
 use crate::service::Service;
-use alloc_desk::{Desk, DeskName, JobEvening};
+use alloc_desk::{Desk, JobEvening};
+use kept_journal::{JournalName, Kept};
 use service_settings::{JobSpread, Spread};
-use service_state::{Kept, ServiceState};
+use service_state::ServiceState;
 use std::alloc::{AllocError, Global};
 use std::sync::atomic::{AtomicBool, AtomicU64};
 use std::sync::ledger::Ledger;
@@ -15,7 +16,7 @@ use std::time::Duration;
 
 /// What the threads of a desk share.
 #[derive(Drop)]
-pub struct Shared<R, L: Ledger, B: Ledger, N: DeskName> {
+pub struct Shared<R, L: Ledger, B: Ledger, N: JournalName> {
     pub(crate) rt: R,
     pub(crate) alloc: Global,
     pub(crate) desk: Arc<Desk<L, B, N>>,
@@ -40,10 +41,10 @@ pub struct Shared<R, L: Ledger, B: Ledger, N: DeskName> {
     /// Whether the journal's file is so long that another one is to begin.
     pub(crate) is_long: AtomicBool,
     /// How much of the journal is kept, where there is a file for it.
-    pub(crate) kept: Option<Arc<Kept>>,
+    pub(crate) kept: Option<Arc<Kept<N>>>,
 }
 
-impl<R: Wait + Copy, L: Ledger, B: Ledger, N: DeskName> Shared<R, L, B, N> {
+impl<R: Wait + Copy, L: Ledger, B: Ledger, N: JournalName> Shared<R, L, B, N> {
     /// What the threads of a desk of a service share, with how much of the journal is kept, where there is a file for it.
     pub fn new<S, F, C>(
         rt: &R,
@@ -51,7 +52,7 @@ impl<R: Wait + Copy, L: Ledger, B: Ledger, N: DeskName> Shared<R, L, B, N> {
         service: &Service,
         office: &Office<S, F, C>,
         desk: Arc<Desk<L, B, N>>,
-        kept: Option<Arc<Kept>>,
+        kept: Option<Arc<Kept<N>>>,
     ) -> Result<Shared<R, L, B, N>, AllocError> {
         let settings = &service.settings;
         match parts_of(alloc, settings.spreads.as_slice(), &office.state) {

@@ -10,6 +10,7 @@ use admission::Admission;
 use alloc_desk::{Desk, DeskName, Log, Pass};
 use allocation_core::Core;
 use collector_pool::Open;
+use kept_journal::JournalName;
 use lists::Text;
 use sd_documents::scrape_configs_text;
 use sd_server::{Handler, ListTexts, serve_one_by_one};
@@ -55,7 +56,7 @@ where
         + Drop,
     L: Ledger + Send + Sync,
     B: Ledger + Send + Sync,
-    N: DeskName + Send + Sync,
+    N: JournalName + Send + Sync,
     requires core { (core ≡ N.opening) × (N.seats ≡ seats) }
     requires seats { (0 < seats) × (seats ≤ MOST_PASSES) }
     requires calls { (calls.name ≡ L.name) × (calls.parts ≡ L.parts) × (L.parts ≡ seats) }
@@ -93,7 +94,7 @@ where
         + Drop,
     L: Ledger + Send + Sync,
     B: Ledger + Send + Sync,
-    N: DeskName + Send + Sync,
+    N: JournalName + Send + Sync,
 {
     let Some(asked) = passes.pop() else {
         drop((desk, passes));
@@ -141,7 +142,7 @@ where
         + Drop,
     L: Ledger + Send + Sync,
     B: Ledger + Send + Sync,
-    N: DeskName + Send + Sync,
+    N: JournalName + Send + Sync,
 {
     match run(rt, alloc, session, &handler, &mut staff, text) {
         Ok(answers) => end(alloc, handler, staff, answers.as_slice(), text),
@@ -153,7 +154,7 @@ where
 }
 
 /// What requests are handled with.
-fn handler_of<R: Copy, L: Ledger, B: Ledger, N: DeskName>(
+fn handler_of<R: Copy, L: Ledger, B: Ledger, N: JournalName>(
     rt: &R,
     alloc: Global,
     session: &Session,
@@ -271,7 +272,7 @@ where
         + Drop,
     L: Ledger + Send + Sync,
     B: Ledger + Send + Sync,
-    N: DeskName + Send + Sync,
+    N: JournalName + Send + Sync,
 {
     let Staff { refresher, workers } = staff;
     begin(&handler.desk, rt, alloc, session, refresher, text)?;
@@ -309,7 +310,7 @@ where
         + Drop,
     L: Ledger + Send + Sync,
     B: Ledger + Send + Sync,
-    N: DeskName + Send + Sync,
+    N: JournalName + Send + Sync,
 {
     let mut runtime = LocalRuntime::new(rt)?;
     let any = SocketAddr::from((Ipv4Addr::LOCALHOST, 0));
@@ -344,7 +345,7 @@ where
         + Drop,
     L: Ledger + Send + Sync,
     B: Ledger + Send + Sync,
-    N: DeskName + Send + Sync,
+    N: JournalName + Send + Sync,
 {
     let here = listener.local_addr()?;
     let stop = AtomicBool::new(false);
@@ -395,7 +396,7 @@ where
 }
 
 /// Ends a session whose rounds are over.
-fn end<R: Copy + Drop, L: Ledger, B: Ledger, N: DeskName>(
+fn end<R: Copy + Drop, L: Ledger, B: Ledger, N: JournalName>(
     alloc: Global,
     handler: Handler<R, L, B, N>,
     staff: Staff<R, L, B, N>,
@@ -412,7 +413,7 @@ fn end<R: Copy + Drop, L: Ledger, B: Ledger, N: DeskName>(
 }
 
 /// Closes the desk, and writes the total and the answers.
-fn write_end<R: Drop, L: Ledger, B: Ledger, N: DeskName>(
+fn write_end<R: Drop, L: Ledger, B: Ledger, N: JournalName>(
     alloc: Global,
     handler: Handler<R, L, B, N>,
     passes: Vec<Pass<L, B, N>>,
@@ -431,7 +432,7 @@ fn write_end<R: Drop, L: Ledger, B: Ledger, N: DeskName>(
 }
 
 /// Closes the desk of a handler whose server has ended.
-fn closed<R: Drop, L: Ledger, B: Ledger, N: DeskName>(
+fn closed<R: Drop, L: Ledger, B: Ledger, N: JournalName>(
     handler: Handler<R, L, B, N>,
     passes: Vec<Pass<L, B, N>>,
 ) -> Result<Core, Halt>
@@ -449,7 +450,7 @@ fn closed<R: Drop, L: Ledger, B: Ledger, N: DeskName>(
 }
 
 /// The desk of a handler, and the pass of its server.
-fn desk_of<R: Drop, L: Ledger, B: Ledger, N: DeskName>(
+fn desk_of<R: Drop, L: Ledger, B: Ledger, N: JournalName>(
     handler: Handler<R, L, B, N>,
 ) -> (Arc<Desk<L, B, N>>, Arc<Mutex<Pass<L, B, N>>>) {
     (handler.desk, handler.pass)

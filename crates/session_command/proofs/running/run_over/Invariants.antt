@@ -9,3 +9,7 @@ ghosts-run_over_desk-B-Ledger g a = record { name = a.samples.name; parts = a.sa
 
 abbrev pub ghosts-run_over_desk-N-DeskName : goal.ghosts-run_over_desk-N-DeskName
 ghosts-run_over_desk-N-DeskName g a = record { «opening» = a.core; seats = a.seats; book = a.log }
+
+-- a session has no journal, so that all of it counts as kept
+abbrev pub ghosts-run_over_desk-N-JournalName : goal.ghosts-run_over_desk-N-JournalName
+ghosts-run_over_desk-N-JournalName g a = record { keeps = λ entries. Unit {0} }

@@ -1,4 +1,4 @@
-use Rattle.std.proofs.Common.{◌≡◌, ◌≤◌, arith, length, take}
+use Rattle.std.proofs.Common.{◌≤◌, arith, length, take}
 use Rattle.std.proofs.lemmas.Bool.Decides.{nat_tests}
 use mathlib.Core.List.{IsPrefix}
 use Rattle.kept_journal.proofs.Beginnings.{begins_taken, begins_trans, taken_begins, taken_is_longer}

@@ -1,6 +1,6 @@
-use Rattle.std.proofs.Common.{rules}
-use Rattle.sd_server.proofs.BookLemmas.{books_of}
+use Rattle.sd_server.proofs.OpenLemmas.{moved}
 use Rattle.sd_server.proofs.handler.Handler.books_asked.Goals as goal
 
-pub returns : goal.returns
-returns g c = books_of g.N.DeskName.opening _ c.args.asked c.read.result _ c.read.ensures.read (λ h told. search rules)
+pub returns-clause-moves : goal.returns-clause-moves
+returns-clause-moves g c =
+    moved g.N.DeskName.opening c.seen.inside.since c.seen.inside.latest c.read.new.self c.args.seen.now c.seen.view_is c.seen.invariant c.read.ensures.seen

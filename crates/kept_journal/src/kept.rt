@@ -1,4 +1,9 @@
-//! How much of a desk's journal a device keeps.
+//! How much of a desk's journal a device keeps, and who waits for it.
+ghost use Rattle.std.specs.Prelude.{◌≡◌, None, IfOk};
+
+use crate::durable::Durable;
+use crate::journal_name::JournalName;
+use alloc_desk::Front;
 use std::alloc::{AllocError, Global};
 use std::mem;
 use std::sync::{Arc, Condvar, Mutex, Wait};
@@ -12,57 +17,73 @@ pub const LONGEST_WAIT_MILLIS: u64 = 20_000;
 /// How much of a desk's journal a device keeps: who submits asks for his entry, and who writes tells how far he is. No thread waits
 /// but that which writes.
 #[derive(Drop)]
-pub struct Kept {
+pub struct Kept<N: JournalName> {
     alloc: Global,
-    progress: Mutex<Progress>,
+    progress: Mutex<Progress<N>>,
     changed: Condvar,
 }
 
 #[derive(Drop)]
-struct Progress {
+struct Progress<N: JournalName> {
     /// How many entries somebody waits for.
     wanted: u64,
-    /// How many entries the device keeps.
-    kept: u64,
+    /// What the device keeps, once it keeps what the desk began with.
+    durable: Option<Durable<N>>,
     /// Whether the device failed. Then no further entry is kept.
     is_broken: bool,
     /// When the write began that has not come back.
     begun: Option<Instant>,
     /// Whether that was so long ago that nobody waits for it.
     is_hanging: bool,
-    waiting: Vec<Waiting>,
+    waiting: Vec<Waiting<N>>,
 }
 
-impl Progress {
+impl<N: JournalName> Progress<N> {
     /// The write that began has come back.
     fn end_write(&mut self) {
         self.begun = None;
         self.is_hanging = false;
     }
+
+    /// How many entries the device keeps.
+    fn entries(&self) -> u64 {
+        match &self.durable {
+            Some(durable) => durable.len(),
+            None => 0,
+        }
+    }
+
+    /// What the device keeps, where that has all that a front has seen.
+    fn past(&self, front: &Front<N>) -> Option<Durable<N>> {
+        match &self.durable {
+            Some(durable) if durable.has(front) => Some(durable.again()),
+            _ => None,
+        }
+    }
 }
 
-/// Somebody who waits for an entry.
+/// Somebody who waits until so many entries are kept.
 #[derive(Drop)]
-struct Waiting {
-    position: u64,
-    teller: Sender<bool>,
+struct Waiting<N: JournalName> {
+    entries: u64,
+    teller: Sender<Durable<N>>,
 }
 
-/// Whether an entry is kept, or who will say: that it is not, where he says nothing.
+/// What is kept, with all that a front has seen, or nothing that has it, or who will say: nothing, where he says nothing.
 #[derive(Drop)]
-pub enum Asked {
-    Known(bool),
-    Told(Receiver<bool>),
+pub enum Asked<N: JournalName> {
+    Known(Option<Durable<N>>),
+    Told(Receiver<Durable<N>>),
 }
 
-impl Kept {
-    /// A device that keeps nothing yet.
-    pub fn new(alloc: Global) -> Kept {
+impl<N: JournalName> Kept<N> {
+    /// A device of which nothing is known yet.
+    pub fn new(alloc: Global) -> Kept<N> {
         Kept {
             alloc,
             progress: Mutex::new(Progress {
                 wanted: 0,
-                kept: 0,
+                durable: None,
                 is_broken: false,
                 begun: None,
                 is_hanging: false,
@@ -73,25 +94,28 @@ impl Kept {
     }
 
     /// The same device once more, where there is one.
-    pub fn shared(kept: &Option<Arc<Kept>>) -> Result<Option<Arc<Kept>>, AllocError> {
+    pub fn shared(kept: &Option<Arc<Kept<N>>>) -> Result<Option<Arc<Kept<N>>>, AllocError>
+        ensures { IfOk result (λ shared. shared ≡ None → kept.now ≡ None) }
+    {
         match kept {
             Some(kept) => Ok(Some(Arc::try_clone(kept)?)),
             None => Ok(None),
         }
     }
 
-    /// Whether the entry at this position is kept: it is not where the device failed before, or hangs.
-    pub fn ask(&self, rt: &impl Wait, position: u64) -> Result<Asked, AllocError> {
+    /// What is kept, with all that a front has seen: nothing is where the device failed before, or hangs.
+    pub fn ask(&self, rt: &impl Wait, front: &Front<N>) -> Result<Asked<N>, AllocError> {
         let mut progress = self.progress.lock(rt);
-        if progress.kept > position {
-            return Ok(Asked::Known(true));
+        if let Some(durable) = progress.past(front) {
+            return Ok(Asked::Known(Some(durable)));
         }
         if progress.is_broken || progress.is_hanging {
-            return Ok(Asked::Known(false));
+            return Ok(Asked::Known(None));
         }
         let (teller, told) = oneshot::channel(self.alloc)?;
-        progress.waiting.push(Waiting { position, teller })?;
-        progress.wanted = progress.wanted.max(position.saturating_add(1));
+        let entries = front.len();
+        progress.waiting.push(Waiting { entries, teller })?;
+        progress.wanted = progress.wanted.max(entries);
         self.changed.notify_all();
         Ok(Asked::Told(told))
     }
@@ -102,14 +126,14 @@ impl Kept {
         self.progress.lock(rt).begun = now;
     }
 
-    /// So many entries from the first on are kept. Each call names at least as many as the one before.
-    pub fn keep(&self, rt: &impl Wait, entries: u64) {
-        let waiting = self.advance(rt, entries);
+    /// What the device keeps now. Each call has at least what the one before had.
+    pub fn keep(&self, rt: &impl Wait, durable: Durable<N>) {
+        let waiting = self.advance(rt, durable.again());
         // Who waits is told with no lock held.
         let mut later = Vec::new(self.alloc);
         for one in waiting {
-            if one.position < entries {
-                let _ = one.teller.send(true);
+            if one.entries <= durable.len() {
+                let _ = one.teller.send(durable.again());
             } else {
                 // Where there is no memory, he is told that his entry is not kept.
                 let _ = later.push(one);
@@ -121,10 +145,10 @@ impl Kept {
         }
     }
 
-    /// So many entries are kept. Gives all who wait.
-    fn advance(&self, rt: &impl Wait, entries: u64) -> Vec<Waiting> {
+    /// What the device keeps now. Gives all who wait.
+    fn advance(&self, rt: &impl Wait, durable: Durable<N>) -> Vec<Waiting<N>> {
         let mut progress = self.progress.lock(rt);
-        progress.kept = entries;
+        progress.durable = Some(durable);
         progress.end_write();
         mem::replace(&mut progress.waiting, Vec::new(self.alloc))
     }
@@ -161,7 +185,7 @@ impl Kept {
             rt,
             self.progress.lock(rt),
             time,
-            |progress| progress.wanted <= progress.kept,
+            |progress| progress.wanted <= progress.entries(),
         );
     }
 }

@@ -1,0 +1,7 @@
+use Rattle.std.proofs.Common.{false}
+use Rattle.journal_files.specs.Starting.{asked_by}
+use Rattle.journal_files.proofs.Opens.{opened_of}
+use Rattle.journal_files.proofs.opening.open_at.Goals as goal
+
+pub returns-in-Ok : goal.returns-in-Ok
+returns-in-Ok g c = opened_of false _ (asked_by c.args.wanted) _ c.in-Ok.start c.begin.result c.in-Ok.ensures c.begin.ensures
