@@ -1,4 +1,3 @@
-pub mod Allocations
 pub mod Replies
 pub mod Entries
 pub mod Says

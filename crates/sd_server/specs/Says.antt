@@ -1,14 +1,13 @@
 -- What a request is told.
-use Rattle.std.specs.Prelude.{◌≡◌, ◌⊎◌, ◌≤◌, ℕ, List, [], ◌∷◌, Option, Some, None, Result, Ok, Err, Bool, true, false, IsSome, length, map, if◌then◌else◌}
+use Rattle.std.specs.Prelude.{◌≡◌, ◌⊎◌, ◌≤◌, ℕ, List, [], ◌∷◌, Option, Some, None, Result, Ok, Err, Bool, true, false, IsSome, length, map}
 use mathlib.Core.List.{IsPrefix}
-use Rattle.fleet.specs.Fleet.{id_named, is_joined}
+use Rattle.fleet.specs.Fleet.{id_named}
 use Rattle.fleet_events.specs.declared.event.Event.{Event}
 use Rattle.fleet_events.specs.declared.event.Event.TheVariants.{Take, Serve}
 use Rattle.fleet_events.specs.declared.answer.Answer.{Answer}
 use Rattle.fleet_events.specs.declared.answer.Answer.TheVariants.{Taken as HasTaken, Served as HasServed, Not}
 use Rattle.fleet_events.specs.declared.refusal.Refusal.TheVariants.{UnknownJob, UnknownCollector}
 use Rattle.allocation_core.specs.Idle.{IsIdle}
-use Rattle.allocation_core.specs.State.{State}
 use Rattle.journal_entries.specs.declared.entry.Entry.{Entry as Line}
 use Rattle.alloc_desk.specs.History.{History}
 use Rattle.alloc_desk.specs.Reached.{IsFull}
@@ -33,7 +32,6 @@ use Rattle.sd_routes.specs.declared.collector_row.CollectorRow.{CollectorRow}
 use Rattle.sd_routes.specs.declared.found_targets.FoundTarget.{FoundTarget}
 use Rattle.sd_routes.specs.declared.job_row.JobRow.{JobRow}
 use Rattle.sd_routes.specs.declared.which_collector.WhichCollector.{WhichCollector}
-use Rattle.sd_routes.specs.declared.which_collector.WhichCollector.TheVariants.{Number, Name}
 use Rattle.sd_routes.specs.declared.ask.Ask.{Ask}
 use Rattle.sd_routes.specs.declared.ask.Ask.TheVariants as ask
 use Rattle.sd_routes.specs.declared.list_head.ListHead.{ListHead}
@@ -43,13 +41,14 @@ use Rattle.sd_routes.specs.declared.request_error.RequestError.TheVariants.{NoRo
 use Rattle.sd_routes.specs.declared.responding.Said.{Said}
 use Rattle.sd_routes.specs.declared.responding.Said.TheVariants.{Answer as Answered, Answers, Page, List as ListOf, Nothing, Refused, Misshapen, Notice as Noticed, Metrics, Document, Reloaded, NotReloaded}
 use Rattle.service_pages.specs.declared.notes.AllocationNote.{AllocationNote}
-use Rattle.service_state.specs.Booked.{IsBooks}
+use Rattle.page_rows.specs.Allocations.{allocation_row}
+use Rattle.page_rows.specs.Booked.{IsBooks}
+use Rattle.page_rows.specs.Meant.{id_meant}
+use Rattle.page_rows.specs.declared.found.TheConstants.{MOST_FOUND}
 use Rattle.service_state.specs.Jobs.{place_of}
-use Rattle.sd_server.specs.Allocations.{allocation_row}
 use Rattle.sd_server.specs.Keeping.{FindsKept}
 use Rattle.sd_server.specs.Looks.{HeadIs, IsLook}
 use Rattle.sd_server.specs.declared.look.Look.{Look}
-use Rattle.sd_server.specs.declared.found.TheConstants.{MOST_FOUND}
 use Rattle.sd_server.specs.Listing.{IsListText}
 use Rattle.sd_server.specs.Spans.{Span, OfSome, IsEntered}
 use Rattle.sd_server.specs.Texts.{certificate_text, job_text}
@@ -268,11 +267,6 @@ abbrev pub SaysCollectors : Said → Type 0
 SaysCollectors (Page page) = IsCollectorsText page
 SaysCollectors (Refused error) = error ≡ Memory
 SaysCollectors _ = ⊥
-
--- the number of the live collector that is meant, if there is one
-abbrev pub id_meant : State → WhichCollector → Option ℕ
-id_meant m (Number id) = if is_joined m.fleet id then Some id else None
-id_meant m (Name name) = id_named m.fleet.collectors name
 
 -- what is told of the collector that is meant
 abbrev pub IsCollectorText : Span → WhichCollector → List ℕ → Type 0

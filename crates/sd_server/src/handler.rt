@@ -19,7 +19,6 @@ use crate::entry::{Entry, Later, Reload, has};
 use crate::list_texts::ListTexts;
 use crate::seen::Seen;
 use crate::tags::Tags;
-use crate::uncovered::{Uncovered, uncovered_of};
 use admission::Admission;
 use alloc_desk::{Desk, EnterError, Front, Pass, Receipt};
 use allocation_core::{Answer, Event, Refusal};
@@ -27,6 +26,7 @@ use event_loops::Gate;
 use fleet_events::{CollectorId, TargetId};
 use kept_journal::{Asked, Durable, JournalName, Kept, LONGEST_WAIT_MILLIS};
 use lists::{List, Plain, Text};
+use page_rows::{Uncovered, figures_of, uncovered_of};
 use price_certificate::{Instance, Plan};
 use reach_rules::CollectorName;
 use sd_routes::{
@@ -35,7 +35,7 @@ use sd_routes::{
 };
 use service_pages::{Shown, status_page};
 use service_state::{
-    ChangeNote, ConfigPages, EventKind, Figures, Notes, ServiceState, figures_of, metrics_page,
+    ChangeNote, ConfigPages, EventKind, Figures, Notes, ServiceState, metrics_page,
 };
 use std::alloc::{AllocError, Global};
 use std::net::SocketAddr;

@@ -7,20 +7,14 @@
 
 mod accept;
 mod acknowledging;
-mod allocation_rows;
 mod booked;
 mod by_loops;
 mod certificate_page;
 mod collector_lists;
-mod collector_rows;
-mod collector_state;
 mod counter;
 mod documents;
 mod entry;
-mod found;
-mod found_state;
 mod handler;
-mod job_state;
 mod keeping;
 mod laws;
 mod list_text;
@@ -35,8 +29,6 @@ mod service;
 mod shown;
 mod spoken;
 mod tags;
-mod target_rows;
-mod uncovered;
 mod yaml;
 
 pub use by_loops::{DEFAULT_LOOPS, serve_by_loops};

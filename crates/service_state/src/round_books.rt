@@ -1,7 +1,4 @@
 //! What was booked in a round that is over, job by job, as it is noted for the figures.
-use crate::booked::job_books;
-use allocation_core::Core;
-use fleet_events::Round;
 use lists::{Plain, Text};
 use sd_routes::{BookCounts, JobBooks};
 use std::alloc::{AllocError, Global};
@@ -34,6 +31,18 @@ impl RoundBooks {
         }
     }
 
+    /// Those of these jobs, in their order.
+    pub fn of_jobs(alloc: Global, booked: &[JobBooks]) -> Result<RoundBooks, AllocError> {
+        let mut jobs = Vec::with_capacity(alloc, booked.len())?;
+        match push_sums(&mut jobs, booked) {
+            Ok(()) => Ok(RoundBooks { jobs }),
+            Err(refused) => {
+                drop(jobs);
+                Err(refused)
+            }
+        }
+    }
+
     pub(crate) fn copy(&self, alloc: Global) -> Result<RoundBooks, AllocError> {
         let mut jobs = Vec::with_capacity(alloc, self.jobs.len())?;
         match push_copies(&mut jobs, self.jobs.as_slice()) {
@@ -58,25 +67,6 @@ impl RoundBooks {
             }
         }
         NOTHING
-    }
-}
-
-/// What is booked of a round that is over, where the next one is open since a moment ago.
-pub fn books_of_round(alloc: Global, core: &Core, round: Round) -> Result<RoundBooks, AllocError> {
-    let booked = job_books(alloc, core, round)?;
-    let sums = sums_of(alloc, booked.as_slice());
-    drop(booked);
-    sums
-}
-
-fn sums_of(alloc: Global, booked: &[JobBooks]) -> Result<RoundBooks, AllocError> {
-    let mut jobs = Vec::with_capacity(alloc, booked.len())?;
-    match push_sums(&mut jobs, booked) {
-        Ok(()) => Ok(RoundBooks { jobs }),
-        Err(refused) => {
-            drop(jobs);
-            Err(refused)
-        }
     }
 }
 

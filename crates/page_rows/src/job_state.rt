@@ -4,46 +4,45 @@ use crate::uncovered::{Uncovered, uncovered_of};
 use allocation_core::Core;
 use fleet_events::{CollectorId, TargetId};
 use lists::{List, Plain, Text};
-use sd_routes::SourceRow;
-use service_pages::{JobShare, Keeper, Moment, SourceNote, TargetRow};
+use service_pages::{JobShare, Keeper, Moment, TargetRow};
 use std::alloc::{AllocError, Global};
 
 /// A job at a moment.
 #[derive(Debug, Drop)]
-pub(crate) struct JobState {
+pub struct JobState {
     /// How many targets are live.
-    pub(crate) live: u32,
-    pub(crate) uncovered: Uncovered,
+    pub live: u32,
+    pub uncovered: Uncovered,
     /// What live collectors hold of it, of those that hold a target.
-    pub(crate) shares: Vec<JobShare>,
+    pub shares: Vec<JobShare>,
     /// Its first targets: those that nobody holds, those that are handed over, and the others.
-    pub(crate) targets: Vec<TargetRow>,
-    pub(crate) moment: Moment,
+    pub targets: Vec<TargetRow>,
+    pub moment: Moment,
 }
 
 impl JobState {
     /// How many live targets nobody holds.
-    pub(crate) fn uncovered(&self) -> u32 {
+    pub fn uncovered(&self) -> u32 {
         count(self.uncovered.full.len()).saturating_add(self.unreached())
     }
 
     /// How many of them no collector reaches that is not draining.
-    pub(crate) fn unreached(&self) -> u32 {
+    pub fn unreached(&self) -> u32 {
         count(self.uncovered.unreached.len())
     }
 
-    pub(crate) fn handing_over(&self) -> u32 {
+    pub fn handing_over(&self) -> u32 {
         count(self.uncovered.handing_over.len())
     }
 
     /// How many live targets a live collector holds.
-    pub(crate) fn covered(&self) -> u32 {
+    pub fn covered(&self) -> u32 {
         self.live.saturating_sub(self.uncovered())
     }
 }
 
 /// The job at a place, with so many rows of targets at most.
-pub(crate) fn job_state(
+pub fn job_state(
     alloc: Global,
     core: &Core,
     place: usize,
@@ -221,63 +220,10 @@ fn count_one(core: &Core, holder: CollectorId, counts: &mut [u32]) {
 }
 
 /// How many targets collectors hold, by their names.
-pub(crate) fn held_by_name(
-    alloc: Global,
-    shares: &[JobShare],
-) -> Result<List<(Text, u32)>, AllocError> {
+pub fn held_by_name(alloc: Global, shares: &[JobShare]) -> Result<List<(Text, u32)>, AllocError> {
     let mut held = List::new(alloc);
     for share in shares {
         held.push((share.name.copy()?, share.held))?;
     }
     Ok(held)
-}
-
-/// What is told of the sources of a job, of which the URLs stand by their numbers.
-pub(crate) fn source_rows(
-    alloc: Global,
-    job: &str,
-    urls: &[Text],
-    notes: &[SourceNote],
-) -> Result<List<SourceRow>, AllocError> {
-    let mut rows = List::new(alloc);
-    for note in notes {
-        if note.job.as_str() == job {
-            if let Some(url) = urls.get((note.number as usize).saturating_sub(1)) {
-                rows.push(source_row(url, note)?)?;
-            }
-        }
-    }
-    Ok(rows)
-}
-
-fn source_row(url: &Text, note: &SourceNote) -> Result<SourceRow, AllocError> {
-    let url = url.copy()?;
-    let fault = fault_of(note)?;
-    let last_success = match note.succeeded {
-        0 => None,
-        seconds => Some(seconds),
-    };
-    let (targets, dropped, without_address) = match note.counts {
-        Some(counts) => (
-            Some(counts.targets),
-            Some(counts.dropped),
-            Some(counts.without_address),
-        ),
-        None => (None, None, None),
-    };
-    Ok(SourceRow {
-        url,
-        last_success,
-        fault,
-        targets,
-        dropped,
-        without_address,
-    })
-}
-
-fn fault_of(note: &SourceNote) -> Result<Option<Text>, AllocError> {
-    if note.fault.as_str().is_empty() {
-        return Ok(None);
-    }
-    Ok(Some(note.fault.copy()?))
 }

@@ -1,26 +1,26 @@
 //! A collector at a moment.
-use crate::collector_rows::row_meant;
+use crate::collector_rows::collector_meant;
+use crate::handing_over::{HandingOver, targets_handing_over};
 use crate::job_state::moment_of;
 use crate::target_rows::push_held;
 use allocation_core::Core;
 use fleet_events::{CollectorId, TargetId};
 use sd_routes::{CollectorRow, WhichCollector};
 use service_pages::{MOST_ROWS, Moment, TargetRow};
-use service_state::{HandingOver, targets_handing_over};
 use std::alloc::{AllocError, Global};
 
 /// A live collector at a moment.
 #[derive(Debug, Drop)]
-pub(crate) struct CollectorState {
-    pub(crate) row: CollectorRow,
+pub struct CollectorState {
+    pub row: CollectorRow,
     /// The first live targets that it holds, in order of number.
-    pub(crate) targets: Vec<TargetRow>,
-    pub(crate) moment: Moment,
+    pub targets: Vec<TargetRow>,
+    pub moment: Moment,
 }
 
 impl CollectorState {
     /// How many live targets it holds.
-    pub(crate) fn held(&self) -> u64 {
+    pub fn held(&self) -> u64 {
         let mut held: u64 = 0;
         for share in self.row.held.as_slice() {
             held = held.saturating_add(u64::from(share.1));
@@ -30,12 +30,12 @@ impl CollectorState {
 }
 
 /// The live collector that is meant, if there is one.
-pub(crate) fn collector_state(
+pub fn collector_state(
     alloc: Global,
     core: &Core,
     which: &WhichCollector,
 ) -> Result<Option<CollectorState>, AllocError> {
-    match row_meant(alloc, core, which)? {
+    match collector_meant(alloc, core, which)? {
         Some(row) => Ok(Some(state_of(alloc, core, row)?)),
         None => Ok(None),
     }

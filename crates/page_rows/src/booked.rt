@@ -3,7 +3,7 @@ ghost use Rattle.std.specs.Prelude.{◌≡◌, ◌==◌, ℕ, filter, map, IfOk}
 ghost use Rattle.scrape_books.specs.declared.report.Entry.{Entry};
 ghost use Rattle.fleet.specs.declared.job.JobSpec.{JobSpec};
 ghost use Rattle.sd_routes.specs.declared.books_row.JobBooks.{JobBooks};
-ghost use Rattle.service_state.specs.Booked.{counted, has_up_to, is_told, last_over, round_told, AreOfJobs, IsBooks};
+ghost use Rattle.page_rows.specs.Booked.{counted, has_up_to, is_told, last_over, round_told, AreOfJobs, IsBooks};
 
 use crate::figures::is_taken;
 use allocation_core::Core;
@@ -110,11 +110,7 @@ fn told_jobs(alloc: Global, core: &Core, round: Option<Round>) -> Result<List<Jo
 }
 
 /// What was booked of each job in a round: what each collector reported of it that reported of it or holds a live target of it.
-pub(crate) fn job_books(
-    alloc: Global,
-    core: &Core,
-    round: Round,
-) -> Result<List<JobBooks>, AllocError>
+pub fn job_books(alloc: Global, core: &Core, round: Round) -> Result<List<JobBooks>, AllocError>
     ensures { IfOk result (λ rows. map (λ (row : JobBooks). row.job) rows ≡ map (λ (job : JobSpec). job.name) core.now.fleet.jobs) }
 {
     let nothing = nothing_of(core.round(), round);

@@ -3,7 +3,7 @@ ghost use Rattle.std.specs.Prelude.{◌≡◌, IfOk, map};
 ghost use Rattle.serde_json.specs.Written.{compact_text};
 ghost use Rattle.json_values.specs.Spelling.{list_data};
 ghost use Rattle.sd_routes.specs.AllocationPages.{allocation_data};
-ghost use Rattle.sd_server.specs.Allocations.{allocation_row, move_row};
+ghost use Rattle.page_rows.specs.Allocations.{allocation_row, move_row};
 
 use lists::{List, Plain, Text};
 use sd_routes::{AllocationRow, MoveRow, allocations_page};
@@ -11,7 +11,7 @@ use service_pages::{AllocationNote, MoveNote};
 use std::alloc::{AllocError, Global};
 
 /// The page of noted allocations: an entry for each, in their order.
-pub(crate) fn allocations_text(alloc: Global, notes: &[AllocationNote]) -> Result<Text, AllocError>
+pub fn allocations_text(alloc: Global, notes: &[AllocationNote]) -> Result<Text, AllocError>
     ensures { IfOk result (λ t. t ≡ compact_text (list_data allocation_data (map allocation_row notes.now))) }
 {
     let rows = allocation_rows(alloc, notes)?;

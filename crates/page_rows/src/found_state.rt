@@ -1,27 +1,27 @@
 //! Live targets that have a text, at a moment.
 use crate::collector_state::is_waiting;
 use crate::found::MOST_FOUND;
+use crate::handing_over::targets_handing_over;
 use crate::job_state::moment_of;
 use crate::target_rows::push_live;
 use allocation_core::Core;
 use fleet_events::TargetId;
 use service_pages::{Moment, Rows, ShownFound, TargetRow};
-use service_state::targets_handing_over;
 use std::alloc::{AllocError, Global};
 
 /// Live targets that have a text, at a moment.
 #[derive(Debug, Drop)]
-pub(crate) struct FoundState {
+pub struct FoundState {
     /// How many they are.
-    pub(crate) all: u32,
+    pub all: u32,
     /// The first of them, in order of number.
-    pub(crate) targets: Vec<TargetRow>,
-    pub(crate) moment: Moment,
+    pub targets: Vec<TargetRow>,
+    pub moment: Moment,
 }
 
 impl FoundState {
     /// What the page of a search for a text shows.
-    pub(crate) fn shown<'a>(&'a self, text: &'a str) -> ShownFound<'a> {
+    pub fn shown<'a>(&'a self, text: &'a str) -> ShownFound<'a> {
         ShownFound {
             text,
             targets: Rows {
@@ -34,7 +34,7 @@ impl FoundState {
 }
 
 /// Those of these targets that are live.
-pub(crate) fn found_state(
+pub fn found_state(
     alloc: Global,
     core: &Core,
     numbers: &[TargetId],

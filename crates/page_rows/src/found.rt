@@ -1,7 +1,8 @@
 //! The live targets that have a text.
 ghost use Rattle.std.specs.Prelude.{◌+◌, ◌≤◌, length, IfOk};
-ghost use Rattle.sd_server.specs.declared.found.TheConstants.{MOST_FOUND};
+ghost use Rattle.page_rows.specs.declared.found.TheConstants.{MOST_FOUND};
 
+use crate::handing_over::{HandingOver, targets_handing_over};
 use allocation_core::Core;
 use fleet_events::{CollectorId, Round, TargetId};
 use label_sets::Target;
@@ -9,27 +10,26 @@ use lists::{List, Plain, Text};
 use memchr::memmem::Finder;
 use reach_rules::CollectorName;
 use sd_routes::FoundTarget;
-use service_state::{HandingOver, targets_handing_over};
 use std::alloc::{AllocError, Global};
 use target_shares::NumberedTarget;
 
 /// How many targets are told at most of those that are found.
-pub(crate) const MOST_FOUND: usize = 100;
+pub const MOST_FOUND: usize = 100;
 
 /// How many known targets are looked at under one hold of the lock.
-pub(crate) const LOOKED_AT_ONCE: usize = 4_096;
+pub const LOOKED_AT_ONCE: usize = 4_096;
 
 /// The live targets that are found.
 #[derive(Debug, Drop)]
-pub(crate) struct Found {
+pub struct Found {
     /// How many they are.
-    pub(crate) all: u32,
+    pub all: u32,
     /// The first of them, in order of number.
-    pub(crate) first: List<FoundTarget>,
+    pub first: List<FoundTarget>,
 }
 
 /// The numbers of those known targets from a number on that have a text, of as many as are looked at once.
-pub(crate) fn matching(
+pub fn matching(
     alloc: Global,
     core: &Core,
     text: &str,
@@ -58,11 +58,7 @@ fn has_text(target: &Target, finder: &Finder) -> bool {
 }
 
 /// Those of these targets that are live.
-pub(crate) fn found_of(
-    alloc: Global,
-    core: &Core,
-    numbers: &[TargetId],
-) -> Result<Found, AllocError>
+pub fn found_of(alloc: Global, core: &Core, numbers: &[TargetId]) -> Result<Found, AllocError>
     ensures { IfOk result (λ f. length f.first ≤ MOST_FOUND) }
 {
     let live = core.fleet().live_marks()?;

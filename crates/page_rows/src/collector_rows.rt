@@ -1,6 +1,6 @@
 //! What is told of the live collectors.
 ghost use Rattle.std.specs.Prelude.{◌≡◌, Some, IfOk, IfSome};
-ghost use Rattle.sd_server.specs.Says.{id_meant};
+ghost use Rattle.page_rows.specs.Meant.{id_meant};
 
 use allocation_core::Core;
 use fleet::{Collector, JobSpec};
@@ -18,7 +18,7 @@ struct Tally {
 }
 
 /// What is told of all live collectors, in order of number.
-pub(crate) fn rows_of(alloc: Global, core: &Core) -> Result<Vec<CollectorRow>, AllocError> {
+pub fn collector_rows(alloc: Global, core: &Core) -> Result<Vec<CollectorRow>, AllocError> {
     let tallies = tallies_of(alloc, core)?;
     let mut rows = Vec::with_capacity(alloc, tallies.len())?;
     for (collector, tally) in core.collectors().iter().zip(tallies.iter()) {
@@ -28,7 +28,7 @@ pub(crate) fn rows_of(alloc: Global, core: &Core) -> Result<Vec<CollectorRow>, A
 }
 
 /// What is told of the live collector that is meant, if there is one.
-pub(crate) fn row_meant(
+pub fn collector_meant(
     alloc: Global,
     core: &Core,
     which: &WhichCollector,

@@ -1,26 +1,22 @@
 //! The live targets that no list has, and why.
+use crate::handing_over::targets_handing_over;
 use allocation_core::Core;
 use fleet_events::{CollectorId, TargetId};
-use service_state::targets_handing_over;
 use std::alloc::{AllocError, Global};
 
 /// The live targets of a job that nobody holds in the current allocation, or that are handed over, in order of number.
 #[derive(Debug, Drop)]
-pub(crate) struct Uncovered {
+pub struct Uncovered {
     /// Those that a collector reaches which is not draining: all such ones are full, or a reallocation is due.
-    pub(crate) full: Vec<TargetId>,
+    pub full: Vec<TargetId>,
     /// Those that the list of their collector leaves out, since another list has them.
-    pub(crate) handing_over: Vec<TargetId>,
+    pub handing_over: Vec<TargetId>,
     /// Those that no such collector reaches.
-    pub(crate) unreached: Vec<TargetId>,
+    pub unreached: Vec<TargetId>,
 }
 
 /// Those of the job at a place.
-pub(crate) fn uncovered_of(
-    alloc: Global,
-    core: &Core,
-    place: usize,
-) -> Result<Uncovered, AllocError> {
+pub fn uncovered_of(alloc: Global, core: &Core, place: usize) -> Result<Uncovered, AllocError> {
     let marks = uncovered_marks(core)?;
     let mut found = Uncovered {
         full: Vec::new(alloc),
