@@ -1,7 +1,9 @@
 //! The service over one desk.
 ghost use Rattle.std.specs.Prelude.{◌≡◌, None, IfOk};
+ghost use Rattle.std.specs.Arc.{arc_value};
 ghost use Rattle.journal_entries.specs.Legal.{IsLegal};
 ghost use Rattle.kept_journal.specs.Keeping.{IsOfService, MeansKeptWhere};
+ghost use Rattle.sd_server.specs.Named.{AreNamed};
 ghost use Rattle.service_tasks.specs.Later.{IsLater};
 
 use crate::running::Served;
@@ -12,7 +14,7 @@ use event_loops::{Gate, Runtime, Times};
 use file_configs::ReadFiles;
 use http_get::FetchSeveral;
 use kept_journal::{DeskJournal, JournalName, Kept};
-use sd_server::{Handler, ListTexts};
+use sd_server::{Handler, ListTexts, are_named};
 use service_state::{ConfigPages, ServiceState};
 use service_tasks::{Configuration, Crew, Ending, Journal, Office, Service, Shared, kept_of};
 use std::alloc::{AllocError, Global};
@@ -52,6 +54,48 @@ where
     ensures later { IfOk result (λ r. IsLater N.opening r.0) }
     ensures file { IfOk result (λ r. IsOfService F.tells F.contents r.0 office.new.journal.file) }
 {
+    match are_named(alloc, &office.pages, core.fleet().jobs()) {
+        Ok(true) => serve_named(rt, alloc, service, office, core, calls, samples, log),
+        Ok(false) => {
+            drop(core);
+            Err(io::Error::other("the configuration has other jobs than the allocator"))
+        }
+        Err(error) => {
+            drop(core);
+            Err(error.into())
+        }
+    }
+}
+
+/// Serves over one desk of an allocator whose jobs are those of the configuration.
+fn serve_named<R, L, B, N, S, F, C>(
+    rt: &R,
+    alloc: Global,
+    service: &Service,
+    office: &mut Office<S, F, C>,
+    core: Core,
+    calls: Blank,
+    samples: Blank,
+    log: Log,
+) -> io::Result<(Core, Ending)>
+where
+    R: Runtime + Eprint,
+    L: Ledger + Send + Sync,
+    B: Ledger + Send + Sync,
+    N: JournalName + Send + Sync,
+    S: FetchSeveral + ReadFiles + Send + Drop,
+    F: Device + Send + Drop,
+    C: Configuration + Send + Drop,
+    requires core { (core ≡ N.opening) × (N.seats ≡ SEATS) }
+    requires calls { (calls.name ≡ L.name) × (calls.parts ≡ L.parts) × (L.parts ≡ SEATS) }
+    requires samples { (samples.name ≡ B.name) × (samples.parts ≡ B.parts) × (B.parts ≡ SEATS) }
+    requires log { log ≡ N.book }
+    requires named { AreNamed (arc_value office.old.pages).names N.opening.fleet.jobs }
+    requires file { IsOfService F.tells F.contents N.opening office.old.journal.file }
+    requires keeps { MeansKeptWhere F.tells F.kept N.opening office.old.journal.file N.keeps }
+    ensures later { IfOk result (λ r. IsLater N.opening r.0) }
+    ensures file { IfOk result (λ r. IsOfService F.tells F.contents r.0 office.new.journal.file) }
+{
     match Desk::<L, B, N>::open(alloc, core, SEATS, calls, samples, log) {
         Ok((desk, passes)) => {
             let journal = office.journal.of_desk(desk.front(rt));
@@ -82,6 +126,7 @@ where
     S: FetchSeveral + ReadFiles + Send + Drop,
     F: Device + Send + Drop,
     C: Configuration + Send + Drop,
+    requires { AreNamed (arc_value office.old.pages).names N.opening.fleet.jobs }
     ensures later { IfOk result (λ r. IsLater N.opening r.0) }
     ensures file { IfOk result (λ r. IsOfService F.tells F.contents r.0 office.new.journal.file) }
 {
@@ -141,6 +186,7 @@ fn handler_of<R: Wait + Copy, L: Ledger, B: Ledger, N: JournalName, S, F: Device
     desk: Desk<L, B, N>,
     asked: Pass<L, B, N>,
 ) -> Result<Handler<R, L, B, N>, AllocError>
+    requires { AreNamed (arc_value office.now.pages).names N.opening.fleet.jobs }
     ensures { IfOk result (λ h. h.kept ≡ None → journal.now ≡ None) }
 {
     match Shown::of(rt, alloc, office, journal) {
@@ -168,7 +214,8 @@ impl<N: JournalName> Shown<N> {
         office: &Office<S, F, C>,
         journal: &Option<DeskJournal<F, N>>,
     ) -> Result<Shown<N>, AllocError>
-        ensures { IfOk result (λ s. s.kept ≡ None → journal.now ≡ None) }
+        ensures kept { IfOk result (λ s. s.kept ≡ None → journal.now ≡ None) }
+        ensures pages { IfOk result (λ s. arc_value s.pages ≡ arc_value office.now.pages) }
     {
         let kept = kept_of(rt, alloc, journal)?;
         let texts = shared(alloc, ListTexts::new(alloc))?;
@@ -191,6 +238,7 @@ fn handler_with<R: Copy, L: Ledger, B: Ledger, N: JournalName, S, F, C>(
     desk: Desk<L, B, N>,
     asked: Pass<L, B, N>,
 ) -> Result<Handler<R, L, B, N>, AllocError>
+    requires { AreNamed (arc_value shown.pages).names N.opening.fleet.jobs }
     ensures { IfOk result (λ h. h.kept ≡ shown.kept) }
 {
     let doors = match Arc::try_clone(&office.doors) {

@@ -3,6 +3,7 @@ pub mod Entries
 pub mod Says
 pub mod Spans
 pub mod Listing
+pub mod Named
 pub mod Texts
 pub mod Looks
 pub mod Writing

@@ -10,6 +10,7 @@ ghost use Rattle.sd_routes.specs.declared.responding.Said.TheVariants.{Answer as
 ghost use Rattle.service_state.specs.Jobs.{place_of};
 ghost use Rattle.sd_server.specs.Spans.{IsEntered, Moves, Span, between, now_of};
 ghost use Rattle.sd_server.specs.Texts.{certificate_text, job_text};
+ghost use Rattle.sd_server.specs.Named.{AreNamed};
 ghost use Rattle.sd_server.specs.Entries.{Comes, Leads, OnceKept, WaitsFor};
 ghost use Rattle.sd_server.specs.Says.{IsAtOnce, IsPlain, IsUncoveredText, Says, SaysCopy, SaysDocument, SaysEvent, SaysChange, SaysIn, SaysJob, SaysLive, SaysMetrics, SaysNot, SaysOfLeft, SaysPage, SaysQuit, SaysReady, SaysRefused, SaysReload, SaysText, SaysUncovered, is_of_journal};
 
@@ -46,7 +47,8 @@ use target_shares::{NumberedTarget, Share};
 use tokio::sync::oneshot::Receiver;
 use tokio::time::{Handle, Timeout};
 
-/// What a request is handled with: the runtime's handle, the desk, a pass of it and the configuration's pages.
+/// What a request is handled with: the runtime's handle, the desk, a pass of it and the configuration's pages. The jobs of the allocator that the desk
+/// was opened with are those of the configuration (`are_named`).
 #[derive(Drop)]
 pub struct Handler<R, L: Ledger, B: Ledger, N: JournalName> {
     pub rt: R,
@@ -69,6 +71,7 @@ pub struct Handler<R, L: Ledger, B: Ledger, N: JournalName> {
     pub time: Option<Handle>,
     /// How many connections there are, where somebody tells.
     pub gate: Option<Arc<Gate>>,
+    ghost named: { AreNamed (arc_value pages).names N.opening.fleet.jobs },
 }
 
 impl<R: Wait + Clock + Copy, L: Ledger, B: Ledger, N: JournalName> Handler<R, L, B, N> {
