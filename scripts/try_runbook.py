@@ -15,6 +15,9 @@ from allocd_service import ROOT
 CRATES = ("service_tasks", "serve_command", "journal_files", "log_queue", "daemon")
 LEVELS = {"log_info": "info", "log_warning": "warn", "log_error": "error", "info!": "info", "warn!": "warn", "error!": "error"}
 CALL = re.compile(r"(?<![\w!])(log_info|log_warning|log_error|info!|warn!|error!)(_of)?\(")
+OF_COLLECTOR = re.compile(r"(?<![\w.])log_of_(?:name|number)\(&self\.rt, Level::(\w+),")
+BY_ANSWER = re.compile(r'if is_refused \{ "(\w+)" \} else \{ "(\w+)" \}')
+OF_ANSWER = re.compile(r'(?<!\w)log!\([^;]*; level,[^;]*; "([^"]*[^"{}][^"]* [^"]*)"')
 LITERAL = re.compile(r'"((?:[^"\\]|\\.)*)"')
 # What stands in place of a text that changes.
 HOLE = ".."
@@ -61,7 +64,23 @@ def log_lines():
                 continue
             line = pattern_of(literals[-1]) + (f": {HOLE}" if call.group(2) else "")
             found[LEVELS[call.group(1)], line] = name
+        for level, line in lines_of_collectors(text):
+            found[level, line] = name
     return found
+
+
+def lines_of_collectors(text):
+    """Those of one collector: the level stands in the call, the text in `let line` before it; or the level is that of an answer, with a word of two for it, or with one for what was asked."""
+    for call in OF_COLLECTOR.finditer(text):
+        said = text[: call.start()].rpartition("let line =")[2].partition(";")[0]
+        for literal in LITERAL.findall(said):
+            yield "warn" if call.group(1) == "Warn" else "info", pattern_of(literal)
+    for refused, entered in BY_ANSWER.findall(text):
+        yield "warn", refused
+        yield "info", entered
+    for literal in OF_ANSWER.findall(text):
+        for level in ("info", "warn"):
+            yield level, pattern_of(literal)
 
 
 def told_lines():
