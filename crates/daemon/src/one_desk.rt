@@ -55,7 +55,9 @@ where
     ensures file { IfOk result (λ r. IsOfService F.tells F.contents r.0 office.new.journal.file) }
 {
     match are_named(alloc, &office.pages, core.fleet().jobs()) {
-        Ok(true) => serve_named(rt, alloc, service, office, core, calls, samples, log),
+        Ok(true) => serve_named::<R, L, B, N, S, F, C>(
+            rt, alloc, service, office, core, calls, samples, log,
+        ),
         Ok(false) => {
             drop(core);
             Err(io::Error::other("the configuration has other jobs than the allocator"))

@@ -58,7 +58,7 @@ where
     requires log { log ≡ N.book }
 {
     match Shown::of(alloc, session, core.fleet().jobs()) {
-        Ok(shown) => run_shown(
+        Ok(shown) => run_shown::<R, L, B, N>(
             rt, alloc, session, shown, core, seats, calls, samples, log, text,
         ),
         Err(AllocError) => {
