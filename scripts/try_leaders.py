@@ -197,6 +197,7 @@ def one(t):
         t.holds(f"join {i}", a.join(f"c{i}") == 200)
     t.holds("a list", a.ask("GET", "/jobs/node/targets?collector_id=c0")[0] == 200)
     t.holds("metrics", "\nallocd_leading 1\n" in a.ask("GET", "/metrics")[1])
+    t.holds(f"it says that it leads: {a.ask('GET', '/-/leading')}", a.ask("GET", "/-/leading")[:2] == (200, "allocd leads.\n"))
     t.holds(f"a status of 0: {a.said()[-300:]}", a.quit() == 0)
     t.holds("20 joins", len(t.all_kept()) == 20)
 
@@ -355,6 +356,21 @@ def renewed(t):
     t.holds("the third epoch", t.cluster.get(f"/{t.prefix}/epoch") == b"3")
     t.holds("three epochs", len(t.epochs()) == 3)
     t.all_kept()
+
+
+@row("where fewer epochs are kept than before, those that are too many go as another begins")
+def fewer(t):
+    a = t.leading("a", config=config_of(keep=9))
+    for epoch in range(2, 6):
+        a.write(config_of(jobs=("node", f"web{epoch}"), keep=9))
+        t.holds("a reload", a.ask("POST", "/-/reload")[0] == 200)
+        t.holds(f"epoch {epoch}", comes(lambda: t.cluster.get(f"/{t.prefix}/epoch") == str(epoch).encode(), 20))
+    t.holds("a join", comes(lambda: a.join("a0") == 200, 10))
+    t.holds("five epochs", len(t.epochs()) == 5)
+    t.holds("a status of 0", a.quit() == 0)
+    t.leading("b", config=config_of(jobs=("node", "last"), keep=1))
+    t.holds(f"two epochs: {t.epochs()}", len(t.epochs()) == 2)
+    t.holds("the join", t.all_kept() == ["a0"])
 
 
 @row("a snapshot is restored under a leader that was stopped")

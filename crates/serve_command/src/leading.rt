@@ -5,12 +5,13 @@ use crate::devices::Devices;
 use crate::in_etcd::Begun;
 use crate::instance::Instance;
 use crate::running::{log_address, log_end};
+use crate::standing_by::{TIMES, answer_then_quit};
 use command_words::VERSION;
 use durable_journal::next_epoch;
 use etcd_archive::{Began, open_allocator};
 use etcd_client::EtcdClient;
 use etcd_journal::Opened;
-use event_loops::Runtime;
+use event_loops::{Gate, Runtime};
 use journal_files::{Fault, Wanted};
 use kept_journal::JournalFile;
 use log::warn;
@@ -20,6 +21,7 @@ use std::fs::File;
 use std::net::TcpListener;
 use std::rt::Files;
 use std::sync::Arc;
+use std::thread;
 use std::time::Clock;
 
 /// Serves over the journal of an instance that leads, until the service is to end or another leads. Where the instance was told to end meanwhile it does not begin.
@@ -99,7 +101,7 @@ fn log_faults<R: Clock + Eprint + Copy>(rt: &R, fault: &str) {
     warn!(Logfmt(*rt); fault:% = fault; "the configuration has faults now: this instance follows the one that it read when it began");
 }
 
-/// Serves over the journal that was opened.
+/// Serves over the journal that was opened. Where the instance was told to end while that was replayed it does not begin.
 fn serve_led<R>(
     rt: &R,
     instance: &Instance,
@@ -112,13 +114,11 @@ fn serve_led<R>(
 where
     R: Runtime + Files<File = File> + Print + Eprint,
 {
-    match open_allocator(
-        rt,
-        instance.alloc,
-        instance.name(),
-        opened,
-        wanted_by(rt, &service),
-    ) {
+    match replayed(rt, instance, &listener, opened, wanted_by(rt, &service)) {
+        Ok(began) if instance.standing.is_quitting() => {
+            drop((service, configuration, listener, device, began));
+            Ok(())
+        }
         Ok(began) => serve_began(
             rt,
             instance,
@@ -133,6 +133,53 @@ where
             Err(fault)
         }
     }
+}
+
+/// The allocator that the journal leads to. Requests are answered as by who stands by meanwhile.
+fn replayed<R>(
+    rt: &R,
+    instance: &Instance,
+    listener: &TcpListener,
+    opened: Opened<EtcdClient<R>>,
+    wanted: Wanted<'_>,
+) -> Result<Began<R, EtcdClient<R>>, Fault>
+where
+    R: Runtime + Files<File = File> + Print + Eprint,
+{
+    let gate = match Gate::new(instance.alloc, instance.connections, TIMES) {
+        Ok(gate) => gate,
+        Err(error) => {
+            drop(opened);
+            return Err(error.into());
+        }
+    };
+    let (served, began) = thread::join(
+        rt,
+        || answer_then_quit(rt, instance, &gate, listener),
+        || replay_then_stop(rt, instance, opened, wanted, &gate),
+    );
+    match served {
+        Ok(()) => began,
+        Err(error) => {
+            drop(began);
+            Err(Fault::Machine(error))
+        }
+    }
+}
+
+fn replay_then_stop<R>(
+    rt: &R,
+    instance: &Instance,
+    opened: Opened<EtcdClient<R>>,
+    wanted: Wanted<'_>,
+    gate: &Gate,
+) -> Result<Began<R, EtcdClient<R>>, Fault>
+where
+    R: Runtime + Files<File = File> + Print + Eprint,
+{
+    let began = open_allocator(rt, instance.alloc, instance.name(), opened, wanted);
+    gate.stop();
+    began
 }
 
 /// What a journal is to go on with under a service.

@@ -15,9 +15,6 @@ use sd_routes::{Ask, Notice, RequestError, Said, answer, route};
 use std::alloc::{AllocError, Global};
 use std::sync::Wait;
 
-/// Where it is told whether an instance leads.
-const LEADING: &str = "/-/leading";
-
 /// The response to a request with this head, whose body is not read.
 pub(crate) fn response_to<R: Wait>(
     rt: &R,
@@ -44,32 +41,25 @@ fn reply_to<R: Wait>(
     head: &Head,
 ) -> Result<Reply, AllocError> {
     match asked(alloc, standing, head) {
-        Ok(Some(ask)) => {
+        Ok(ask) => {
             let reply = told(rt, alloc, standing, &ask, &head.uri);
             drop(ask);
             reply
         }
-        Ok(None) => Ok(Reply::Unavailable(leading_line(rt, alloc, standing)?)),
         Err(RequestError::Memory) => Err(AllocError),
         Err(error) => Ok(Reply::Said(Said::Refused(error))),
     }
 }
 
-/// What a request asks for, where it is let in. None where it asks whether this instance leads.
-fn asked(alloc: Global, standing: &Standing, head: &Head) -> Result<Option<Ask>, RequestError> {
-    if is_leading(head) {
-        return match standing.doors.refusal(None, &head.headers) {
-            Some(error) => Err(error),
-            None => Ok(None),
-        };
-    }
+/// What a request asks for, where it is let in.
+fn asked(alloc: Global, standing: &Standing, head: &Head) -> Result<Ask, RequestError> {
     match route(&standing.routes, alloc, &head.method, &head.uri) {
         Ok(ask) => match standing.doors.refusal(Some(&ask), &head.headers) {
             Some(error) => {
                 drop(ask);
                 Err(error)
             }
-            None => Ok(Some(ask)),
+            None => Ok(ask),
         },
         Err(RequestError::Memory) => Err(RequestError::Memory),
         Err(missing) => match standing.doors.refusal(None, &head.headers) {
@@ -77,12 +67,6 @@ fn asked(alloc: Global, standing: &Standing, head: &Head) -> Result<Option<Ask>,
             None => Err(missing),
         },
     }
-}
-
-/// Whether a request asks whether this instance leads.
-fn is_leading(head: &Head) -> bool {
-    let method = head.method.as_str();
-    head.uri.path() == LEADING && (method == "GET" || method == "HEAD")
 }
 
 /// What is told to a request that is let in.
@@ -96,6 +80,7 @@ fn told<R: Wait>(
     match ask {
         Ask::Healthy | Ask::Live => Ok(noticed(Notice::Healthy)),
         Ask::Ready => Ok(noticed(readiness(rt, standing))),
+        Ask::Leading => Ok(Reply::Unavailable(leading_line(rt, alloc, standing)?)),
         Ask::Metrics => {
             let page = standing.metrics(rt, alloc)?;
             Ok(Reply::Said(Said::Metrics(Text::from_string(page))))
