@@ -19,7 +19,8 @@ pub(crate) fn tell_settings(
     value: &Value,
 ) -> Result<(), AllocError> {
     match read_settings(alloc, document) {
-        Ok(_) => {
+        Ok(settings) => {
+            drop(settings);
             tell_etcd(alloc, lines, document)?;
             tell_durations(alloc, lines, value)
         }
@@ -31,7 +32,10 @@ pub(crate) fn tell_settings(
 /// Tells the first thing that is wrong with what is said of a journal in etcd.
 fn tell_etcd(alloc: Global, lines: &mut Lines<'_>, document: &[u8]) -> Result<(), AllocError> {
     match read_members(alloc, document) {
-        Ok(_) => Ok(()),
+        Ok(members) => {
+            drop(members);
+            Ok(())
+        }
         Err(etcd_settings::SettingsError::Memory) => Err(AllocError),
         Err(error) => {
             let (path, missing) = (error.path(), error.missing());

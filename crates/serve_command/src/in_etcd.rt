@@ -125,15 +125,38 @@ where
 {
     let watch = watch_of(instance.alloc)?;
     let keeper = instance.keeper(rt, &watch)?;
-    let mut client = instance.client(rt, &watch)?;
-    match grant(instance.alloc, &mut client, instance.seconds())? {
-        Some(granted) => Ok(Some(Under {
+    match instance.client(rt, &watch) {
+        Ok(client) => granted_to(instance, watch, client, keeper),
+        Err(error) => {
+            drop((watch, keeper));
+            Err(error)
+        }
+    }
+}
+
+/// Asks for a lease by this client.
+fn granted_to<R: Runtime>(
+    instance: &Instance,
+    watch: Arc<Watch>,
+    client: EtcdClient<R>,
+    keeper: EtcdClient<R>,
+) -> Result<Option<Under<R>>, AllocError> {
+    let mut client = client;
+    match grant(instance.alloc, &mut client, instance.seconds()) {
+        Ok(Some(granted)) => Ok(Some(Under {
             granted,
             watch,
             client,
             keeper,
         })),
-        None => Ok(None),
+        Ok(None) => {
+            drop((watch, client, keeper));
+            Ok(None)
+        }
+        Err(error) => {
+            drop((watch, client, keeper));
+            Err(error)
+        }
     }
 }
 

@@ -99,10 +99,10 @@ impl Instance {
         lookups: &Arc<Lookups>,
         watch: &Arc<Watch>,
     ) -> Result<EtcdClient<R>, AllocError> {
-        let lookups = Arc::try_clone(lookups)?;
         let endpoints = self.endpoints()?;
         let login = self.login()?;
         let watch = Arc::try_clone(watch)?;
+        let lookups = Arc::try_clone(lookups)?;
         Ok(EtcdClient::new(*rt, lookups, endpoints, login, watch))
     }
 
@@ -170,15 +170,20 @@ impl Parts {
     ) -> Result<Parts, Fault> {
         let advertise = advertise_of(rt.alloc(), asked, settings)?;
         let login = login_of(rt, asked.options.config, settings)?;
-        let standing = standing_of(rt, asked, service, &advertise)?;
         let (lookups, keepers) = lookups_of(machine)?;
-        Ok(Parts {
-            advertise,
-            login,
-            lookups,
-            keepers,
-            standing,
-        })
+        match standing_of(rt, asked, service, &advertise) {
+            Ok(standing) => Ok(Parts {
+                advertise,
+                login,
+                lookups,
+                keepers,
+                standing,
+            }),
+            Err(fault) => {
+                drop((advertise, login, lookups, keepers));
+                Err(fault)
+            }
+        }
     }
 }
 
