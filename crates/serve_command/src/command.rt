@@ -26,9 +26,11 @@ use std::io;
 use std::io::Write;
 use std::net::{Net, SocketAddr, TcpListener, TcpStream};
 use std::process::ExitCode;
+use std::random::RandomSource;
 use std::rt::Files;
 use std::sync::atomic::AtomicU64;
 use std::sync::{Arc, Wait};
+use std::thread::Threads;
 use std::time::{Clock, Duration};
 
 /// The status where the machine failed.
@@ -52,7 +54,19 @@ pub fn serve<R, Q>(
 ) -> ExitCode
 where
     R: Wait + Clock + Files<File = File> + AllocGlobal + Eprint + Copy,
-    Q: Runtime + Files<File = File> + Print + Eprint,
+    Q: Wait
+        + Threads
+        + Clock
+        + Net<Listener = TcpListener, Stream = TcpStream>
+        + Files<File = File>
+        + RandomSource
+        + AllocGlobal
+        + Print
+        + Eprint
+        + Sync
+        + Send
+        + Copy
+        + Drop,
 {
     let _streams = hold_streams(rt, rt.alloc());
     let ended = serve_by(queued, machine, options, queue.lost());
