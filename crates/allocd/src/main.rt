@@ -13,7 +13,7 @@ use offline_commands::{
     Ending, Status, Stop, audit_files, books_of_files, run, seal_file, write_last, write_stop,
 };
 use scrape_client::start_lookups;
-use serve_command::{Machine, serve};
+use serve_command::{Machine, etcd_lookups, serve};
 use std::alloc::Global;
 use std::env::Args;
 use std::fs::File;
@@ -34,13 +34,17 @@ fn main(rt: HostRuntime) -> ExitCode {
         Ok(words) => match read_words(rt.alloc(), words.as_slice()) {
             Ok(Asked::Serve(options)) => match start_log(&rt) {
                 Ok(queue) => match start_lookups(&rt) {
-                    Ok(lookups) => {
-                        let machine = Machine {
-                            host: rt,
-                            lookups: &lookups,
-                        };
-                        serve(&rt, &Queued::new(rt, &queue), machine, &options, &queue)
-                    }
+                    Ok(lookups) => match etcd_lookups(&rt, &options) {
+                        Ok(etcd) => {
+                            let machine = Machine {
+                                host: rt,
+                                lookups: &lookups,
+                                etcd: etcd.as_ref(),
+                            };
+                            serve(&rt, &Queued::new(rt, &queue), machine, &options, &queue)
+                        }
+                        Err(_) => stopped_without_memory(&rt),
+                    },
                     Err(_) => stopped_without_memory(&rt),
                 },
                 Err(_) => stopped_without_memory(&rt),

@@ -12,7 +12,7 @@ use Rattle.sd_routes.specs.declared.access.Access.{Access}
 use Rattle.sd_routes.specs.declared.access.Access.TheVariants.{Shown, Noted, Looked, Taken, Reported, Changed}
 use Rattle.sd_routes.specs.declared.acknowledgement.Acknowledgement.{Acknowledgement}
 use Rattle.sd_routes.specs.declared.ask.Ask.{Ask}
-use Rattle.sd_routes.specs.declared.ask.Ask.TheVariants.{Status, ScrapeConfigs, Jobs, Job, JobTargets, CollectorTargets, Uncovered, FindTargets, Acknowledged, Allocations, Books, Certificate, Collectors, Collector, Join, Leave, Drain, Release, SetLimits, Report, Healthy, Live, Ready, Metrics, Reload, Quit}
+use Rattle.sd_routes.specs.declared.ask.Ask.TheVariants.{Status, ScrapeConfigs, Jobs, Job, JobTargets, CollectorTargets, Uncovered, FindTargets, Acknowledged, Allocations, Books, Certificate, Collectors, Collector, Join, Leave, Drain, Release, SetLimits, Report, Healthy, Live, Ready, Leading, Metrics, Reload, Quit}
 use Rattle.sd_routes.specs.declared.place.Place.{Place}
 use Rattle.sd_routes.specs.declared.place.Place.TheVariants as place
 use Rattle.sd_routes.specs.declared.purpose.Purpose.{Purpose}
@@ -177,6 +177,7 @@ asked_at place.Reports purpose path query = Ok Report
 asked_at place.Healthy purpose path query = Ok Healthy
 asked_at place.Live purpose path query = Ok Live
 asked_at place.Ready purpose path query = Ok Ready
+asked_at place.Leading purpose path query = Ok Leading
 asked_at place.Metrics purpose path query = Ok Metrics
 asked_at place.Reload purpose path query = Ok Reload
 asked_at place.Quit purpose path query = Ok Quit
@@ -220,6 +221,7 @@ access_of Report = Reported
 access_of Healthy = Shown
 access_of Live = Shown
 access_of Ready = Shown
+access_of Leading = Shown
 access_of Metrics = Shown
 access_of Reload = Changed
 access_of Quit = Changed

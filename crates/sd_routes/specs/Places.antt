@@ -1,7 +1,7 @@
 -- The places that paths name, their paths, and their methods.
 use Rattle.std.specs.Prelude.{ℕ, ◌==◌, ◌&&◌, ◌++◌, List, [], ◌∷◌, Bool, true, false, not, codes, Option, Some, None, if◌then◌else◌, Result, Ok, Err, bytes_eq}
 use Rattle.sd_routes.specs.declared.place.Place.{Place}
-use Rattle.sd_routes.specs.declared.place.Place.TheVariants.{Status, ScrapeConfigs, Jobs, Job, JobTargets, Uncovered, Targets, Acknowledged, Allocations, Books, Certificate, Collectors, Collector, Drain, Release, Limits, Reports, Healthy, Live, Ready, Metrics, Reload, Quit}
+use Rattle.sd_routes.specs.declared.place.Place.TheVariants.{Status, ScrapeConfigs, Jobs, Job, JobTargets, Uncovered, Targets, Acknowledged, Allocations, Books, Certificate, Collectors, Collector, Drain, Release, Limits, Reports, Healthy, Live, Ready, Leading, Metrics, Reload, Quit}
 use Rattle.matchit.specs.Rows.{RowsOf}
 use Rattle.matchit.specs.Order.{placed}
 use Rattle.matchit.specs.Route.{parse_route, Scan}
@@ -24,6 +24,7 @@ slash = 47
 abbrev pub table : List (List ℕ × Place)
 table =
     (codes "/-/healthy", Healthy)
+    ∷ (codes "/-/leading", Leading)
     ∷ (codes "/-/quit", Quit)
     ∷ (codes "/-/ready", Ready)
     ∷ (codes "/-/reload", Reload)
@@ -109,10 +110,11 @@ route_rows =
     with_route (codes "/-/quit") Quit
     (with_route (codes "/-/reload") Reload
     (with_route (codes "/metrics") Metrics
+    (with_route (codes "/-/leading") Leading
     (with_route (codes "/readyz") Ready
     (with_route (codes "/-/ready") Ready
     (with_route (codes "/livez") Live
-    (with_route (codes "/-/healthy") Healthy desk_rows))))))
+    (with_route (codes "/-/healthy") Healthy desk_rows)))))))
 
 -- ---- methods, and what each is for
 
@@ -138,6 +140,7 @@ is_shown Reports = false
 is_shown Healthy = true
 is_shown Live = true
 is_shown Ready = true
+is_shown Leading = true
 is_shown Metrics = true
 is_shown Reload = false
 is_shown Quit = false
@@ -164,6 +167,7 @@ changed_by Reports = Some (codes "POST")
 changed_by Healthy = None
 changed_by Live = None
 changed_by Ready = None
+changed_by Leading = None
 changed_by Metrics = None
 changed_by Reload = Some (codes "POST")
 changed_by Quit = Some (codes "POST")

@@ -65,6 +65,8 @@ pub enum Ask {
     Live,
     /// Whether the service is ready to answer.
     Ready,
+    /// Whether the service leads, and does not stand by.
+    Leading,
     /// What the service counts.
     Metrics,
     /// The configuration is to be read again.
@@ -94,6 +96,7 @@ impl Ask {
             | Ask::Healthy
             | Ask::Live
             | Ask::Ready
+            | Ask::Leading
             | Ask::Metrics => Access::Shown,
             Ask::Acknowledged {
                 told: _,
@@ -160,6 +163,7 @@ impl Ask {
             Ask::Healthy => Route::Healthy,
             Ask::Live => Route::Live,
             Ask::Ready => Route::Ready,
+            Ask::Leading => Route::Leading,
             Ask::Metrics => Route::Metrics,
             Ask::Reload => Route::Reload,
             Ask::Quit => Route::Quit,
@@ -191,6 +195,7 @@ pub enum Route {
     Healthy,
     Live,
     Ready,
+    Leading,
     Metrics,
     Reload,
     Quit,
@@ -226,6 +231,7 @@ pub const ROUTES: [Route; ROUTE_COUNT] = [
     Route::Healthy,
     Route::Live,
     Route::Ready,
+    Route::Leading,
     Route::Metrics,
     Route::Reload,
     Route::Quit,
@@ -259,6 +265,7 @@ impl Route {
             Route::Healthy => "/-/healthy",
             Route::Live => "/livez",
             Route::Ready => "/-/ready",
+            Route::Leading => "/-/leading",
             Route::Metrics => "/metrics",
             Route::Reload => "POST /-/reload",
             Route::Quit => "POST /-/quit",

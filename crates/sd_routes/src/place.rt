@@ -29,6 +29,7 @@ pub enum Place {
     Healthy,
     Live,
     Ready,
+    Leading,
     Metrics,
     Reload,
     Quit,
@@ -55,6 +56,7 @@ impl Place {
             | Place::Healthy
             | Place::Live
             | Place::Ready
+            | Place::Leading
             | Place::Metrics => "GET, HEAD",
             Place::Collectors => "GET, HEAD, POST",
             Place::Collector => "GET, HEAD, DELETE",
@@ -101,6 +103,7 @@ impl Place {
             | Place::Healthy
             | Place::Live
             | Place::Ready
+            | Place::Leading
             | Place::Metrics => true,
             Place::Drain
             | Place::Release
@@ -130,6 +133,7 @@ impl Place {
             | Place::Healthy
             | Place::Live
             | Place::Ready
+            | Place::Leading
             | Place::Metrics => None,
             Place::Collectors | Place::Drain | Place::Release | Place::Reports => Some("POST"),
             Place::Reload | Place::Quit => Some("POST"),
@@ -158,6 +162,7 @@ fn put_service_rows(router: &mut Router<Place>) -> Result<(), InsertError>
     router.insert("/livez", Place::Live)?;
     router.insert("/-/ready", Place::Ready)?;
     router.insert("/readyz", Place::Ready)?;
+    router.insert("/-/leading", Place::Leading)?;
     router.insert("/metrics", Place::Metrics)?;
     router.insert("/-/reload", Place::Reload)?;
     router.insert("/-/quit", Place::Quit)

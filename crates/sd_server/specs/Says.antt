@@ -35,7 +35,7 @@ use Rattle.sd_routes.specs.declared.which_collector.WhichCollector.{WhichCollect
 use Rattle.sd_routes.specs.declared.ask.Ask.{Ask}
 use Rattle.sd_routes.specs.declared.ask.Ask.TheVariants as ask
 use Rattle.sd_routes.specs.declared.list_head.ListHead.{ListHead}
-use Rattle.sd_routes.specs.declared.notice.Notice.TheVariants.{Healthy, Broken, Ready, NotReady, Quitting, NoLifecycle}
+use Rattle.sd_routes.specs.declared.notice.Notice.TheVariants.{Healthy, Broken, Ready, NotReady, Leading, Quitting, NoLifecycle}
 use Rattle.sd_routes.specs.declared.request_error.RequestError.{RequestError}
 use Rattle.sd_routes.specs.declared.request_error.RequestError.TheVariants.{NoRoute, Shape, UnknownRound, JournalFull, NotKept, Memory}
 use Rattle.sd_routes.specs.declared.responding.Said.{Said}
@@ -335,6 +335,7 @@ SaysPage span pages ask.Certificate said = SaysText span certificate_text said
 SaysPage span pages ask.Healthy said = said ≡ Noticed Healthy
 SaysPage span pages ask.Live said = SaysLive said
 SaysPage span pages ask.Ready said = SaysReady said
+SaysPage span pages ask.Leading said = said ≡ Noticed Leading
 SaysPage span pages ask.Metrics said = SaysMetrics said
 SaysPage span pages ask.Reload said = SaysReload said
 SaysPage span pages ask.Quit said = SaysQuit said

@@ -70,6 +70,7 @@ impl<R: Wait + Clock + Copy, L: Ledger, B: Ledger, N: JournalName> Handler<R, L,
             | Ask::Healthy
             | Ask::Live
             | Ask::Ready
+            | Ask::Leading
             | Ask::Metrics
             | Ask::Reload
             | Ask::Quit => None,

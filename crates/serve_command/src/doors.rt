@@ -131,7 +131,10 @@ fn told<T>(alloc: Global, path: &str, member: &str, file: &str, why: &str) -> Re
 }
 
 /// The text of a file that nobody but its owner may read.
-fn text_at<R: Files<File = File> + AllocGlobal>(rt: &R, path: &str) -> io::Result<Option<String>> {
+pub(crate) fn text_at<R: Files<File = File> + AllocGlobal>(
+    rt: &R,
+    path: &str,
+) -> io::Result<Option<String>> {
     let file = File::open(rt, path)?;
     if file.metadata()?.permissions().mode() & OTHERS != 0 {
         return Ok(None);

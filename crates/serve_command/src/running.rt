@@ -60,7 +60,7 @@ where
     }
 }
 
-fn log_end<R: Clock + Eprint + Copy>(rt: &R, samples: u128) {
+pub(crate) fn log_end<R: Clock + Eprint + Copy>(rt: &R, samples: u128) {
     info!(Logfmt(*rt); samples:% = samples; "ended");
 }
 
@@ -72,7 +72,7 @@ fn tell_what_is_kept<R: Clock + Eprint + Copy>(rt: &R, journal: &Option<String>)
 }
 
 /// Tells where nobody notices that a collector is dead.
-fn tell_who_is_missed<R: Clock + Eprint + Copy>(rt: &R, service: &Service) {
+pub(crate) fn tell_who_is_missed<R: Clock + Eprint + Copy>(rt: &R, service: &Service) {
     if !service.notices_absence() {
         warn!(Logfmt(*rt); "collector_timeout is never: nobody notices a collector that is dead, and its targets stay with it");
     }
@@ -160,6 +160,6 @@ where
     )
 }
 
-fn log_address<R: Clock + Eprint + Copy>(rt: &R, here: SocketAddr) {
+pub(crate) fn log_address<R: Clock + Eprint + Copy>(rt: &R, here: SocketAddr) {
     info!(Logfmt(*rt); address:% = here; "listening");
 }

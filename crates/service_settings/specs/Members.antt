@@ -14,7 +14,7 @@ use Rattle.service_settings.specs.Reading.{◌>>=◌}
 
 abbrev pub names_of : Kind → List (List ℕ)
 names_of Allocator =
-    codes "listen" ∷ codes "lifecycle" ∷ codes "journal" ∷ codes "keep" ∷ codes "settle" ∷ codes "give_up" ∷ codes "connections" ∷ codes "report_rounds" ∷ codes "hosts" ∷ codes "tokens" ∷ codes "open_to_all"
+    codes "listen" ∷ codes "lifecycle" ∷ codes "journal" ∷ codes "advertise" ∷ codes "lease" ∷ codes "etcd_user" ∷ codes "etcd_password_file" ∷ codes "keep" ∷ codes "settle" ∷ codes "give_up" ∷ codes "connections" ∷ codes "report_rounds" ∷ codes "hosts" ∷ codes "tokens" ∷ codes "open_to_all"
     ∷ codes "allow_no_jobs" ∷ codes "collectors" ∷ codes "join_by_asking" ∷ codes "reach_changes" ∷ codes "rejoin" ∷ codes "collector_timeout" ∷ codes "handover" ∷ codes "acknowledge" ∷ codes "release_after" ∷ codes "spread" ∷ codes "fetch_timeout" ∷ []
 names_of Lifecycle = codes "reload" ∷ codes "quit" ∷ []
 names_of Tokens = codes "admin" ∷ codes "collectors" ∷ []

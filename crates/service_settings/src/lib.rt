@@ -19,5 +19,5 @@ pub use settings::{
     Collector, CollectorTimeout, DEFAULT_CONNECTIONS, DEFAULT_FETCH_TIMEOUT, DEFAULT_GIVE_UP,
     DEFAULT_INTERVAL, DEFAULT_KEEP, DEFAULT_LISTEN, DEFAULT_REPORT_ROUNDS, DEFAULT_SETTLE,
     DEFAULT_SLACK, Doors, Handover, JobSpread, JoiningPattern, LONGEST_PATTERN, Lifecycle,
-    MOST_SLACK, ReachChanges, ReleaseAfter, Settings, Spread, read_settings,
+    MOST_SLACK, ReachChanges, ReleaseAfter, Settings, Spread, is_host_and_port, read_settings,
 };

@@ -341,6 +341,9 @@ fn write_process(page: &mut Exposition, state: &ServiceState) -> Result<(), Allo
     let name = "allocd_build_info";
     page.family(name, Kind::Gauge, "The version of the program.")?;
     page.labelled_sample(name, "version", state.version(), 1)?;
+    if state.is_leading() {
+        write_gauge(page, "allocd_leading", "Whether this instance leads.", 1)?;
+    }
     write_gauge(
         page,
         "process_start_time_seconds",

@@ -269,6 +269,9 @@ fn state_of<R: Clock>(
         state.set_started(since.as_secs());
     }
     state.set_version(service.version);
+    if service.is_leading {
+        state.set_leading();
+    }
     if let Some(lost_lines) = &service.lost_lines {
         match Arc::try_clone(lost_lines) {
             Ok(lost_lines) => state.set_log(lost_lines),
