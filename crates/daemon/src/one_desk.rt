@@ -7,7 +7,7 @@ ghost use Rattle.sd_server.specs.Named.{AreNamed};
 ghost use Rattle.service_tasks.specs.Later.{IsLater};
 
 use crate::running::Served;
-use alloc_desk::{Closed, Desk, Log, Pass};
+use alloc_desk::{Closed, Desk, Log, Pass, shared_desk};
 use allocation_core::Core;
 use durable_journal::Device;
 use event_loops::{Gate, Runtime, Times};
@@ -250,7 +250,7 @@ fn handler_with<R: Copy, L: Ledger, B: Ledger, N: JournalName, S, F, C>(
             return Err(error);
         }
     };
-    match seated(alloc, desk, asked) {
+    match shared_desk(alloc, desk, asked) {
         Ok((desk, pass)) => Ok(Handler {
             rt: *rt,
             alloc,
@@ -271,32 +271,6 @@ fn handler_with<R: Copy, L: Ledger, B: Ledger, N: JournalName, S, F, C>(
             Err(error)
         }
     }
-}
-
-/// A desk and the pass of its server, as threads share them.
-fn seated<L: Ledger, B: Ledger, N: JournalName>(
-    alloc: Global,
-    desk: Desk<L, B, N>,
-    asked: Pass<L, B, N>,
-) -> Result<(Arc<Desk<L, B, N>>, Arc<Mutex<Pass<L, B, N>>>), AllocError> {
-    match shared(alloc, desk) {
-        Ok(desk) => match shared(alloc, Mutex::new(asked)) {
-            Ok(pass) => Ok((desk, pass)),
-            Err(error) => {
-                drop(desk);
-                Err(error)
-            }
-        },
-        Err(error) => {
-            drop(asked);
-            Err(error)
-        }
-    }
-}
-
-/// The gate of a server with as many connections as the office has.
-fn gate_of<S, F, C>(alloc: Global, office: &Office<S, F, C>) -> Result<Arc<Gate>, AllocError> {
-    shared(alloc, Gate::new(alloc, office.connections, Times::DEFAULT)?)
 }
 
 fn shared<T: Drop>(alloc: Global, value: T) -> Result<Arc<T>, AllocError> {

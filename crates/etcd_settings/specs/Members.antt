@@ -8,7 +8,8 @@ use Rattle.etcd_settings.specs.declared.error.Member.TheVariants as part
 use Rattle.etcd_settings.specs.declared.place.Place.{Place}
 use Rattle.etcd_settings.specs.declared.members.Members.{Members}
 use Rattle.etcd_settings.specs.declared.members.User.{User}
-use Rattle.etcd_settings.specs.Reading.{◌>>=◌, json_said, lease_said, member_at, text_said}
+use Rattle.service_settings.specs.Reading.{member_at}
+use Rattle.etcd_settings.specs.Reading.{◌>>=◌, json_said, lease_said, text_said}
 use Rattle.etcd_settings.specs.Urls.{url_said}
 use Rattle.etcd_settings.specs.Places.{journal_said}
 

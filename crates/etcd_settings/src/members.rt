@@ -6,9 +6,10 @@ ghost use Rattle.etcd_settings.specs.Members.{journal_member_said, members_read,
 
 use crate::error::{Member, SettingsError};
 use crate::place::{Place, journal_in};
-use crate::reading::{json_in, lease_or_none, member_of, text_or_none, url_or_none};
+use crate::reading::{json_in, lease_or_none, text_or_none, url_or_none};
 use lists::Text;
 use serde_json::Value;
+use service_settings::member_of;
 use std::alloc::Global;
 
 /// As whom etcd is asked.

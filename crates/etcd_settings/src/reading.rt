@@ -2,7 +2,7 @@
 ghost use Rattle.std.specs.Prelude.{◌≡◌, option_map};
 ghost use Rattle.std.specs.List.{list_all};
 ghost use Rattle.serde_json.specs.View.{view};
-ghost use Rattle.etcd_settings.specs.Reading.{Gives, filled_in as filled_in_data, json_said, lease_in as lease_in_data, lease_said, member_at, text_said, within_a_lease as within_lease};
+ghost use Rattle.etcd_settings.specs.Reading.{Gives, filled_in as filled_in_data, json_said, lease_in as lease_in_data, lease_said, text_said, within_a_lease as within_lease};
 ghost use Rattle.etcd_settings.specs.Urls.{is_url as is_url_text, is_url_byte as is_url_code, url_in as url_in_data, url_said};
 
 use crate::error::{Member, SettingsError};
@@ -19,13 +19,6 @@ pub(crate) fn json_in(alloc: Global, bytes: &[u8]) -> Result<Value, SettingsErro
     ensures { Gives view result (json_said bytes.now) }
 {
     parse(alloc, bytes)?.ok_or(SettingsError::NotJson)
-}
-
-/// The member of a name.
-pub(crate) fn member_of<'a>(found: Option<&'a Value>, name: &str) -> Option<&'a Value>
-    ensures { option_map (λ v. view v.now) result ≡ member_at name.now (option_map (λ v. view v.now) found.entry) }
-{
-    found?.get(name)
 }
 
 /// A text that is not empty, or nothing.

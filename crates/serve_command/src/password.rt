@@ -1,10 +1,13 @@
 //! The file of a password.
-use crate::doors::text_at;
 use journal_files::Fault;
 use lists::Text;
+use private_files::private_text;
 use std::alloc::AllocGlobal;
 use std::fs::File;
 use std::rt::Files;
+
+/// The most bytes of the file of a password: 1 MiB.
+const LONGEST_PASSWORD: u64 = 1_048_576;
 
 /// The password in a file that nobody but its owner may read: its first line.
 pub(crate) fn password_at<R: Files<File = File> + AllocGlobal>(
@@ -12,16 +15,12 @@ pub(crate) fn password_at<R: Files<File = File> + AllocGlobal>(
     path: &str,
     file: &str,
 ) -> Result<Text, Fault> {
-    match text_at(rt, file) {
-        Ok(Some(text)) => match text.as_str().lines().next() {
+    match private_text(rt, file, LONGEST_PASSWORD)? {
+        Ok(text) => match text.as_str().lines().next() {
             Some(line) => Ok(Text::from_str(rt.alloc(), line)?),
             None => told(rt, path, file, "it has no line"),
         },
-        Ok(None) => told(rt, path, file, "others may read or write it: chmod 600 it"),
-        Err(error) => {
-            let why = format!(in rt.alloc(); "{error}")?;
-            told(rt, path, file, why.as_str())
-        }
+        Err(why) => told(rt, path, file, why.as_str()),
     }
 }
 

@@ -9,7 +9,7 @@ use crate::asking::ask_all;
 use crate::ended::Halt;
 use crate::staff::{Staff, device};
 use admission::Admission;
-use alloc_desk::{Desk, DeskName, Log, Pass};
+use alloc_desk::{Desk, DeskName, Log, Pass, shared_desk};
 use allocation_core::Core;
 use collector_pool::Open;
 use event_loops::Runtime;
@@ -177,7 +177,7 @@ fn handler_of<R: Copy, L: Ledger, B: Ledger, N: JournalName>(
 ) -> Result<Handler<R, L, B, N>, AllocError>
     requires { AreNamed (arc_value shown.pages).names N.opening.fleet.jobs }
 {
-    match seated(alloc, desk, pass) {
+    match shared_desk(alloc, desk, pass) {
         Ok((desk, pass)) => Ok(Handler {
             rt: *rt,
             alloc,
@@ -260,33 +260,6 @@ fn named_pages(
             Err(AllocError)
         }
     }
-}
-
-/// A desk and the pass of its server, as threads share them.
-fn seated<L: Ledger, B: Ledger, N: DeskName>(
-    alloc: Global,
-    desk: Desk<L, B, N>,
-    pass: Pass<L, B, N>,
-) -> Result<(Arc<Desk<L, B, N>>, Arc<Mutex<Pass<L, B, N>>>), AllocError> {
-    match shared(alloc, desk) {
-        Ok(desk) => match shared(alloc, Mutex::new(pass)) {
-            Ok(pass) => Ok((desk, pass)),
-            Err(error) => {
-                drop(desk);
-                Err(error)
-            }
-        },
-        Err(error) => {
-            drop(pass);
-            Err(error)
-        }
-    }
-}
-
-fn pages_of(alloc: Global, session: &Session) -> Result<Arc<ConfigPages>, AllocError> {
-    let scrape_configs = scrape_configs_text(alloc, &session.config)?;
-    let pages = ConfigPages::of(alloc, &session.config, scrape_configs)?;
-    shared(alloc, pages)
 }
 
 fn shared<T: Drop>(alloc: Global, value: T) -> Result<Arc<T>, AllocError> {
