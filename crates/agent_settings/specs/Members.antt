@@ -19,7 +19,7 @@ member_of Tokens = part.Tokens
 member_of Join = part.Join
 
 -- an object that has no other members
-abbrev pub members_said : Kind → Data → Result Data SettingsError
+unfoldable pub members_said : Kind → Data → Result Data SettingsError
 members_said kind d =
     ok_or (as_object d) (Shape (member_of kind)) >>= λ members.
     option_map_or (λ name. Err (Unknown kind name)) (unknown_in (names_of kind) members) (Ok d)

@@ -68,6 +68,7 @@ pub(crate) fn known_or_none<'a>(
 }
 
 /// Whether the value is an object of this kind, and has no member that is not known.
+#[tactic(auto, unfolding(crate::specs::Members::members_said))]
 pub(crate) fn check_members(alloc: Global, kind: Kind, value: &Value) -> Result<(), SettingsError>
     ensures { Gives (λ _. view value.now) result (members_said kind (view value.now)) }
 {

@@ -1,6 +1,6 @@
 //! Files that hold what only their owner may know, as tokens and passwords.
 #![tactic(auto)]
 
-mod private_text;
+mod text;
 
-pub use private_text::private_text;
+pub use text::private_text;

@@ -21,7 +21,7 @@ names_of JoiningPattern = map (λ s. s.now) JOINING_PATTERN
 names_of Spread = map (λ s. s.now) SPREAD
 
 -- an object that has no other members
-abbrev pub members_said : Kind → Member → Data → Result Data SettingsError
+unfoldable pub members_said : Kind → Member → Data → Result Data SettingsError
 members_said kind part d =
     ok_or (as_object d) (Shape part) >>= λ members.
     option_map_or (λ name. Err (Unknown part name)) (unknown_in (names_of kind) members) (Ok d)
