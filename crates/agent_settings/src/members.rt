@@ -13,7 +13,7 @@ use serde_json::Value;
 use std::alloc::Global;
 
 /// An object whose members are all known.
-#[derive(Clone, Copy, Debug, PartialEq, Eq)]
+#[derive(Clone, Copy, PartialEq, Eq)]
 pub enum Kind {
     Document,
     Tokens,

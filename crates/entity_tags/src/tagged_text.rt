@@ -10,7 +10,7 @@ use std::alloc::{AllocError, Global};
 use std::marker::Model;
 
 /// A text beside its entity tag, where that was made. Contracts see the text.
-#[derive(Debug, Drop)]
+#[derive(Drop)]
 pub struct TaggedText {
     text: Bytes,
     tag: Option<HeaderValue>,

@@ -5,7 +5,7 @@ ghost use Rattle.etcd_settings.specs.Lines.{error_path, error_missing, member_pa
 use std::alloc::AllocError;
 
 /// Why settings were not read.
-#[derive(Clone, Copy, Debug, PartialEq, Eq)]
+#[derive(Clone, Copy, PartialEq, Eq)]
 pub enum SettingsError {
     NotJson,
     /// The member is not what it has to be.

@@ -21,7 +21,7 @@ pub struct User {
 }
 
 /// What the members say. What is left out is none.
-#[derive(Debug, Drop)]
+#[derive(Drop)]
 pub struct Members {
     /// Where the journal is, where it is in etcd.
     pub journal: Option<Place>,

@@ -18,7 +18,7 @@ pub const LONGEST_LEASE: u64 = 60_000;
 pub const DEFAULT_LEASE: u64 = 10_000;
 
 /// The settings of a journal in etcd.
-#[derive(Debug, Drop)]
+#[derive(Drop)]
 pub struct Settings {
     pub place: Place,
     /// The URL that others are sent to while this instance leads. Where nothing is said it is made of the address where it listens.

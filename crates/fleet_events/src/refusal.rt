@@ -87,7 +87,7 @@ impl Refusal {
 }
 
 /// A refusal without its values, as refusals are counted.
-#[derive(Clone, Copy, Debug, PartialEq, Eq)]
+#[derive(Clone, Copy, PartialEq, Eq)]
 pub enum RefusalKind {
     UnknownJob,
     UnknownSource,

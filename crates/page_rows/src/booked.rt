@@ -14,14 +14,14 @@ use sd_routes::{BookCounts, BooksRow, CollectorBooks, JobBooks};
 use std::alloc::{AllocError, Global};
 
 /// What a collector reported of a job.
-#[derive(Clone, Copy, Debug)]
+#[derive(Clone, Copy)]
 struct Tally {
     id: CollectorId,
     counts: BookCounts,
 }
 
 /// What collectors reported of each job, in order of their numbers.
-#[derive(Debug, Drop)]
+#[derive(Drop)]
 struct Tallies {
     /// The counts of who reported nothing, and of whom nothing is missing.
     nothing: BookCounts,

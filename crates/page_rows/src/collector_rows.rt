@@ -10,7 +10,7 @@ use sd_routes::{CollectorRow, WhichCollector};
 use std::alloc::{AllocError, Global};
 
 /// How many live targets of each job a collector holds.
-#[derive(Debug, Drop)]
+#[derive(Drop)]
 struct Tally {
     collector: CollectorId,
     /// By the place of the job.

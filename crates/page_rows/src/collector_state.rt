@@ -10,7 +10,7 @@ use service_pages::{MOST_ROWS, Moment, TargetRow};
 use std::alloc::{AllocError, Global};
 
 /// A live collector at a moment.
-#[derive(Debug, Drop)]
+#[derive(Drop)]
 pub struct CollectorState {
     pub row: CollectorRow,
     /// The first live targets that it holds, in order of number.

@@ -10,7 +10,7 @@ use service_pages::{Moment, Rows, ShownFound, TargetRow};
 use std::alloc::{AllocError, Global};
 
 /// Live targets that have a text, at a moment.
-#[derive(Debug, Drop)]
+#[derive(Drop)]
 pub struct FoundState {
     /// How many they are.
     pub all: u32,

@@ -4,7 +4,7 @@ use fleet_events::{CollectorId, TargetId};
 use std::alloc::{AllocError, Global};
 
 /// A live target that its holder's list leaves out, and the collector whose list has it.
-#[derive(Clone, Copy, Debug, PartialEq, Eq)]
+#[derive(Clone, Copy, PartialEq, Eq)]
 pub struct HandingOver {
     pub target: TargetId,
     /// The collector that is waited for. It may have left.

@@ -8,7 +8,7 @@ use service_pages::{JobShare, Keeper, Moment, TargetRow};
 use std::alloc::{AllocError, Global};
 
 /// A job at a moment.
-#[derive(Debug, Drop)]
+#[derive(Drop)]
 pub struct JobState {
     /// How many targets are live.
     pub live: u32,

@@ -1,7 +1,7 @@
 //! Of which kind a request is.
 
 /// Of which kind a request is: who may ask for it, and whether it is only shown.
-#[derive(Clone, Copy, Debug, PartialEq, Eq)]
+#[derive(Clone, Copy, PartialEq, Eq)]
 pub enum Access {
     /// It is only shown, to whoever asks.
     Shown,

@@ -10,7 +10,7 @@ use lists::Text;
 use reach_rules::CollectorName;
 
 /// What a request asks for, decoded.
-#[derive(Debug, Drop)]
+#[derive(Drop)]
 pub enum Ask {
     /// The page for people.
     Status,
@@ -176,7 +176,7 @@ impl Ask {
 }
 
 /// A route as requests are counted, or that there is none.
-#[derive(Clone, Copy, Debug, PartialEq, Eq)]
+#[derive(Clone, Copy, PartialEq, Eq)]
 pub enum Route {
     Status,
     ScrapeConfigs,

@@ -5,7 +5,7 @@ ghost use Rattle.sd_routes.specs.Notices.{status_noticed, text_noticed};
 use http::StatusCode;
 
 /// What the service says of itself in a line of plain text, after Prometheus's management API.
-#[derive(Clone, Copy, Debug, PartialEq, Eq)]
+#[derive(Clone, Copy, PartialEq, Eq)]
 pub enum Notice {
     /// It answers.
     Healthy,

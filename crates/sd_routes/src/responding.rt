@@ -29,7 +29,7 @@ const POLICY: &str =
     "default-src 'none'; style-src 'unsafe-inline'; form-action 'self'; frame-ancestors 'none'";
 
 /// What a request is answered with.
-#[derive(Debug, Drop)]
+#[derive(Drop)]
 pub enum Said {
     /// What the allocator answers to an event.
     Answer(Answer),

@@ -10,7 +10,7 @@ use lists::List;
 use std::alloc::{AllocError, Global};
 
 /// A list that is served: what it has, and what the collector holds too but another list still has.
-#[derive(Debug, Drop)]
+#[derive(Drop)]
 pub struct ServedList {
     pub listed: List<TargetId>,
     pub left_out: List<TargetId>,

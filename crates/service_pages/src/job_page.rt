@@ -42,7 +42,7 @@ pub struct ShownJob<'a> {
 }
 
 /// How many targets of a job a collector holds.
-#[derive(Debug, Drop)]
+#[derive(Drop)]
 pub struct JobShare {
     /// The collector's number.
     pub id: u32,

@@ -11,7 +11,7 @@ use std::alloc::AllocError;
 pub const MOST_ROWS: usize = 1_000;
 
 /// What is told of a live target.
-#[derive(Debug, Drop)]
+#[derive(Drop)]
 pub struct TargetRow {
     pub number: u32,
     pub address: Text,
@@ -26,7 +26,7 @@ pub struct TargetRow {
 }
 
 /// Who has a target.
-#[derive(Debug, Drop)]
+#[derive(Drop)]
 pub enum Keeper {
     /// The collector of this number and name holds it.
     Holds(u32, Text),
@@ -48,7 +48,7 @@ pub struct Rows<'a> {
 }
 
 /// What a table of targets tells of each beside its address and labels.
-#[derive(Clone, Copy, Debug, PartialEq, Eq)]
+#[derive(Clone, Copy, PartialEq, Eq)]
 pub(crate) enum Beside {
     Keeper,
     Job,

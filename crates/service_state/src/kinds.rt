@@ -2,7 +2,7 @@
 use fleet_events::{Answer, Event};
 
 /// What an event is.
-#[derive(Clone, Copy, Debug)]
+#[derive(Clone, Copy)]
 pub enum EventKind {
     Discover,
     Join,
@@ -19,7 +19,7 @@ pub enum EventKind {
 }
 
 /// What an event that was done is answered.
-#[derive(Clone, Copy, Debug)]
+#[derive(Clone, Copy)]
 pub(crate) enum DoneKind {
     Discovered,
     Joined,

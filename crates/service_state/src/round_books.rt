@@ -4,7 +4,7 @@ use sd_routes::{BookCounts, JobBooks};
 use std::alloc::{AllocError, Global};
 
 /// A job, and what was booked of it in a round.
-#[derive(Debug, Drop)]
+#[derive(Drop)]
 pub struct JobSums {
     pub name: Text,
     pub counts: BookCounts,
@@ -18,7 +18,7 @@ const NOTHING: BookCounts = BookCounts {
 };
 
 /// What was booked in a round, of each job in the order of the configuration. Nothing where none is over.
-#[derive(Debug, Drop)]
+#[derive(Drop)]
 pub struct RoundBooks {
     pub jobs: Vec<JobSums>,
 }

@@ -47,7 +47,7 @@ pub(crate) struct JobText {
 
 /// A discovery source: entry `number - 1` of the `http_sd_configs` of the job at a place in the configuration, behind which its
 /// `file_sd_configs` stand.
-#[derive(Clone, Copy, Debug, PartialEq, Eq)]
+#[derive(Clone, Copy, PartialEq, Eq)]
 pub(crate) struct SourceSettings {
     pub(crate) job: usize,
     pub(crate) number: u32,
@@ -56,7 +56,7 @@ pub(crate) struct SourceSettings {
 }
 
 /// Why there is no service of a configuration.
-#[derive(Debug, Drop)]
+#[derive(Drop)]
 pub enum ServiceError {
     /// A rule of the job at this place is refused.
     Rules { job: usize, error: RulesError },

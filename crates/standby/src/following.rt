@@ -18,7 +18,7 @@ const PAUSE: u64 = 1_000;
 const LOOK: u64 = 50;
 
 /// Why an instance stands by no more.
-#[derive(Clone, Copy, Debug, PartialEq, Eq)]
+#[derive(Clone, Copy, PartialEq, Eq)]
 pub enum Followed {
     /// Nobody leads.
     Free,

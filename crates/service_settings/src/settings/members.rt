@@ -56,7 +56,7 @@ pub(crate) static JOINING_PATTERN: [&str; 3] = ["pattern", "reach", "limits"];
 pub(crate) static SPREAD: [&str; 2] = ["slack", "most_moves"];
 
 /// An object whose members are all known.
-#[derive(Clone, Copy, Debug, PartialEq, Eq)]
+#[derive(Clone, Copy, PartialEq, Eq)]
 pub(crate) enum Kind {
     Allocator,
     Lifecycle,
