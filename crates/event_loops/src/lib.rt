@@ -19,14 +19,9 @@ mod timed;
 mod times;
 
 pub use answering::{Answering, Wire};
-pub use connections::Connections;
-pub use door::{Serving, serve_all};
-pub use exchanges::Exchanges;
 pub use gate::Gate;
-pub use paced::{Paced, Paused};
 pub use runtime::{LoopRuntime, Runtime};
 pub use serving::serve_until_stopped;
 pub use socket::Socket;
 pub use spoken::Spoken;
-pub use timed::{Limits, Timed};
 pub use times::Times;
