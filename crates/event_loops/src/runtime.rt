@@ -1,4 +1,4 @@
-//! What a service takes of the machine.
+//! What a service, and an event loop of it, take of the machine.
 use std::alloc::AllocGlobal;
 use std::net::{Net, TcpListener, TcpStream};
 use std::random::RandomSource;
@@ -28,6 +28,26 @@ where
         + AllocGlobal
         + Sync
         + Send
+        + Copy
+        + Drop,
+{}
+
+/// What an event loop takes of the machine that it runs on: to wait, clocks, sockets, chance and memory.
+pub trait LoopRuntime: Wait
+    + Clock
+    + Net<Listener = TcpListener, Stream = TcpStream>
+    + RandomSource
+    + AllocGlobal
+    + Copy
+    + Drop {}
+
+impl<R> LoopRuntime for R
+where
+    R: Wait
+        + Clock
+        + Net<Listener = TcpListener, Stream = TcpStream>
+        + RandomSource
+        + AllocGlobal
         + Copy
         + Drop,
 {}

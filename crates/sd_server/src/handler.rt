@@ -21,8 +21,8 @@ use sd_routes::{Ask, Notice, RequestError, Route, Said, Wanted, event_of, missha
 use service_state::{ConfigPages, ServiceState};
 use std::alloc::{AllocError, Global};
 use std::net::SocketAddr;
-use std::sync::{Arc, Mutex, Wait};
 use std::sync::ledger::Ledger;
+use std::sync::{Arc, Mutex, Wait};
 use std::time::{Clock, Instant};
 use tokio::time::Handle;
 

@@ -32,7 +32,6 @@ mod reported;
 mod seen;
 mod service;
 mod shown;
-mod spoken;
 mod tags;
 mod yaml;
 

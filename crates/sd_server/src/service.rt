@@ -22,6 +22,7 @@ use crate::manner::Manner;
 use crate::reply::Reply;
 use crate::seen::Seen;
 use bytes::Bytes;
+use event_loops::Gate;
 use http::request::Parts;
 use http::{Request, Response};
 use http_body_util::Full;
@@ -34,6 +35,7 @@ use std::net::SocketAddr;
 use std::sync::ledger::Ledger;
 use std::sync::{Arc, Wait};
 use std::time::Clock;
+use tokio::time::Handle;
 
 /// Answers requests with what a desk says.
 #[derive(Drop)]
@@ -66,6 +68,25 @@ impl<R: Wait + Clock + Copy, L: Ledger, B: Ledger, N: JournalName> AllocatorServ
                 handler.peer = peer;
                 Ok(AllocatorService { handler, routes })
             }
+            Err(error) => {
+                drop(routes);
+                Err(error)
+            }
+        }
+    }
+
+    /// One for the same desk, with the timers and the gate of a loop.
+    pub(crate) fn of_loop(
+        handler: &Handler<R, L, B, N>,
+        time: &Handle,
+        gate: &Arc<Gate>,
+    ) -> Result<AllocatorService<R, L, B, N>, AllocError>
+        ensures same { IfOk result (λ s. (arc_value s.handler.pages ≡ arc_value handler.now.pages) × (IsSome handler.now.kept → IsSome s.handler.kept)) }
+        ensures epoch { IfOk result (λ s. s.handler.epoch ≡ handler.now.epoch) }
+    {
+        let routes = shared_routes(handler.alloc)?;
+        match handler.of_loop(time, gate) {
+            Ok(handler) => Ok(AllocatorService { handler, routes }),
             Err(error) => {
                 drop(routes);
                 Err(error)

@@ -11,7 +11,7 @@ const REFUSAL_END: &[u8] = b"\r\nconnection: close\r\ncontent-length: 0\r\n\r\n"
 
 /// A connection of a server.
 #[derive(Drop)]
-pub(crate) struct Spoken<I> {
+pub struct Spoken<I> {
     inner: I,
     /// How much is written of a refusal that stands for hyper's.
     said: usize,
