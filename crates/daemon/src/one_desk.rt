@@ -273,6 +273,11 @@ fn handler_with<R: Copy, L: Ledger, B: Ledger, N: JournalName, S, F, C>(
     }
 }
 
+/// The gate of a server with as many connections as the office has.
+fn gate_of<S, F, C>(alloc: Global, office: &Office<S, F, C>) -> Result<Arc<Gate>, AllocError> {
+    shared(alloc, Gate::new(alloc, office.connections, Times::DEFAULT)?)
+}
+
 fn shared<T: Drop>(alloc: Global, value: T) -> Result<Arc<T>, AllocError> {
     Ok(Arc::new(alloc, value)?)
 }

@@ -262,6 +262,12 @@ fn named_pages(
     }
 }
 
+fn pages_of(alloc: Global, session: &Session) -> Result<Arc<ConfigPages>, AllocError> {
+    let scrape_configs = scrape_configs_text(alloc, &session.config)?;
+    let pages = ConfigPages::of(alloc, &session.config, scrape_configs)?;
+    shared(alloc, pages)
+}
+
 fn shared<T: Drop>(alloc: Global, value: T) -> Result<Arc<T>, AllocError> {
     Ok(Arc::new(alloc, value)?)
 }
