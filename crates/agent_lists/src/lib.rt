@@ -1,4 +1,4 @@
-//! The server that an agent's Prometheus asks for its lists, on one event loop: what the agent serves is put on a shelf, and requests read it there.
+//! The server that an agent's Prometheus asks for its lists, on one event loop: what the agent serves is put into a store, and requests read it there.
 #![tactic(auto)]
 
 mod answering;
@@ -6,8 +6,8 @@ mod counts;
 mod metrics;
 mod service;
 mod serving;
-mod shelf;
+mod list_store;
 
 pub use counts::Counts;
 pub use serving::serve_lists;
-pub use shelf::{JobList, Shelf};
+pub use list_store::{JobList, ListStore};

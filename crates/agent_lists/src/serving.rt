@@ -1,6 +1,6 @@
 //! The connections of an agent's Prometheus, as tasks of one event loop.
 use crate::service::ListService;
-use crate::shelf::Shelf;
+use crate::list_store::ListStore;
 use event_loops::{Answering, Gate, LoopRuntime, serve_until_stopped};
 use std::alloc::{AllocError, AllocGlobal};
 use std::io;
@@ -9,14 +9,14 @@ use std::sync::{Arc, Wait};
 use std::time::Clock;
 use tokio::time::Handle;
 
-/// Answers with what is on a shelf.
+/// Answers with what a store has.
 #[derive(Drop)]
-struct ShelfAnswers<'a, R> {
+struct StoreAnswers<'a, R> {
     rt: R,
-    shelf: &'a Arc<Shelf>,
+    store: &'a Arc<ListStore>,
 }
 
-impl<R: Wait + Clock + AllocGlobal + Copy + Drop> Answering<R> for ShelfAnswers<'_, R> {
+impl<R: Wait + Clock + AllocGlobal + Copy + Drop> Answering<R> for StoreAnswers<'_, R> {
     type OfLoop = ();
 
     type Service = ListService<R>;
@@ -29,7 +29,7 @@ impl<R: Wait + Clock + AllocGlobal + Copy + Drop> Answering<R> for ShelfAnswers<
         Ok(ListService {
             rt: self.rt,
             alloc: self.rt.alloc(),
-            shelf: Arc::try_clone(self.shelf)?,
+            store: Arc::try_clone(self.store)?,
         })
     }
 
@@ -38,13 +38,13 @@ impl<R: Wait + Clock + AllocGlobal + Copy + Drop> Answering<R> for ShelfAnswers<
     fn turn_away(&self) {}
 }
 
-/// Serves what is on a shelf to the connections of a listener, on this thread, until the gate is stopped and each connection has ended. Where it finds no memory to
+/// Serves what a store has to the connections of a listener, on this thread, until the gate is stopped and each connection has ended. Where it finds no memory to
 /// begin, it begins again after a pause.
 pub fn serve_lists<R: LoopRuntime>(
     rt: &R,
     gate: &Gate,
     listener: &TcpListener,
-    shelf: &Arc<Shelf>,
+    store: &Arc<ListStore>,
 ) -> io::Result<()> {
-    serve_until_stopped(rt, gate, listener, &ShelfAnswers { rt: *rt, shelf })
+    serve_until_stopped(rt, gate, listener, &StoreAnswers { rt: *rt, store })
 }

@@ -8,7 +8,7 @@ use file_configs::ReadFiles;
 use http_get::FetchSeveral;
 use kept_journal::{DeskJournal, JournalName};
 use sd_server::{DEFAULT_LOOPS, Handler, serve_by_loops};
-use service_tasks::{Configuration, Crew, Office, Schedule, Shared, Watch};
+use service_tasks::{Configuration, DeskPasses, ServiceContext, Schedule, Shared, Watch};
 use std::alloc::Global;
 use std::net::TcpListener;
 use std::sync::atomic::{AtomicBool, Ordering};
@@ -41,21 +41,21 @@ where
         C: Configuration + Send + Drop,
     >(
         &self,
-        office: &mut Office<S, F, C>,
+        context: &mut ServiceContext<S, F, C>,
         journal: &mut Option<DeskJournal<F, N>>,
-        crew: &mut Crew<L, B, N>,
+        desk_passes: &mut DeskPasses<L, B, N>,
     ) -> io::Result<()> {
-        let Office {
+        let ServiceContext {
             listener,
             schedule,
             watch,
             ..
-        } = office;
-        let Crew {
+        } = context;
+        let DeskPasses {
             scheduler,
             keeper,
             refresher,
-        } = crew;
+        } = desk_passes;
         let is_last = AtomicBool::new(false);
         let ((), served) = thread::join(
             &self.rt,

@@ -10,7 +10,7 @@ use durable_journal::{Archive, Device};
 use event_loops::Runtime;
 use file_configs::ReadFiles;
 use http_get::FetchSeveral;
-use service_tasks::{Configuration, Ending, Journal, Office, Service, continued};
+use service_tasks::{Configuration, Ending, Journal, ServiceContext, Service, continued};
 use std::alloc::Global;
 use std::io;
 use std::marker::Brand;
@@ -40,7 +40,7 @@ where
     requires { IsOfService F.tells F.contents core journal.file }
     ensures { IfOk result (IsLater core) }
 {
-    match Office::open(
+    match ServiceContext::open(
         rt,
         alloc,
         &service,
@@ -49,10 +49,10 @@ where
         device,
         configuration,
     ) {
-        Ok(mut office) => {
+        Ok(mut context) => {
             let mut service = service;
-            let core = serve_desks(rt, alloc, &mut service, &mut office, archive, core);
-            drop((service, office));
+            let core = serve_desks(rt, alloc, &mut service, &mut context, archive, core);
+            drop((service, context));
             core
         }
         Err(error) => {
@@ -68,7 +68,7 @@ fn serve_desks<R, S, F, A, C>(
     rt: &R,
     alloc: Global,
     service: &mut Service,
-    office: &mut Office<S, F, C>,
+    context: &mut ServiceContext<S, F, C>,
     archive: &mut A,
     core: Core,
 ) -> io::Result<Core>
@@ -78,17 +78,17 @@ where
     F: Device + Send + Drop,
     A: Archive<F>,
     C: Configuration + Send + Drop,
-    requires { IsOfService F.tells F.contents core office.old.journal.file }
+    requires { IsOfService F.tells F.contents core context.old.journal.file }
     ensures { IfOk result (IsLater core) }
 {
     let mut core = core;
     for _turn in rt.forever() {
-        let (later, ending) = serve_once(rt, alloc, service, office, core)?;
+        let (later, ending) = serve_once(rt, alloc, service, context, core)?;
         if ending == Ending::Quit {
             return Ok(later);
         }
-        office.remember_names(rt, alloc);
-        core = continued(rt, alloc, service, office, archive, later)?;
+        context.remember_names(rt, alloc);
+        core = continued(rt, alloc, service, context, archive, later)?;
     }
     unreachable!()
 }
@@ -98,7 +98,7 @@ fn serve_once<R, S, F, C>(
     rt: &R,
     alloc: Global,
     service: &Service,
-    office: &mut Office<S, F, C>,
+    context: &mut ServiceContext<S, F, C>,
     core: Core,
 ) -> io::Result<(Core, Ending)>
 where
@@ -106,16 +106,16 @@ where
     S: FetchSeveral + ReadFiles + Send + Drop,
     F: Device + Send + Drop,
     C: Configuration + Send + Drop,
-    requires { IsOfService F.tells F.contents core office.old.journal.file }
+    requires { IsOfService F.tells F.contents core context.old.journal.file }
     ensures later { IfOk result (λ r. IsLater core r.0) }
-    ensures file { IfOk result (λ r. IsOfService F.tells F.contents r.0 office.new.journal.file) }
+    ensures file { IfOk result (λ r. IsOfService F.tells F.contents r.0 context.new.journal.file) }
 {
     let seats = u64::from(SEATS);
     let ended = serve_desk::<R, Brand, Brand, Brand, S, F, C>(
         rt,
         alloc,
         service,
-        office,
+        context,
         core,
         Blank::new(seats),
         Blank::new(seats),

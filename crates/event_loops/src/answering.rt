@@ -2,7 +2,7 @@
 ghost use Rattle.std.specs.Prelude.{IfOk};
 
 use crate::socket::Socket;
-use crate::spoken::Spoken;
+use crate::json_refusals::JsonRefusals;
 use bytes::Bytes;
 use http_body_util::Full;
 use hyper::body::Incoming;
@@ -16,7 +16,7 @@ use tokio::net::TcpStream;
 use tokio::time::Handle;
 
 /// What a connection reads from and writes to.
-pub type Wire<R> = Socket<Spoken<TcpStream>, TokioTimer<R>>;
+pub type Wire<R> = Socket<JsonRefusals<TcpStream>, TokioTimer<R>>;
 
 /// Makes what answers the requests of connections, and is told of connections that are not served.
 pub trait Answering<R> {

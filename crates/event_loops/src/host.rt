@@ -6,9 +6,9 @@ use crate::connections::Connections;
 use crate::door::Serving;
 use crate::exchanges::Exchanges;
 use crate::gate::Gate;
-use crate::paced::Paced;
+use crate::exchange_service::ExchangeService;
 use crate::socket::Socket;
-use crate::spoken::Spoken;
+use crate::json_refusals::JsonRefusals;
 use crate::timed::{Limits, Timed};
 use bytes::Bytes;
 use http_body_util::Full;
@@ -74,7 +74,7 @@ impl<R: Clock + Copy + Drop, A: Answering<R>> Host<'_, R, A> {
         socket: TcpStream,
         from: SocketAddr,
         exchanges: &Rc<Exchanges>,
-    ) -> io::Result<(Wire<R>, Paced<A::Service>)>
+    ) -> io::Result<(Wire<R>, ExchangeService<A::Service>)>
         ensures { IfOk result (λ ends. A.Service.can_call ends.1.inner) }
     {
         let wire = match self.wire(socket, exchanges) {
@@ -101,7 +101,7 @@ impl<R: Clock + Copy + Drop, A: Answering<R>> Host<'_, R, A> {
         let timer = TokioTimer::new(self.rt, time);
         let linger = self.gate.times().linger;
         match exchanges.clone() {
-            Ok(exchanges) => Ok(Socket::new(Spoken::new(socket), timer, exchanges, linger)),
+            Ok(exchanges) => Ok(Socket::new(JsonRefusals::new(socket), timer, exchanges, linger)),
             Err(error) => {
                 drop((socket, timer));
                 Err(error.into())
@@ -113,12 +113,12 @@ impl<R: Clock + Copy + Drop, A: Answering<R>> Host<'_, R, A> {
         &self,
         from: SocketAddr,
         exchanges: &Rc<Exchanges>,
-    ) -> Result<Paced<A::Service>, AllocError>
+    ) -> Result<ExchangeService<A::Service>, AllocError>
         ensures { IfOk result (λ service. A.Service.can_call service.inner) }
     {
         let service = self.answering.service(&self.of_loop, from)?;
         match exchanges.clone() {
-            Ok(exchanges) => Ok(Paced::new(service, exchanges)),
+            Ok(exchanges) => Ok(ExchangeService::new(service, exchanges)),
             Err(error) => {
                 drop(service);
                 Err(error)
@@ -128,7 +128,7 @@ impl<R: Clock + Copy + Drop, A: Answering<R>> Host<'_, R, A> {
 }
 
 impl<R: Clock + Copy + Drop, A: Answering<R>> Serving for Host<'_, R, A> {
-    type Conn = Timed<http1::Connection<Wire<R>, Paced<A::Service>, Full<Bytes>, TokioTimer<R>>, R>;
+    type Conn = Timed<http1::Connection<Wire<R>, ExchangeService<A::Service>, Full<Bytes>, TokioTimer<R>>, R>;
 
     fn serve(
         &self,

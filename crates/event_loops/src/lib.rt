@@ -7,21 +7,21 @@
 mod answering;
 mod connections;
 mod door;
+mod exchange_service;
 mod exchanges;
 mod gate;
 mod host;
-mod paced;
+mod json_refusals;
 mod runtime;
 mod serving;
 mod socket;
-mod spoken;
 mod timed;
 mod times;
 
 pub use answering::{Answering, Wire};
 pub use gate::Gate;
+pub use json_refusals::JsonRefusals;
 pub use runtime::{LoopRuntime, Runtime};
 pub use serving::serve_until_stopped;
 pub use socket::Socket;
-pub use spoken::Spoken;
 pub use times::Times;

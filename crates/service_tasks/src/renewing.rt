@@ -7,7 +7,7 @@ ghost use Rattle.service_tasks.specs.Later.{IsLater, IsRenewed};
 use crate::configuration::Configuration;
 use crate::journal::Journal;
 use crate::logging::{log_error, log_error_of, log_info, log_warning, log_warning_of};
-use crate::office::{Office, sources_of};
+use crate::service_context::{ServiceContext, sources_of};
 use crate::service::Service;
 use crate::source::Source;
 use allocation_core::{Core, JobSpec, NotRenewed, ReportRounds};
@@ -28,7 +28,7 @@ pub fn continued<R: Clock + Eprint + Copy, S, F, A, C>(
     rt: &R,
     alloc: Global,
     service: &mut Service,
-    office: &mut Office<S, F, C>,
+    context: &mut ServiceContext<S, F, C>,
     archive: &mut A,
     core: Core,
 ) -> io::Result<Core>
@@ -37,25 +37,25 @@ where
     F: Device + Drop,
     A: Archive<F>,
     C: Configuration + Drop,
-    requires { IsOfService F.tells F.contents core office.old.journal.file }
+    requires { IsOfService F.tells F.contents core context.old.journal.file }
     ensures later { IfOk result (IsLater core) }
-    ensures file { IfOk result (λ c. IsOfService F.tells F.contents c office.new.journal.file) }
-    ensures stays { IsSome office.old.journal.file → IsSome office.new.journal.file }
+    ensures file { IfOk result (λ c. IsOfService F.tells F.contents c context.new.journal.file) }
+    ensures stays { IsSome context.old.journal.file → IsSome context.new.journal.file }
 {
-    if office.is_broken() {
-        office.stay(rt);
+    if context.is_broken() {
+        context.stay(rt);
         return Ok(core);
     }
-    let epoch = office.next_epoch(rt);
-    if !office.schedule.is_read {
-        let journal = &mut office.journal;
+    let epoch = context.next_epoch(rt);
+    if !context.schedule.is_read {
+        let journal = &mut context.journal;
         return renewed(rt, alloc, service, archive, journal, epoch, core);
     }
-    office.schedule.is_read = false;
-    match office.schedule.configuration.service() {
-        Some(next) => reloaded(rt, alloc, service, office, archive, next, epoch, core),
+    context.schedule.is_read = false;
+    match context.schedule.configuration.service() {
+        Some(next) => reloaded(rt, alloc, service, context, archive, next, epoch, core),
         None => {
-            office.refuse(rt);
+            context.refuse(rt);
             Ok(core)
         }
     }
@@ -68,7 +68,7 @@ fn reloaded<R: Clock + Eprint + Copy, S, F, A, C>(
     rt: &R,
     alloc: Global,
     service: &mut Service,
-    office: &mut Office<S, F, C>,
+    context: &mut ServiceContext<S, F, C>,
     archive: &mut A,
     next: Service,
     epoch: u64,
@@ -79,17 +79,17 @@ where
     F: Device + Drop,
     A: Archive<F>,
     C: Configuration + Drop,
-    requires { IsOfService F.tells F.contents core office.old.journal.file }
+    requires { IsOfService F.tells F.contents core context.old.journal.file }
     ensures later { IfOk result (IsLater core) }
-    ensures file { IfOk result (λ c. IsOfService F.tells F.contents c office.new.journal.file) }
-    ensures stays { IsSome office.old.journal.file → IsSome office.new.journal.file }
+    ensures file { IfOk result (λ c. IsOfService F.tells F.contents c context.new.journal.file) }
+    ensures stays { IsSome context.old.journal.file → IsSome context.new.journal.file }
 {
     let Ok((jobs, report_rounds, sources)) = parts_of(alloc, &next) else {
         drop(next);
-        office.refuse(rt);
+        context.refuse(rt);
         return Ok(core);
     };
-    let journal = &mut office.journal;
+    let journal = &mut context.journal;
     match under(
         rt,
         alloc,
@@ -101,7 +101,7 @@ where
         epoch,
         core,
     ) {
-        Ok((core, true)) => match followed(service, office, next, sources) {
+        Ok((core, true)) => match followed(service, context, next, sources) {
             Ok(()) => Ok(core),
             Err(error) => {
                 drop(core);
@@ -110,7 +110,7 @@ where
         },
         Ok((core, false)) => {
             drop((next, sources));
-            office.state.set_not_reloaded();
+            context.state.set_not_reloaded();
             Ok(core)
         }
         Err(error) => {
@@ -123,7 +123,7 @@ where
 /// Another service is followed from now on, with these sources.
 fn followed<S, F, C>(
     service: &mut Service,
-    office: &mut Office<S, F, C>,
+    context: &mut ServiceContext<S, F, C>,
     next: Service,
     sources: Vec<Source>,
 ) -> io::Result<()>
@@ -131,9 +131,9 @@ where
     S: FetchSeveral + Drop,
     F: Drop,
     C: Configuration + Drop,
-    ensures { office.new.journal ≡ office.old.journal }
+    ensures { context.new.journal ≡ context.old.journal }
 {
-    match office.follow(&next, sources) {
+    match context.follow(&next, sources) {
         Ok(()) => {
             drop(std::mem::replace(service, next));
             Ok(())

@@ -7,7 +7,7 @@ ghost use Rattle.session_command.specs.Totals.{IsEnded, IsReached};
 
 use crate::asking::ask_all;
 use crate::ended::Halt;
-use crate::staff::{Staff, device};
+use crate::session_tasks::{SessionTasks, device};
 use admission::Admission;
 use alloc_desk::{Desk, DeskName, Log, Pass, shared_desk};
 use allocation_core::Core;
@@ -127,17 +127,17 @@ where
         drop((shown, desk, asked, passes));
         return Err(AllocError.into());
     };
-    let staff = match Staff::muster(rt, alloc, own, passes) {
-        Ok(staff) => staff,
+    let session_tasks = match SessionTasks::of(rt, alloc, own, passes) {
+        Ok(session_tasks) => session_tasks,
         Err(AllocError) => {
             drop((shown, desk, asked));
             return Err(AllocError.into());
         }
     };
     match handler_of(rt, alloc, shown, desk, asked) {
-        Ok(handler) => run_by(rt, alloc, session, handler, staff, text),
+        Ok(handler) => run_by(rt, alloc, session, handler, session_tasks, text),
         Err(AllocError) => {
-            drop(staff);
+            drop(session_tasks);
             Err(AllocError.into())
         }
     }
@@ -149,7 +149,7 @@ fn run_by<R, L, B, N>(
     alloc: Global,
     session: &Session,
     handler: Handler<R, L, B, N>,
-    mut staff: Staff<R, L, B, N>,
+    mut session_tasks: SessionTasks<R, L, B, N>,
     text: &mut Vec<u8>,
 ) -> Result<(), Halt>
 where
@@ -158,10 +158,10 @@ where
     B: Ledger + Send + Sync,
     N: JournalName + Send + Sync,
 {
-    match run(rt, alloc, session, &handler, &mut staff, text) {
-        Ok(answers) => end(alloc, handler, staff, answers.as_slice(), text),
+    match run(rt, alloc, session, &handler, &mut session_tasks, text) {
+        Ok(answers) => end(alloc, handler, session_tasks, answers.as_slice(), text),
         Err(halt) => {
-            drop((handler, staff));
+            drop((handler, session_tasks));
             Err(halt)
         }
     }
@@ -278,7 +278,7 @@ fn run<R, L, B, N>(
     alloc: Global,
     session: &Session,
     handler: &Handler<R, L, B, N>,
-    staff: &mut Staff<R, L, B, N>,
+    session_tasks: &mut SessionTasks<R, L, B, N>,
     text: &mut Vec<u8>,
 ) -> Result<Vec<u8>, Halt>
 where
@@ -287,7 +287,7 @@ where
     B: Ledger + Send + Sync,
     N: JournalName + Send + Sync,
 {
-    let Staff { refresher, workers } = staff;
+    let SessionTasks { refresher, workers } = session_tasks;
     begin(&handler.desk, rt, alloc, session, refresher, text)?;
     run_rounds(
         &handler.desk,
@@ -394,11 +394,11 @@ where
 fn end<R: Copy + Drop, L: Ledger, B: Ledger, N: JournalName>(
     alloc: Global,
     handler: Handler<R, L, B, N>,
-    staff: Staff<R, L, B, N>,
+    session_tasks: SessionTasks<R, L, B, N>,
     answers: &[u8],
     text: &mut Vec<u8>,
 ) -> Result<(), Halt> {
-    match staff.dismiss(alloc) {
+    match session_tasks.into_passes(alloc) {
         Ok(passes) => write_end(alloc, handler, passes, answers, text),
         Err(AllocError) => {
             drop(handler);

@@ -9,20 +9,20 @@ use std::rc::Rc;
 
 /// A service that tells when an exchange begins.
 #[derive(Drop)]
-pub struct Paced<S> {
+pub struct ExchangeService<S> {
     inner: S,
     exchanges: Rc<Exchanges>,
 }
 
 /// A reply. The last one of a connection waits until the connection was told, so that its head says `connection: close`.
 #[derive(Drop)]
-pub struct Paused<F> {
+pub struct ExchangeReply<F> {
     reply: F,
     is_last: bool,
     exchanges: Option<Rc<Exchanges>>,
 }
 
-impl<F> Paused<F> {
+impl<F> ExchangeReply<F> {
     fn waits(&self) -> bool {
         match &self.exchanges {
             Some(exchanges) => self.is_last && !exchanges.is_told(),
@@ -37,31 +37,31 @@ impl<F> Paused<F> {
     }
 }
 
-impl<S> Paced<S> {
+impl<S> ExchangeService<S> {
     /// Tells these exchanges of each call.
-    pub fn new(inner: S, exchanges: Rc<Exchanges>) -> Paced<S>
+    pub fn new(inner: S, exchanges: Rc<Exchanges>) -> ExchangeService<S>
         ensures { result.inner ≡ inner }
     {
-        Paced { inner, exchanges }
+        ExchangeService { inner, exchanges }
     }
 }
 
-impl<Q, S: Service<Q>> Service<Q> for Paced<S> {
+impl<Q, S: Service<Q>> Service<Q> for ExchangeService<S> {
     type Response = S::Response;
 
     type Error = S::Error;
 
-    type Future = Paused<S::Future>;
+    type Future = ExchangeReply<S::Future>;
 
     ghost can_call = { λ p. S.can_call p.inner };
 
     ghost calls = { λ p req paused. S.calls p.inner req paused.reply };
 
-    fn call(&self, req: Q) -> Paused<S::Future> {
+    fn call(&self, req: Q) -> ExchangeReply<S::Future> {
         let is_last = self.exchanges.begin();
         let reply = self.inner.call(req);
         let exchanges = self.exchanges.clone().ok();
-        Paused {
+        ExchangeReply {
             reply,
             is_last,
             exchanges,
@@ -69,7 +69,7 @@ impl<Q, S: Service<Q>> Service<Q> for Paced<S> {
     }
 }
 
-impl<F: Future> Future for Paused<F> {
+impl<F: Future> Future for ExchangeReply<F> {
     type Output = F::Output;
 
     ghost can_poll = { λ p. F.can_poll p.reply };

@@ -14,7 +14,7 @@ pub struct JobList {
 
 /// What an agent's Prometheus is served, and what the agent counts.
 #[derive(Drop)]
-pub struct Shelf {
+pub struct ListStore {
     lists: Mutex<Lists>,
     pub counts: Counts,
 }
@@ -38,10 +38,10 @@ pub(crate) enum Found {
     NoJob,
 }
 
-impl Shelf {
+impl ListStore {
     /// Nothing is known as yet.
-    pub fn new(alloc: Global) -> Shelf {
-        Shelf {
+    pub fn new(alloc: Global) -> ListStore {
+        ListStore {
             lists: Mutex::new(Lists {
                 is_known: false,
                 until: None,

@@ -13,22 +13,22 @@ const LONGEST_SECONDS: u64 = 10;
 
 /// Who refreshes the sources, and the collectors.
 #[derive(Drop)]
-pub(crate) struct Staff<R: Drop, L: Ledger, B: Ledger, N: DeskName> {
+pub(crate) struct SessionTasks<R: Drop, L: Ledger, B: Ledger, N: DeskName> {
     pub(crate) refresher: Refresher<L, B, N, HyperScrape<R>>,
     pub(crate) workers: Vec<Worker<L, B, N, HyperScrape<R>>>,
 }
 
-impl<R: Copy + Drop, L: Ledger, B: Ledger, N: DeskName> Staff<R, L, B, N> {
+impl<R: Copy + Drop, L: Ledger, B: Ledger, N: DeskName> SessionTasks<R, L, B, N> {
     /// The first pass is that of the refresher, and each further one that of a collector. A session's collectors have the numbers from
     /// 1 on, in order.
-    pub(crate) fn muster(
+    pub(crate) fn of(
         rt: &R,
         alloc: Global,
         first: Pass<L, B, N>,
         others: Vec<Pass<L, B, N>>,
-    ) -> Result<Staff<R, L, B, N>, AllocError> {
+    ) -> Result<SessionTasks<R, L, B, N>, AllocError> {
         match workers_of(rt, alloc, others) {
-            Ok(workers) => Ok(Staff {
+            Ok(workers) => Ok(SessionTasks {
                 refresher: Refresher {
                     pass: first,
                     scrape: device(rt),
@@ -43,8 +43,8 @@ impl<R: Copy + Drop, L: Ledger, B: Ledger, N: DeskName> Staff<R, L, B, N> {
     }
 
     /// Gives the passes back.
-    pub(crate) fn dismiss(self, alloc: Global) -> Result<Vec<Pass<L, B, N>>, AllocError> {
-        let Staff { refresher, workers } = self;
+    pub(crate) fn into_passes(self, alloc: Global) -> Result<Vec<Pass<L, B, N>>, AllocError> {
+        let SessionTasks { refresher, workers } = self;
         let mut passes = Vec::new(alloc);
         if let Err(refused) = passes.push(refresher.pass) {
             drop((passes, workers));

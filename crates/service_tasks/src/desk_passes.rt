@@ -5,21 +5,21 @@ use std::sync::ledger::Ledger;
 
 /// The passes of a desk's threads beside its server: of the schedule, of the journal's keeper, and of the refresher.
 #[derive(Drop)]
-pub struct Crew<L: Ledger, B: Ledger, N: DeskName> {
+pub struct DeskPasses<L: Ledger, B: Ledger, N: DeskName> {
     pub scheduler: Pass<L, B, N>,
     pub keeper: Pass<L, B, N>,
     pub refresher: Pass<L, B, N>,
 }
 
-impl<L: Ledger, B: Ledger, N: DeskName> Crew<L, B, N> {
-    /// A crew with these passes, where there is one for each.
-    pub fn muster(mut passes: Vec<Pass<L, B, N>>) -> Option<Crew<L, B, N>> {
-        let crew = Crew::of(&mut passes);
+impl<L: Ledger, B: Ledger, N: DeskName> DeskPasses<L, B, N> {
+    /// Of these passes, where there is one for each thread.
+    pub fn from_passes(mut passes: Vec<Pass<L, B, N>>) -> Option<DeskPasses<L, B, N>> {
+        let desk_passes = DeskPasses::of(&mut passes);
         drop(passes);
-        crew
+        desk_passes
     }
 
-    fn of(passes: &mut Vec<Pass<L, B, N>>) -> Option<Crew<L, B, N>> {
+    fn of(passes: &mut Vec<Pass<L, B, N>>) -> Option<DeskPasses<L, B, N>> {
         let scheduler = passes.pop()?;
         let Some(keeper) = passes.pop() else {
             drop(scheduler);
@@ -29,7 +29,7 @@ impl<L: Ledger, B: Ledger, N: DeskName> Crew<L, B, N> {
             drop((scheduler, keeper));
             return None;
         };
-        Some(Crew {
+        Some(DeskPasses {
             scheduler,
             keeper,
             refresher,
@@ -37,7 +37,7 @@ impl<L: Ledger, B: Ledger, N: DeskName> Crew<L, B, N> {
     }
 
     /// Gives the passes back.
-    pub fn dismiss(self, alloc: Global) -> Result<Vec<Pass<L, B, N>>, AllocError> {
+    pub fn into_passes(self, alloc: Global) -> Result<Vec<Pass<L, B, N>>, AllocError> {
         Ok(vec![in alloc; self.refresher, self.keeper, self.scheduler]?)
     }
 }

@@ -11,19 +11,19 @@ const REFUSAL_END: &[u8] = b"\r\nconnection: close\r\ncontent-length: 0\r\n\r\n"
 
 /// A connection of a server.
 #[derive(Drop)]
-pub struct Spoken<I> {
+pub struct JsonRefusals<I> {
     inner: I,
     /// How much is written of a refusal that stands for hyper's.
     said: usize,
 }
 
-impl<I> Spoken<I> {
-    pub(crate) fn new(inner: I) -> Spoken<I> {
-        Spoken { inner, said: 0 }
+impl<I> JsonRefusals<I> {
+    pub(crate) fn new(inner: I) -> JsonRefusals<I> {
+        JsonRefusals { inner, said: 0 }
     }
 }
 
-impl<I: AsyncRead> AsyncRead for Spoken<I> {
+impl<I: AsyncRead> AsyncRead for JsonRefusals<I> {
     ghost needs = { λ s. I.needs s.inner };
 
     ghost reads = { λ _ _ _. ⊤ };
@@ -39,7 +39,7 @@ impl<I: AsyncRead> AsyncRead for Spoken<I> {
     }
 }
 
-impl<I: AsyncWrite> AsyncWrite for Spoken<I> {
+impl<I: AsyncWrite> AsyncWrite for JsonRefusals<I> {
     ghost needs = { λ s. I.needs s.inner };
 
     ghost writes = { λ _ _ _. ⊤ };

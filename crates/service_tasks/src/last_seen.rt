@@ -5,7 +5,7 @@ use std::time::{Duration, Instant};
 
 /// A collector, and when it was last seen.
 #[derive(Clone, Copy, Drop)]
-pub(crate) struct Sighting {
+pub(crate) struct LastSeen {
     pub(crate) collector: CollectorId,
     /// When it asked for a list, or else when it was first found.
     at: Instant,
@@ -21,10 +21,10 @@ pub(crate) struct Sighting {
     pub(crate) is_told: bool,
 }
 
-impl Sighting {
+impl LastSeen {
     /// One that was not seen before.
-    pub(crate) fn first(collector: CollectorId, now: Instant) -> Sighting {
-        Sighting {
+    pub(crate) fn first(collector: CollectorId, now: Instant) -> LastSeen {
+        LastSeen {
             collector,
             at: now,
             has_asked: false,
@@ -36,8 +36,8 @@ impl Sighting {
     }
 
     /// The first one under another number, of a collector that joined anew.
-    pub(crate) fn of_heir(self, collector: CollectorId, now: Instant) -> Sighting {
-        Sighting {
+    pub(crate) fn of_heir(self, collector: CollectorId, now: Instant) -> LastSeen {
+        LastSeen {
             collector,
             at: now,
             is_let_go: false,

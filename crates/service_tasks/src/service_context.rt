@@ -23,7 +23,7 @@ use std::time::{Clock, Duration, Instant};
 
 /// What a service keeps from one desk to the next: where it listens, its sources as they are watched, and what it says of itself.
 #[derive(Drop)]
-pub struct Office<S, F, C> {
+pub struct ServiceContext<S, F, C> {
     pub listener: TcpListener,
     /// How many connections there may be at once.
     pub connections: u32,
@@ -37,8 +37,8 @@ pub struct Office<S, F, C> {
     pub(crate) is_new: bool,
 }
 
-impl<S: FetchSeveral + Drop, F: Drop, C: Configuration + Drop> Office<S, F, C> {
-    /// The office of a service that begins.
+impl<S: FetchSeveral + Drop, F: Drop, C: Configuration + Drop> ServiceContext<S, F, C> {
+    /// That of a service that begins.
     pub fn open<R: Clock + Wait>(
         rt: &R,
         alloc: Global,
@@ -47,7 +47,7 @@ impl<S: FetchSeveral + Drop, F: Drop, C: Configuration + Drop> Office<S, F, C> {
         journal: Journal<F>,
         device: S,
         configuration: C,
-    ) -> io::Result<Office<S, F, C>>
+    ) -> io::Result<ServiceContext<S, F, C>>
         ensures { IfOk result (λ o. o.journal ≡ journal) }
     {
         match Parts::of(rt, alloc, service, &journal) {
@@ -64,7 +64,7 @@ impl<S: FetchSeveral + Drop, F: Drop, C: Configuration + Drop> Office<S, F, C> {
                     job_texts,
                     jobs,
                 } = shares;
-                Ok(Office {
+                Ok(ServiceContext {
                     listener,
                     connections: service.connections,
                     pages,
@@ -159,7 +159,7 @@ impl<S: FetchSeveral + Drop, F: Drop, C: Configuration + Drop> Office<S, F, C> {
     }
 }
 
-/// What an office has of its service when it begins.
+/// What it has of its service when that begins.
 #[derive(Drop)]
 struct Parts {
     state: Arc<ServiceState>,
@@ -168,7 +168,7 @@ struct Parts {
     sources: Sources,
 }
 
-/// What an office shares with its service.
+/// What it shares with its service.
 #[derive(Drop)]
 struct Shares {
     pages: Arc<ConfigPages>,
@@ -284,7 +284,7 @@ fn state_of<R: Clock>(
     Ok(state)
 }
 
-impl<S, F, C> Office<S, F, C> {
+impl<S, F, C> ServiceContext<S, F, C> {
     /// The epoch of a journal that begins now: the time in milliseconds since 1970 at which the open round was opened, so that a start finds
     /// when it ends, or the next number where that is no later one.
     pub(crate) fn next_epoch<R: Clock>(&self, rt: &R) -> u64 {
