@@ -3,11 +3,11 @@
 
 mod answering;
 mod counts;
+mod list_store;
 mod metrics;
 mod service;
 mod serving;
-mod list_store;
 
 pub use counts::Counts;
-pub use serving::serve_lists;
 pub use list_store::{JobList, ListStore};
+pub use serving::serve_lists;
