@@ -4,7 +4,7 @@ use crate::uncovered::{Uncovered, uncovered_of};
 use allocation_core::Core;
 use fleet_events::{CollectorId, TargetId};
 use lists::{List, Plain, Text};
-use service_pages::{JobShare, Keeper, Moment, TargetRow};
+use service_pages::{JobShare, Coverage, Moment, TargetRow};
 use std::alloc::{AllocError, Global};
 
 /// A job at a moment.
@@ -177,10 +177,10 @@ impl Sight<'_> {
         rows: &mut Vec<TargetRow>,
     ) -> Result<(), AllocError> {
         for number in uncovered.unreached.iter().take(most) {
-            push_row(self.alloc, self.core, *number, Keeper::Unreached, rows)?;
+            push_row(self.alloc, self.core, *number, Coverage::Unreached, rows)?;
         }
         for number in uncovered.full.iter().take(most.saturating_sub(rows.len())) {
-            push_row(self.alloc, self.core, *number, Keeper::Full, rows)?;
+            push_row(self.alloc, self.core, *number, Coverage::Full, rows)?;
         }
         let handing_over = uncovered.handing_over.as_slice();
         self.push_covered(handing_over, true, most, rows)?;

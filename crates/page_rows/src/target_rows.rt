@@ -5,7 +5,7 @@ use allocation_core::Core;
 use fleet_events::{AllocationNumber, CollectorId, TargetId};
 use label_sets::Target;
 use lists::{Plain, Text};
-use service_pages::{Keeper, TargetRow};
+use service_pages::{Coverage, TargetRow};
 use std::alloc::{AllocError, Global};
 
 /// Adds the row of a target that a live collector holds. One that has left holds nothing.
@@ -18,7 +18,7 @@ pub(crate) fn push_held(
     rows: &mut Vec<TargetRow>,
 ) -> Result<(), AllocError> {
     match keeper_of(alloc, core, holder, awaits)? {
-        Some(keeper) => push_row(alloc, core, number, keeper, rows),
+        Some(coverage) => push_row(alloc, core, number, coverage, rows),
         None => Ok(()),
     }
 }
@@ -29,7 +29,7 @@ fn keeper_of(
     core: &Core,
     holder: CollectorId,
     awaits: bool,
-) -> Result<Option<Keeper>, AllocError> {
+) -> Result<Option<Coverage>, AllocError> {
     let collectors = core.collectors();
     let Ok(place) = collectors.binary_search_by(|collector| collector.id.cmp(&holder)) else {
         return Ok(None);
@@ -39,9 +39,9 @@ fn keeper_of(
     };
     let name = Text::from_str(alloc, collector.name.as_str())?;
     if awaits {
-        Ok(Some(Keeper::Awaits(holder, name)))
+        Ok(Some(Coverage::Awaits(holder, name)))
     } else {
-        Ok(Some(Keeper::Holds(holder, name)))
+        Ok(Some(Coverage::Holds(holder, name)))
     }
 }
 
@@ -58,17 +58,17 @@ pub(crate) fn push_live(
         None => None,
     };
     match holder {
-        Some(keeper) => push_row(alloc, core, number, keeper, rows),
+        Some(coverage) => push_row(alloc, core, number, coverage, rows),
         None => push_row(alloc, core, number, why_unheld(core, number), rows),
     }
 }
 
 /// Why nobody holds a live target.
-fn why_unheld(core: &Core, number: TargetId) -> Keeper {
+fn why_unheld(core: &Core, number: TargetId) -> Coverage {
     if is_reached(core, number as usize) {
-        Keeper::Full
+        Coverage::Full
     } else {
-        Keeper::Unreached
+        Coverage::Unreached
     }
 }
 
@@ -77,10 +77,10 @@ pub(crate) fn push_row(
     alloc: Global,
     core: &Core,
     number: TargetId,
-    keeper: Keeper,
+    coverage: Coverage,
     rows: &mut Vec<TargetRow>,
 ) -> Result<(), AllocError> {
-    match row_of(alloc, core, number, keeper)? {
+    match row_of(alloc, core, number, coverage)? {
         Some(row) => Ok(rows.push(row)?),
         None => Ok(()),
     }
@@ -90,7 +90,7 @@ fn row_of(
     alloc: Global,
     core: &Core,
     number: TargetId,
-    keeper: Keeper,
+    coverage: Coverage,
 ) -> Result<Option<TargetRow>, AllocError> {
     let Some((job, target)) = core.target(number) else {
         return Ok(None);
@@ -101,13 +101,13 @@ fn row_of(
     let address = Text::from_str(alloc, target.get("__address__"))?;
     let job = spec.name.copy()?;
     let labels = labels_of(alloc, target)?;
-    let since = since_of(core, number, &keeper);
+    let since = since_of(core, number, &coverage);
     Ok(Some(TargetRow {
         number,
         address,
         job,
         labels,
-        keeper,
+        coverage,
         since,
         last_round: last_round(core, number),
     }))
@@ -126,9 +126,9 @@ fn labels_of(alloc: Global, target: &Target) -> Result<Vec<(Text, Text)>, AllocE
 }
 
 /// Since when a collector has it, where one does.
-fn since_of(core: &Core, number: TargetId, keeper: &Keeper) -> Option<AllocationNumber> {
-    match keeper {
-        Keeper::Holds(_, _) | Keeper::Awaits(_, _) => core.held_since(number),
-        Keeper::Full | Keeper::Unreached => None,
+fn since_of(core: &Core, number: TargetId, coverage: &Coverage) -> Option<AllocationNumber> {
+    match coverage {
+        Coverage::Holds(_, _) | Coverage::Awaits(_, _) => core.held_since(number),
+        Coverage::Full | Coverage::Unreached => None,
     }
 }

@@ -25,7 +25,7 @@ use std::sync::ledger::{Book, Ledger, Share};
 /// What lies under the lock: a record whose journal is legal from the opening state, with the books of the two ledgers, and with the
 /// log of all entries, whose front has seen the journal. Contracts see its history.
 #[derive(Drop)]
-pub(crate) struct Shelf<L: Ledger, B: Ledger, N: DeskName> {
+pub(crate) struct LockedRecord<L: Ledger, B: Ledger, N: DeskName> {
     record: Record,
     calls: Book<L>,
     samples: Book<B>,
@@ -33,7 +33,7 @@ pub(crate) struct Shelf<L: Ledger, B: Ledger, N: DeskName> {
     front: Front<N>,
 }
 
-impl<L: Ledger, B: Ledger, N: DeskName> Model for Shelf<L, B, N> {
+impl<L: Ledger, B: Ledger, N: DeskName> Model for LockedRecord<L, B, N> {
     ghost use Rattle.std.specs.Prelude.{◌≡◌};
     ghost use Rattle.alloc_desk.specs.History.{History, IsAccounted};
 
@@ -44,9 +44,9 @@ impl<L: Ledger, B: Ledger, N: DeskName> Model for Shelf<L, B, N> {
     ghost invariant = { λ s. IsAccounted N.opening s.record s.calls.total s.samples.total × (s.front ≡ s.record.journal) };
 }
 
-impl<L: Ledger, B: Ledger, N: DeskName> Shelf<L, B, N> {
-    /// A shelf over a record with no journal yet.
-    pub(crate) fn new(kept: Record, calls: Book<L>, samples: Book<B>, log: Log) -> Shelf<L, B, N>
+impl<L: Ledger, B: Ledger, N: DeskName> LockedRecord<L, B, N> {
+    /// One over a record with no journal yet.
+    pub(crate) fn new(kept: Record, calls: Book<L>, samples: Book<B>, log: Log) -> LockedRecord<L, B, N>
         requires opening { kept.state ≡ N.opening }
         requires empty { kept.journal ≡ [] }
         requires books { (calls.total ≡ 0) × (samples.total ≡ 0) }
@@ -54,7 +54,7 @@ impl<L: Ledger, B: Ledger, N: DeskName> Shelf<L, B, N> {
         ensures { result ≡ kept }
     {
         let (head, front) = log.named::<N>();
-        Shelf {
+        LockedRecord {
             record: kept,
             calls,
             samples,
@@ -129,7 +129,7 @@ impl<L: Ledger, B: Ledger, N: DeskName> Shelf<L, B, N> {
         ensures length { length result.journal ≡ sum_by (λ (p : Counts). p.calls) passes.items }
         ensures total { total_of result.state.booked ≡ total_of N.opening.booked + sum_by (λ (p : Counts). p.booked) passes.items }
     {
-        let Shelf {
+        let LockedRecord {
             record,
             mut calls,
             mut samples,

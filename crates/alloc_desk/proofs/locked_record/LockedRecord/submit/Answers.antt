@@ -6,7 +6,7 @@ use Rattle.journal_entries.specs.declared.entry.Entry.{Entry}
 use Rattle.alloc_desk.specs.Gains.{is_booked}
 use Rattle.alloc_desk.proofs.GainLemmas.{gained_by}
 use Rattle.alloc_desk.proofs.ReachedLemmas.{accounted_push}
-use Rattle.alloc_desk.proofs.shelf.Shelf.submit.Goals as goal
+use Rattle.alloc_desk.proofs.locked_record.LockedRecord.submit.Goals as goal
 
 pub invariant_of-self-2 : goal.invariant_of-self-2
 invariant_of-self-2 g c =

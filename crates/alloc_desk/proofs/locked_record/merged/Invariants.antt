@@ -1,7 +1,7 @@
 use Rattle.std.proofs.Common.{◌≡◌, ◌+◌, vec_len}
 use Rattle.std.specs.Prelude.{sum_by}
 use Rattle.alloc_desk.specs.Counts.{Counts}
-use Rattle.alloc_desk.proofs.shelf.merged.Given as goal
+use Rattle.alloc_desk.proofs.locked_record.merged.Given as goal
 
 abbrev pub invariant-loop-pass : goal.invariant-loop-pass
 invariant-loop-pass g l =
