@@ -3,8 +3,8 @@ ghost use Rattle.std.specs.Prelude.{IsTrue};
 ghost use Rattle.http_header.specs.FieldValue.{is_visible_text};
 
 use crate::counts::count_one;
-use crate::metrics::metrics_page;
 use crate::list_store::{Found, ListStore};
+use crate::metrics::metrics_page;
 use bytes::Bytes;
 use http::response::Parts;
 use http::{Response, StatusCode};

@@ -1,6 +1,6 @@
 //! The connections of an agent's Prometheus, as tasks of one event loop.
-use crate::service::ListService;
 use crate::list_store::ListStore;
+use crate::service::ListService;
 use event_loops::{Answering, Gate, LoopRuntime, serve_until_stopped};
 use std::alloc::{AllocError, AllocGlobal};
 use std::io;

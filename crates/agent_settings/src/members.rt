@@ -72,7 +72,9 @@ pub(crate) fn known_or_none<'a>(
 pub(crate) fn check_members(alloc: Global, kind: Kind, value: &Value) -> Result<(), SettingsError>
     ensures { Gives (λ _. view value.now) result (members_said kind (view value.now)) }
 {
-    let members = value.as_object().ok_or(SettingsError::Shape(kind.member()))?;
+    let members = value
+        .as_object()
+        .ok_or(SettingsError::Shape(kind.member()))?;
     if let Some(name) = unknown_member(kind.names(), members) {
         let name = Text::from_str(alloc, name)?;
         return Err(SettingsError::Unknown(kind, name));

@@ -16,12 +16,12 @@ mod spreading;
 
 use crate::closed::Closed;
 use crate::front::Front;
+use crate::locked_record::LockedRecord;
 use crate::log::Log;
 use crate::name::{DeskName, Fits};
 use crate::pass::Pass;
 use crate::receipt::Receipt;
 use crate::record::{EnterError, Record};
-use crate::locked_record::LockedRecord;
 use allocation_core::{Core, Event};
 use std::alloc::Global;
 use std::marker::PhantomData;

@@ -46,7 +46,12 @@ impl<L: Ledger, B: Ledger, N: DeskName> Model for LockedRecord<L, B, N> {
 
 impl<L: Ledger, B: Ledger, N: DeskName> LockedRecord<L, B, N> {
     /// One over a record with no journal yet.
-    pub(crate) fn new(kept: Record, calls: Book<L>, samples: Book<B>, log: Log) -> LockedRecord<L, B, N>
+    pub(crate) fn new(
+        kept: Record,
+        calls: Book<L>,
+        samples: Book<B>,
+        log: Log,
+    ) -> LockedRecord<L, B, N>
         requires opening { kept.state ≡ N.opening }
         requires empty { kept.journal ≡ [] }
         requires books { (calls.total ≡ 0) × (samples.total ≡ 0) }

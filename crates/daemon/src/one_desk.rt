@@ -16,7 +16,9 @@ use http_get::FetchSeveral;
 use kept_journal::{DeskJournal, JournalName, Kept};
 use sd_server::{Handler, ListTexts, are_named};
 use service_state::{ConfigPages, ServiceState};
-use service_tasks::{Configuration, DeskPasses, Ending, Journal, ServiceContext, Service, Shared, kept_of};
+use service_tasks::{
+    Configuration, DeskPasses, Ending, Journal, Service, ServiceContext, Shared, kept_of,
+};
 use std::alloc::{AllocError, Global};
 use std::io;
 use std::sync::ledger::{Blank, Ledger};
@@ -170,7 +172,14 @@ where
     ensures later { IfOk result (λ r. IsLater N.opening r.0) }
     ensures file { IfOk result (λ r. IsOfService F.tells F.contents r.0 context.new.journal.file) }
 {
-    match run(rt, service, context, &mut journal, &handler, &mut desk_passes) {
+    match run(
+        rt,
+        service,
+        context,
+        &mut journal,
+        &handler,
+        &mut desk_passes,
+    ) {
         Ok(ending) => ended(&mut context.journal, journal, handler, desk_passes, ending),
         Err(error) => {
             drop((journal, handler, desk_passes));
@@ -274,8 +283,14 @@ fn handler_with<R: Copy, L: Ledger, B: Ledger, N: JournalName, S, F, C>(
 }
 
 /// The gate of a server with as many connections as the service may have.
-fn gate_of<S, F, C>(alloc: Global, context: &ServiceContext<S, F, C>) -> Result<Arc<Gate>, AllocError> {
-    shared(alloc, Gate::new(alloc, context.connections, Times::DEFAULT)?)
+fn gate_of<S, F, C>(
+    alloc: Global,
+    context: &ServiceContext<S, F, C>,
+) -> Result<Arc<Gate>, AllocError> {
+    shared(
+        alloc,
+        Gate::new(alloc, context.connections, Times::DEFAULT)?,
+    )
 }
 
 fn shared<T: Drop>(alloc: Global, value: T) -> Result<Arc<T>, AllocError> {
@@ -304,7 +319,16 @@ where
     let gate = gate_of(handler.alloc, context)?;
     match shared_by(rt, service, context, handler) {
         Ok(shared) => {
-            let ending = run_over(rt, service, context, journal, handler, desk_passes, &gate, &shared);
+            let ending = run_over(
+                rt,
+                service,
+                context,
+                journal,
+                handler,
+                desk_passes,
+                &gate,
+                &shared,
+            );
             drop((shared, gate));
             ending
         }

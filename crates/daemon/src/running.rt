@@ -8,7 +8,7 @@ use file_configs::ReadFiles;
 use http_get::FetchSeveral;
 use kept_journal::{DeskJournal, JournalName};
 use sd_server::{DEFAULT_LOOPS, Handler, serve_by_loops};
-use service_tasks::{Configuration, DeskPasses, ServiceContext, Schedule, Shared, Watch};
+use service_tasks::{Configuration, DeskPasses, Schedule, ServiceContext, Shared, Watch};
 use std::alloc::Global;
 use std::net::TcpListener;
 use std::sync::atomic::{AtomicBool, Ordering};

@@ -10,7 +10,7 @@ use durable_journal::{Archive, Device};
 use event_loops::Runtime;
 use file_configs::ReadFiles;
 use http_get::FetchSeveral;
-use service_tasks::{Configuration, Ending, Journal, ServiceContext, Service, continued};
+use service_tasks::{Configuration, Ending, Journal, Service, ServiceContext, continued};
 use std::alloc::Global;
 use std::io;
 use std::marker::Brand;

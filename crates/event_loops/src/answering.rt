@@ -1,8 +1,8 @@
 //! What makes that which answers the requests of connections.
 ghost use Rattle.std.specs.Prelude.{IfOk};
 
-use crate::socket::Socket;
 use crate::json_refusals::JsonRefusals;
+use crate::socket::Socket;
 use bytes::Bytes;
 use http_body_util::Full;
 use hyper::body::Incoming;

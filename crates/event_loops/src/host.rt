@@ -4,11 +4,11 @@ ghost use Rattle.std.specs.Prelude.{IfOk};
 use crate::answering::{Answering, Wire};
 use crate::connections::Connections;
 use crate::door::Serving;
+use crate::exchange_service::ExchangeService;
 use crate::exchanges::Exchanges;
 use crate::gate::Gate;
-use crate::exchange_service::ExchangeService;
-use crate::socket::Socket;
 use crate::json_refusals::JsonRefusals;
+use crate::socket::Socket;
 use crate::timed::{Limits, Timed};
 use bytes::Bytes;
 use http_body_util::Full;
@@ -128,7 +128,10 @@ impl<R: Clock + Copy + Drop, A: Answering<R>> Host<'_, R, A> {
 }
 
 impl<R: Clock + Copy + Drop, A: Answering<R>> Serving for Host<'_, R, A> {
-    type Conn = Timed<http1::Connection<Wire<R>, ExchangeService<A::Service>, Full<Bytes>, TokioTimer<R>>, R>;
+    type Conn = Timed<
+        http1::Connection<Wire<R>, ExchangeService<A::Service>, Full<Bytes>, TokioTimer<R>>,
+        R,
+    >;
 
     fn serve(
         &self,

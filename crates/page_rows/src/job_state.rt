@@ -4,7 +4,7 @@ use crate::uncovered::{Uncovered, uncovered_of};
 use allocation_core::Core;
 use fleet_events::{CollectorId, TargetId};
 use lists::{List, Plain, Text};
-use service_pages::{JobShare, Coverage, Moment, TargetRow};
+use service_pages::{Coverage, JobShare, Moment, TargetRow};
 use std::alloc::{AllocError, Global};
 
 /// A job at a moment.

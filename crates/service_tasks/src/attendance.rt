@@ -1,9 +1,9 @@
 //! Collectors that ask for nothing for long: their lists are let go, they are drained, and then they leave.
+use crate::last_seen::LastSeen;
 use crate::logging::{log_of_number, log_warning};
 use crate::patience::Patience;
 use crate::scheduling::Schedule;
 use crate::shared::Shared;
-use crate::last_seen::LastSeen;
 use alloc_desk::Pass;
 use allocation_core::Core;
 use fleet_events::{Answer, CollectorId, Event};
@@ -322,7 +322,13 @@ impl<R: Wait + Clock + Eprint + Copy, L: Ledger, B: Ledger, N: JournalName> Shar
     ) -> Result<(), AllocError> {
         let heirs = self.heirs_of(present.newcomers.as_slice())?;
         let takers = self.state.take_takers(&self.rt);
-        attendance.note(self.alloc, present, heirs.as_slice(), takers.as_slice(), now)
+        attendance.note(
+            self.alloc,
+            present,
+            heirs.as_slice(),
+            takers.as_slice(),
+            now,
+        )
     }
 
     fn let_go_of_absent(

@@ -1,6 +1,6 @@
 //! What a service enters before it serves.
-use crate::service_context::ServiceContext;
 use crate::service::Service;
+use crate::service_context::ServiceContext;
 use crate::shared::Shared;
 use crate::told_source::ToldSource;
 use alloc_desk::Pass;

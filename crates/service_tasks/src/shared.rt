@@ -1,9 +1,9 @@
 //! What the threads of a desk share.
 use crate::control::{Control, Ending};
 use crate::evenings::evenings_of;
-use crate::service_context::ServiceContext;
 use crate::patience::Patience;
 use crate::service::Service;
+use crate::service_context::ServiceContext;
 use alloc_desk::{Desk, JobEvening};
 use kept_journal::{JournalName, Kept};
 use service_settings::{JobSpread, Spread};
