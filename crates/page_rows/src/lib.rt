@@ -7,25 +7,25 @@
 
 mod allocation_rows;
 mod booked;
-mod collector_rows;
-mod collector_state;
+mod collectors;
 mod figures;
 mod found;
-mod found_state;
+mod found_targets;
 mod handing_over;
-mod job_state;
-mod source_rows;
+mod one_collector;
+mod one_job;
+mod sources;
 mod target_rows;
 mod uncovered;
 
 pub use allocation_rows::allocations_text;
 pub use booked::{books_asked, job_books};
-pub use collector_rows::{collector_meant, collector_rows};
-pub use collector_state::{CollectorState, collector_state};
+pub use collectors::{collector_meant, collector_rows};
 pub use figures::figures_of;
 pub use found::{Found, LOOKED_AT_ONCE, MOST_FOUND, found_of, matching};
-pub use found_state::{FoundState, found_state};
+pub use found_targets::{FoundState, found_state};
 pub use handing_over::{HandingOver, targets_handing_over};
-pub use job_state::{JobState, held_by_name, job_state};
-pub use source_rows::source_rows;
+pub use one_collector::{CollectorState, collector_state};
+pub use one_job::{JobState, held_by_name, job_state};
+pub use sources::source_rows;
 pub use uncovered::{Uncovered, uncovered_of};

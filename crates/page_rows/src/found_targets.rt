@@ -1,8 +1,8 @@
 //! Live targets that have a text, at a moment.
-use crate::collector_state::is_waiting;
+use crate::one_collector::is_waiting;
 use crate::found::MOST_FOUND;
 use crate::handing_over::targets_handing_over;
-use crate::job_state::moment_of;
+use crate::one_job::moment_of;
 use crate::target_rows::push_live;
 use allocation_core::Core;
 use fleet_events::TargetId;

@@ -1,7 +1,7 @@
 //! A collector at a moment.
-use crate::collector_rows::collector_meant;
+use crate::collectors::collector_meant;
 use crate::handing_over::{HandingOver, targets_handing_over};
-use crate::job_state::moment_of;
+use crate::one_job::moment_of;
 use crate::target_rows::push_held;
 use allocation_core::Core;
 use fleet_events::{CollectorId, TargetId};
