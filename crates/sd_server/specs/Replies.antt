@@ -7,7 +7,7 @@ use Rattle.http.specs.declared.response.Response.{Response}
 use Rattle.http_body_util.specs.declared.full.Full.{Full}
 use Rattle.allocation_core.specs.State.{State}
 use Rattle.journal_entries.specs.declared.entry.Entry.{Entry as Line}
-use Rattle.alloc_desk.specs.declared.name.DeskName as DeskName
+use Rattle.kept_journal.specs.declared.journal_name.JournalName as JournalName
 use Rattle.sd_routes.specs.declared.ask.Ask.{Ask}
 use Rattle.sd_routes.specs.declared.ask.Ask.TheVariants as ask
 use Rattle.sd_routes.specs.declared.request_error.RequestError.{RequestError}
@@ -61,7 +61,7 @@ module _ {N K : Type 0} where
   Begins kept keeps span pages came (begun.Told entry route) = Leads keeps (SaysAtMost span pages came) entry × Leads keeps (OnceKept kept keeps span) entry
   Begins kept keeps span pages came (begun.Reads asked) = (came ≡ Ok asked) × (has_body asked ≡ true)
 
-module _ {R L B N I : Type 0} {l : Ledger.Ghosts L} {b : Ledger.Ghosts B} {n : DeskName.Ghosts N} where
+module _ {R L B N I : Type 0} {l : Ledger.Ghosts L} {b : Ledger.Ghosts B} {n : JournalName.Ghosts N} where
   abbrev pub CanGoOn : Stage R L B N I l b n → Type 0
   CanGoOn (stage.Told entry) = Unit {0}
   CanGoOn (stage.Reading reading) = IsSome reading.body.collected
