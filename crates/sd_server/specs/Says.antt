@@ -1,5 +1,5 @@
 -- What a request is told.
-use Rattle.std.specs.Prelude.{◌≡◌, ◌⊎◌, ◌≤◌, ℕ, List, [], ◌∷◌, Option, Some, None, Result, Ok, Err, Bool, true, false, IsSome, length, map}
+use Rattle.std.specs.Prelude.{◌≡◌, ◌⊎◌, ◌≤◌, ℕ, List, [], ◌∷◌, Option, Some, None, Result, Ok, Err, Bool, true, false, IsSome, length, map, if◌then◌else◌}
 use mathlib.Core.List.{IsPrefix}
 use Rattle.fleet.specs.Fleet.{id_named}
 use Rattle.fleet_events.specs.declared.event.Event.{Event}
