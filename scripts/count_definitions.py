@@ -28,7 +28,7 @@ PROMISES = [
     ("A list that was answered", "what a list was answered is of the one history that the journal has, and kept before", "sd_server Handler::entry",
      [("sd_server", "handler.rt", "entry", {"kept", "moves"}), ("sd_server", "collector_lists.rt", "collector", None)]),
     ("An event that was answered", "what an event was answered is the answer to an entry of the one history that the journal has, and kept before", "sd_server Handler::entry",
-     [("sd_server", "handler.rt", "entry", {"kept", "moves"}), ("sd_server", "handler.rt", "entered", None)]),
+     [("sd_server", "handler.rt", "entry", {"kept", "moves"}), ("sd_server", "entering.rt", "entered", None)]),
     ("The journal's file", "over all desks, reloads and renewals the file of a device that tells its bytes leads to the allocator that is served", "service_tasks continued",
      [("daemon", "serving.rt", "serve", None), ("daemon", "one_desk.rt", "serve_desk", None), ("service_tasks", "renewing.rt", "continued", None)]),
 ]

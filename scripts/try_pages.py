@@ -172,7 +172,7 @@ def metrics():
 
 def routes():
     """The paths of the sources, and those of the table of docs/operate/HTTP.md, each with `{}` for what stands for any segment."""
-    made = re.findall(r'router\.insert\("([^"]*)"', text_of("crates/sd_routes/src/routes.rt"))
+    made = re.findall(r'router\.insert\("([^"]*)"', text_of("crates/sd_routes/src/place.rt"))
     table = text_of("docs/operate/HTTP.md").split("| Request | Answer |")[1].split("\n\n")[0]
     told = [found for line in table.split("\n")[2:] for found in re.findall(r"`[A-Z]+ (/[^`?]*)", line.split(" | ")[0])]
     return tuple({re.sub(r"\{\w+\}", "{}", path) for path in paths} for paths in (made, told))

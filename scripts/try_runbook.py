@@ -12,7 +12,7 @@ import sys
 import told_rows
 from allocd_service import ROOT
 
-CRATES = ("service_tasks", "serve_command", "journal_files", "log_queue", "daemon")
+CRATES = ("service_tasks", "serve_command", "journal_files", "log_queue", "daemon", "etcd_archive", "standby")
 LEVELS = {"log_info": "info", "log_warning": "warn", "log_error": "error", "info!": "info", "warn!": "warn", "error!": "error"}
 CALL = re.compile(r"(?<![\w!])(log_info|log_warning|log_error|info!|warn!|error!)(_of)?\(")
 OF_COLLECTOR = re.compile(r"(?<![\w.])log_of_(?:name|number)\(&self\.rt, Level::(\w+),")

@@ -4,7 +4,9 @@ use Rattle.std.specs.List.{list_any}
 use Rattle.http_header.specs.FieldValue.{FieldValue}
 use Rattle.http_header.specs.HeaderMap.{Entries, get}
 use Rattle.sd_routes.specs.declared.ask.Ask.{Ask}
-use Rattle.sd_routes.specs.declared.ask.Ask.TheVariants.{Status, ScrapeConfigs, Jobs, Job, JobTargets, CollectorTargets, Uncovered, FindTargets, Acknowledged, Allocations, Books, Certificate, Collectors, Collector, Join, Leave, Drain, Release, SetLimits, Report, Healthy, Live, Ready, Metrics, Reload, Quit}
+use Rattle.sd_routes.specs.declared.access.Access.{Access}
+use Rattle.sd_routes.specs.declared.access.Access.TheVariants.{Shown, Noted, Looked, Taken, Reported, Changed}
+use Rattle.sd_routes.specs.Asks.{access_of, taker_of}
 use Rattle.admission.specs.declared.key.Key.{Key}
 use Rattle.admission.specs.Sites.{same_letters}
 
@@ -48,34 +50,17 @@ is_admin _ _ = false
 -- ---- who may ask for what
 
 -- Pages and figures are for all. Who may change who collects, read the configuration again and stop the service shows an admin's token;
--- who takes lists and reports shows a collector's or an admin's.
+-- who takes or looks at the lists of the collector of a name, and reports, shows a collector's or an admin's.
+abbrev pub may_by : Option (List Key) → Option (List Key) → Access → Option (List ℕ) → Option (List ℕ) → Bool
+may_by admin collectors Shown name shown = true
+may_by admin collectors Noted name shown = true
+may_by admin collectors Looked name shown = holds collectors name shown || is_admin admin shown
+may_by admin collectors Taken name shown = holds collectors name shown || is_admin admin shown
+may_by admin collectors Reported name shown = holds collectors name shown || is_admin admin shown
+may_by admin collectors Changed name shown = holds admin None shown
+
 abbrev pub may_ask : Option (List Key) → Option (List Key) → Ask → Option (List ℕ) → Bool
-may_ask admin collectors Status shown = true
-may_ask admin collectors (ScrapeConfigs rules) shown = true
-may_ask admin collectors Jobs shown = true
-may_ask admin collectors (Job job) shown = true
-may_ask admin collectors (JobTargets job) shown = true
-may_ask admin collectors (CollectorTargets job name takes) shown = holds collectors (Some name) shown || is_admin admin shown
-may_ask admin collectors (Uncovered job) shown = true
-may_ask admin collectors (FindTargets text) shown = true
-may_ask admin collectors (Acknowledged told counts) shown = true
-may_ask admin collectors Allocations shown = true
-may_ask admin collectors (Books round) shown = true
-may_ask admin collectors Certificate shown = true
-may_ask admin collectors Collectors shown = true
-may_ask admin collectors (Collector collector) shown = true
-may_ask admin collectors Join shown = holds admin None shown
-may_ask admin collectors (Leave collector) shown = holds admin None shown
-may_ask admin collectors (Drain collector) shown = holds admin None shown
-may_ask admin collectors (Release collector) shown = holds admin None shown
-may_ask admin collectors (SetLimits collector) shown = holds admin None shown
-may_ask admin collectors Report shown = holds collectors None shown || is_admin admin shown
-may_ask admin collectors Healthy shown = true
-may_ask admin collectors Live shown = true
-may_ask admin collectors Ready shown = true
-may_ask admin collectors Metrics shown = true
-may_ask admin collectors Reload shown = holds admin None shown
-may_ask admin collectors Quit shown = holds admin None shown
+may_ask admin collectors asked shown = may_by admin collectors (access_of asked) (taker_of asked) shown
 
 abbrev pub is_allowed : Option (List Key) → Option (List Key) → Option Ask → Option (List ℕ) → Bool
 is_allowed admin collectors None shown = true

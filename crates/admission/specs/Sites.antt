@@ -6,7 +6,9 @@ use Rattle.std.specs.Char.{to_ascii_lowercase}
 use Rattle.http_header.specs.FieldValue.{FieldValue}
 use Rattle.http_header.specs.HeaderMap.{Entries, get, get_all}
 use Rattle.sd_routes.specs.declared.ask.Ask.{Ask}
-use Rattle.sd_routes.specs.declared.ask.Ask.TheVariants.{Status, ScrapeConfigs, Jobs, Job, JobTargets, CollectorTargets, Uncovered, FindTargets, Acknowledged, Allocations, Books, Certificate, Collectors, Collector, Join, Leave, Drain, Release, SetLimits, Report, Healthy, Live, Ready, Metrics, Reload, Quit}
+use Rattle.sd_routes.specs.declared.access.Access.{Access}
+use Rattle.sd_routes.specs.declared.access.Access.TheVariants.{Shown, Noted, Looked, Taken, Reported, Changed}
+use Rattle.sd_routes.specs.Asks.{access_of}
 
 -- they differ in nothing but the case of letters
 abbrev pub same_letters : List ℕ → List ℕ → Bool
@@ -47,33 +49,16 @@ is_from_other_site fields = option_map_or is_other_site (get fields (codes "sec-
 -- ---- what may be asked from everywhere
 
 -- nothing is changed by it, no list is taken, and none is noted as followed
+abbrev pub shows : Access → Bool
+shows Shown = true
+shows Noted = false
+shows Looked = true
+shows Taken = false
+shows Reported = false
+shows Changed = false
+
 abbrev pub only_shows : Ask → Bool
-only_shows Status = true
-only_shows (ScrapeConfigs rules) = true
-only_shows Jobs = true
-only_shows (Job job) = true
-only_shows (JobTargets job) = true
-only_shows (CollectorTargets job name takes) = not takes
-only_shows (Uncovered job) = true
-only_shows (FindTargets text) = true
-only_shows (Acknowledged told counts) = not counts
-only_shows Allocations = true
-only_shows (Books round) = true
-only_shows Certificate = true
-only_shows Collectors = true
-only_shows (Collector collector) = true
-only_shows Join = false
-only_shows (Leave collector) = false
-only_shows (Drain collector) = false
-only_shows (Release collector) = false
-only_shows (SetLimits collector) = false
-only_shows Report = false
-only_shows Healthy = true
-only_shows Live = true
-only_shows Ready = true
-only_shows Metrics = true
-only_shows Reload = false
-only_shows Quit = false
+only_shows asked = shows (access_of asked)
 
 -- a request that has no place shows nothing
 abbrev pub is_shown : Option Ask → Bool

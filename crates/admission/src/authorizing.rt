@@ -6,7 +6,7 @@ use crate::key::Key;
 use crate::sites::same_letters;
 use http_header::{AUTHORIZATION, HeaderMap};
 use lists::{List, Text};
-use sd_routes::Ask;
+use sd_routes::{Access, Ask};
 
 /// Whether who shows this token, or none, may ask for this.
 pub(crate) fn is_allowed(
@@ -20,37 +20,12 @@ pub(crate) fn is_allowed(
     let Some(ask) = ask else {
         return true;
     };
-    match ask {
-        Ask::Status
-        | Ask::ScrapeConfigs { rules: _ }
-        | Ask::Jobs
-        | Ask::Job(_)
-        | Ask::JobTargets(_)
-        | Ask::Uncovered(_)
-        | Ask::FindTargets(_)
-        | Ask::Acknowledged { told: _, counts: _ }
-        | Ask::Allocations
-        | Ask::Books(_)
-        | Ask::Certificate
-        | Ask::Collectors
-        | Ask::Collector(_)
-        | Ask::Healthy
-        | Ask::Live
-        | Ask::Ready
-        | Ask::Metrics => true,
-        Ask::Join
-        | Ask::Leave(_)
-        | Ask::Drain(_)
-        | Ask::Release(_)
-        | Ask::SetLimits(_)
-        | Ask::Reload
-        | Ask::Quit => holds(admin, None, token),
-        Ask::CollectorTargets {
-            job: _,
-            name,
-            takes: _,
-        } => { holds(collectors, Some(name.as_str()), token) || is_admin(admin, token) }
-        Ask::Report => holds(collectors, None, token) || is_admin(admin, token),
+    match ask.access() {
+        Access::Shown | Access::Noted => true,
+        Access::Looked | Access::Taken | Access::Reported => {
+            holds(collectors, ask.taker(), token) || is_admin(admin, token)
+        }
+        Access::Changed => holds(admin, None, token),
     }
 }
 

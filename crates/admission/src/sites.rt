@@ -5,7 +5,7 @@ ghost use Rattle.admission.specs.Sites.{same_letters as same_letters_of, is_own_
 
 use http_header::{HOST, HeaderMap, ORIGIN};
 use lists::{List, Text};
-use sd_routes::Ask;
+use sd_routes::{Access, Ask};
 
 /// Whether each host that is named is one of these.
 pub(crate) fn are_own_hosts(hosts: &Option<List<Text>>, fields: &HeaderMap) -> bool
@@ -75,37 +75,9 @@ fn is_shown(ask: Option<&Ask>) -> bool
 fn only_shows(ask: &Ask) -> bool
     ensures { result ≡ only_shows_of ask.now }
 {
-    match ask {
-        Ask::Status
-        | Ask::ScrapeConfigs { rules: _ }
-        | Ask::Jobs
-        | Ask::Job(_)
-        | Ask::JobTargets(_)
-        | Ask::Uncovered(_)
-        | Ask::FindTargets(_)
-        | Ask::Allocations
-        | Ask::Books(_)
-        | Ask::Certificate
-        | Ask::Collectors
-        | Ask::Collector(_)
-        | Ask::Healthy
-        | Ask::Live
-        | Ask::Ready
-        | Ask::Metrics => true,
-        Ask::CollectorTargets {
-            job: _,
-            name: _,
-            takes,
-        } => !*takes,
-        Ask::Acknowledged { told: _, counts } => !*counts,
-        Ask::Join
-        | Ask::Leave(_)
-        | Ask::Drain(_)
-        | Ask::Release(_)
-        | Ask::SetLimits(_)
-        | Ask::Report
-        | Ask::Reload
-        | Ask::Quit => false,
+    match ask.access() {
+        Access::Shown | Access::Looked => true,
+        Access::Noted | Access::Taken | Access::Reported | Access::Changed => false,
     }
 }
 

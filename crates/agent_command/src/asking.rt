@@ -41,7 +41,7 @@ where
                 Some(answer)
             }
             Err(cause) => {
-                count(&self.shelf.counts.allocator_failures, 1);
+                count(&self.store.counts.allocator_failures, 1);
                 tell_allocator_away(&self.rt, &self.is_allocator_away, cause);
                 None
             }
@@ -69,7 +69,7 @@ where
     }
 
     fn miss_prometheus(&self, cause: Cause) {
-        count(&self.shelf.counts.prometheus_failures, 1);
+        count(&self.store.counts.prometheus_failures, 1);
         tell_prometheus_away(&self.rt, &self.is_prometheus_away, cause);
     }
 

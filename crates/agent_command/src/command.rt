@@ -4,6 +4,7 @@ use crate::places::{Places, places_at};
 use crate::running::run;
 use crate::state_file::memory_at;
 use agent_core::Memory;
+use event_loops::Runtime;
 use log::error;
 use log_queue::LogQueue;
 use logfmt::Logfmt;
@@ -92,18 +93,7 @@ fn log_failure<R: Eprint + Clock + Copy>(rt: &R, error: &io::Error) {
 /// Runs the agent of a configuration.
 fn run_at<R>(rt: &R, lookups: &Lookups, config: &str) -> Result<(), Fault>
 where
-    R: Wait
-        + Threads
-        + Clock
-        + Net<Listener = TcpListener, Stream = TcpStream>
-        + Files<File = File>
-        + RandomSource
-        + AllocGlobal
-        + Eprint
-        + Sync
-        + Send
-        + Copy
-        + Drop,
+    R: Runtime + Files<File = File> + Eprint,
 {
     let places = places_at(rt, config)?;
     let ended = match begun(rt, &places) {

@@ -1,11 +1,11 @@
-//! What lies outside of an agent: this machine's clock and disk, the allocator and the Prometheus over HTTP, and the shelf.
+//! What lies outside of an agent: this machine's clock and disk, the allocator and the Prometheus over HTTP, and the store of lists.
 use crate::asking::count;
 use crate::jobs::Jobs;
 use crate::places::Places;
 use crate::state_file::write_state;
 use agent_core::{Agent, Lasts, Report, Said, Serving};
 use agent_documents::list_of;
-use agent_lists::{JobList, Shelf};
+use agent_lists::{JobList, ListStore};
 use agent_turns::{Heard, Outside, Posted};
 use lists::Text;
 use log::error;
@@ -27,7 +27,7 @@ pub(crate) struct Edge<'a, R> {
     pub(crate) rt: R,
     pub(crate) alloc: Global,
     pub(crate) lookups: &'a Lookups,
-    pub(crate) shelf: &'a Shelf,
+    pub(crate) store: &'a ListStore,
     pub(crate) places: &'a Places,
     pub(crate) jobs: Jobs,
     /// How long a round is, in milliseconds. 0 where nobody told.
@@ -43,14 +43,14 @@ impl<'a, R: AllocGlobal + Copy> Edge<'a, R> {
     pub(crate) fn new(
         rt: &R,
         lookups: &'a Lookups,
-        shelf: &'a Shelf,
+        store: &'a ListStore,
         places: &'a Places,
     ) -> Edge<'a, R> {
         Edge {
             rt: *rt,
             alloc: rt.alloc(),
             lookups,
-            shelf,
+            store,
             places,
             jobs: Jobs::new(rt.alloc()),
             round: AtomicU64::new(0),
@@ -90,17 +90,17 @@ impl<R: Wait> Edge<'_, R> {
         Ok(())
     }
 
-    /// Puts the lists on the shelf, up to the end of the lease that begins at a time.
+    /// Puts the lists into the store, up to the end of the lease that begins at a time.
     fn put(&self, agent: &Agent, at: u64) {
         let until = self.places.lease.map(|lease| at.saturating_add(lease));
         if let Ok(lists) = self.lists_of(agent) {
-            self.shelf.put(&self.rt, until, lists);
+            self.store.put(&self.rt, until, lists);
         }
     }
 
     /// Notes how many targets an agent holds, and serves.
     fn note(&self, agent: &Agent) {
-        let counts = &self.shelf.counts;
+        let counts = &self.store.counts;
         counts
             .held
             .store(agent.targets().len() as u64, Ordering::SeqCst);
@@ -158,7 +158,7 @@ where
         match write_state(&self.rt, self.places.state.as_str(), text) {
             Ok(()) => true,
             Err(error) => {
-                count(&self.shelf.counts.state_failures, 1);
+                count(&self.store.counts.state_failures, 1);
                 log_failure(&self.rt, self.places.state.as_str(), &error);
                 false
             }

@@ -235,7 +235,7 @@ where
         match heard {
             Heard::Lists(_) => {
                 self.taken.store(at, Ordering::SeqCst);
-                count(&self.shelf.counts.takes, 1);
+                count(&self.store.counts.takes, 1);
             }
             Heard::Gone | Heard::Unknown => self.join(),
             Heard::Nothing => {}

@@ -22,7 +22,7 @@ where
             match self.post_some(some) {
                 Posted::Answered => {}
                 Posted::Over => {
-                    count(&self.shelf.counts.refusals, 1);
+                    count(&self.store.counts.refusals, 1);
                     return Posted::Over;
                 }
                 Posted::Unknown => return Posted::Unknown,
@@ -35,7 +35,7 @@ where
     fn post_some(&self, reports: &[Report]) -> Posted {
         match self.texts_of(reports) {
             Ok(Some((path, body))) => {
-                count(&self.shelf.counts.reports, reports.len() as u64);
+                count(&self.store.counts.reports, reports.len() as u64);
                 self.post_text(path.as_str(), body.as_str())
             }
             Ok(None) => Posted::Answered,

@@ -2,9 +2,9 @@
 use crate::edge::Edge;
 use crate::places::Places;
 use agent_core::{Agent, Memory};
-use agent_lists::{Shelf, serve_lists};
+use agent_lists::{ListStore, serve_lists};
 use agent_turns::turn;
-use event_loops::{Gate, Times};
+use event_loops::{Gate, Runtime, Times};
 use log::{error, info};
 use logfmt::Logfmt;
 use scrape_client::Lookups;
@@ -15,7 +15,6 @@ use std::random::RandomSource;
 use std::rt::Files;
 use std::sync::atomic::{AtomicBool, Ordering};
 use std::sync::{Arc, Wait};
-use std::thread::Threads;
 use std::time::{Clock, Duration};
 use std::{io, thread};
 
@@ -39,20 +38,9 @@ pub(crate) fn run<R>(
     memory: Memory,
 ) -> io::Result<()>
 where
-    R: Wait
-        + Threads
-        + Clock
-        + Net<Listener = TcpListener, Stream = TcpStream>
-        + Files<File = File>
-        + RandomSource
-        + AllocGlobal
-        + Eprint
-        + Sync
-        + Send
-        + Copy
-        + Drop,
+    R: Runtime + Files<File = File> + Eprint,
 {
-    let (gate, shelf) = match shared_of(rt) {
+    let (gate, store) = match shared_of(rt) {
         Ok(found) => found,
         Err(error) => {
             drop(memory);
@@ -64,10 +52,10 @@ where
     log_address(rt, listener);
     let (served, ()) = thread::join(
         rt,
-        || serve_then_stop(rt, &gate, listener, &shelf, &is_over),
-        || make_turns(rt, lookups, &shelf, places, &mut agent, &is_over),
+        || serve_then_stop(rt, &gate, listener, &store, &is_over),
+        || make_turns(rt, lookups, &store, places, &mut agent, &is_over),
     );
-    drop((agent, shelf, gate));
+    drop((agent, store, gate));
     served
 }
 
@@ -76,7 +64,7 @@ fn serve_then_stop<R>(
     rt: &R,
     gate: &Gate,
     listener: &TcpListener,
-    shelf: &Arc<Shelf>,
+    store: &Arc<ListStore>,
     is_over: &AtomicBool,
 ) -> io::Result<()>
 where
@@ -88,27 +76,27 @@ where
         + Copy
         + Drop,
 {
-    let served = serve_lists(rt, gate, listener, shelf);
+    let served = serve_lists(rt, gate, listener, store);
     is_over.store(true, Ordering::SeqCst);
     served
 }
 
 /// What the two threads share.
-fn shared_of<R: AllocGlobal>(rt: &R) -> Result<(Gate, Arc<Shelf>), AllocError> {
-    let shelf = shelf_of(rt)?;
+fn shared_of<R: AllocGlobal>(rt: &R) -> Result<(Gate, Arc<ListStore>), AllocError> {
+    let store = store_of(rt)?;
     let gate = Gate::new(rt.alloc(), CONNECTIONS, Times::DEFAULT)?;
-    Ok((gate, shelf))
+    Ok((gate, store))
 }
 
-fn shelf_of<R: AllocGlobal>(rt: &R) -> Result<Arc<Shelf>, AllocError> {
-    Ok(Arc::new(rt.alloc(), Shelf::new(rt.alloc()))?)
+fn store_of<R: AllocGlobal>(rt: &R) -> Result<Arc<ListStore>, AllocError> {
+    Ok(Arc::new(rt.alloc(), ListStore::new(rt.alloc()))?)
 }
 
 /// Makes one turn after the other.
 fn make_turns<R>(
     rt: &R,
     lookups: &Lookups,
-    shelf: &Shelf,
+    store: &ListStore,
     places: &Places,
     agent: &mut Agent,
     is_over: &AtomicBool,
@@ -124,7 +112,7 @@ where
         + Copy
         + Drop,
 {
-    let mut edge = Edge::new(rt, lookups, shelf, places);
+    let mut edge = Edge::new(rt, lookups, store, places);
     for _ in rt.forever() {
         if is_over.load(Ordering::SeqCst) {
             return;

@@ -2,18 +2,13 @@
 use crate::fault::Fault;
 use agent_settings::Tokens;
 use lists::Text;
+use private_files::private_text;
 use std::alloc::{AllocError, AllocGlobal};
 use std::fs::File;
-use std::io;
-use std::io::Read;
-use std::os::unix::fs::PermissionsExt;
 use std::rt::Files;
 
 /// The most bytes of a file of a token.
 const LONGEST_TOKEN: u64 = 65_536;
-
-/// The bits of a file's mode by which others than its owner may do something.
-const OTHERS: u32 = 0o077;
 
 /// What an agent shows as `authorization`, each nothing where no file is named.
 #[derive(Drop)]
@@ -49,19 +44,9 @@ fn key_at<R: Files<File = File> + AllocGlobal>(
         return Ok(None);
     };
     let file = file.as_str();
-    match text_at(rt, file) {
-        Ok(Some(text)) => Ok(Some(key_in(rt, text.as_str())?)),
-        Ok(None) => told(
-            rt,
-            path,
-            member,
-            file,
-            "others may read or write it: chmod 600 it",
-        ),
-        Err(error) => {
-            let why = format!(in rt.alloc(); "{error}")?;
-            told(rt, path, member, file, why.as_str())
-        }
+    match private_text(rt, file, LONGEST_TOKEN)? {
+        Ok(text) => Ok(Some(key_in(rt, text.as_str())?)),
+        Err(why) => told(rt, path, member, file, why.as_str()),
     }
 }
 
@@ -79,15 +64,4 @@ fn told<R: AllocGlobal, T>(
 fn key_in<R: AllocGlobal>(rt: &R, text: &str) -> Result<Text, AllocError> {
     let token = text.trim();
     Ok(Text::from_string(format!(in rt.alloc(); "Bearer {token}")?))
-}
-
-/// The text of a file that nobody but its owner may read.
-fn text_at<R: Files<File = File> + AllocGlobal>(rt: &R, path: &str) -> io::Result<Option<String>> {
-    let file = File::open(rt, path)?;
-    if file.metadata()?.permissions().mode() & OTHERS != 0 {
-        return Ok(None);
-    }
-    let mut text = String::new(rt.alloc());
-    file.take(LONGEST_TOKEN).read_to_string(&mut text)?;
-    Ok(Some(text))
 }

@@ -18,7 +18,7 @@ pub enum Standing {
 }
 
 /// What an agent's Prometheus is served.
-#[derive(Clone, Copy, Debug, PartialEq, Eq)]
+#[derive(Clone, Copy, PartialEq, Eq)]
 pub enum Serving {
     /// Nothing is known as yet: Prometheus is to keep what it has.
     Unknown,

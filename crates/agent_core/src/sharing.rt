@@ -20,7 +20,7 @@ pub const SPAN: u64 = 1;
 const CLEARANCE: u64 = 2;
 
 /// The last scrape of a target that Prometheus scrapes.
-#[derive(Debug, Drop)]
+#[derive(Drop)]
 pub struct LastScrape {
     /// The index of the job, where Prometheus names one of those that are known and has stored the scrape. It is nobody's otherwise.
     pub job: Option<u32>,

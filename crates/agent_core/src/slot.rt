@@ -6,7 +6,7 @@ use scrape_books::Outcome;
 use std::alloc::{AllocError, Global};
 
 /// A scrape, as Prometheus tells of it.
-#[derive(Clone, Copy, Debug, PartialEq, Eq)]
+#[derive(Clone, Copy, PartialEq, Eq)]
 pub struct Point {
     /// When it began, in milliseconds.
     pub time: u64,

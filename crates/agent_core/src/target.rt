@@ -11,7 +11,7 @@ pub struct Series {
 }
 
 /// A target of a list. Two are the same where they have one group in one job, whatever their numbers.
-#[derive(Debug, Drop)]
+#[derive(Drop)]
 pub struct Listed {
     /// The index of the job.
     pub job: u32,

@@ -5,14 +5,14 @@ ghost use Rattle.agent_core.specs.Sharing.{has_parameter, has_parameters, is_url
 use lists::{List, Text};
 
 /// A parameter of a URL's query, by the name of its label: `__param_` and its own name behind that.
-#[derive(Debug, Drop)]
+#[derive(Drop)]
 pub struct Parameter {
     pub name: Text,
     pub value: Text,
 }
 
 /// A URL as it is meant, and not as it is escaped: what stands before its query, and the parameters of that, in their order.
-#[derive(Debug, Drop)]
+#[derive(Drop)]
 pub struct Url {
     pub base: Text,
     pub parameters: List<Parameter>,

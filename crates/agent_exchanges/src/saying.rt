@@ -17,7 +17,7 @@ pub struct Heads<'a> {
 }
 
 /// What the allocator says.
-#[derive(Clone, Copy, Debug, PartialEq, Eq)]
+#[derive(Clone, Copy, PartialEq, Eq)]
 pub enum Saying {
     /// The list of the body is of this head, and its round is open for certain up to this time.
     List(Head, u64),

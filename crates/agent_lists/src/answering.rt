@@ -3,8 +3,8 @@ ghost use Rattle.std.specs.Prelude.{IsTrue};
 ghost use Rattle.http_header.specs.FieldValue.{is_visible_text};
 
 use crate::counts::count_one;
+use crate::list_store::{Found, ListStore};
 use crate::metrics::metrics_page;
-use crate::shelf::{Found, Shelf};
 use bytes::Bytes;
 use http::response::Parts;
 use http::{Response, StatusCode};
@@ -34,15 +34,15 @@ enum Wanted<'a> {
 pub(crate) fn response_to<R: Wait + Clock>(
     rt: &R,
     alloc: Global,
-    shelf: &Shelf,
+    store: &ListStore,
     method: &str,
     path: &str,
     fields: &HeaderMap,
 ) -> Result<Response<Full<Bytes>>, AllocError> {
     match wanted_by(method, path, fields) {
-        Wanted::List(segment) => list_response(rt, alloc, shelf, segment),
+        Wanted::List(segment) => list_response(rt, alloc, store, segment),
         Wanted::Health => plain(alloc, StatusCode::OK, b"allocd agent is healthy.\n"),
-        Wanted::Metrics => metrics_response(alloc, shelf),
+        Wanted::Metrics => metrics_response(alloc, store),
         Wanted::Nothing => plain(alloc, StatusCode::NOT_FOUND, b"There is nothing here.\n"),
         Wanted::Method => plain(
             alloc,
@@ -93,13 +93,13 @@ fn is_own_host(fields: &HeaderMap) -> bool {
 fn list_response<R: Wait + Clock>(
     rt: &R,
     alloc: Global,
-    shelf: &Shelf,
+    store: &ListStore,
     segment: &str,
 ) -> Result<Response<Full<Bytes>>, AllocError> {
     let now = millis_now(rt);
-    match found_for(rt, alloc, shelf, segment, now)? {
+    match found_for(rt, alloc, store, segment, now)? {
         Found::List(list) => {
-            count_one(&shelf.counts.lists);
+            count_one(&store.counts.lists);
             response(alloc, StatusCode::OK, "application/json", list)
         }
         Found::Unknown => plain(
@@ -119,12 +119,12 @@ fn list_response<R: Wait + Clock>(
 fn found_for<R: Wait>(
     rt: &R,
     alloc: Global,
-    shelf: &Shelf,
+    store: &ListStore,
     segment: &str,
     now: u64,
 ) -> Result<Found, AllocError> {
     match percent_decode(segment.as_bytes()).decode_utf8(alloc) {
-        Ok(job) => shelf.find(rt, alloc, job.into_owned(alloc)?.as_str(), now),
+        Ok(job) => store.find(rt, alloc, job.into_owned(alloc)?.as_str(), now),
         Err(DecodeError::OutOfMemory) => Err(AllocError),
         Err(DecodeError::Utf8(_)) => Ok(Found::NoJob),
     }
@@ -138,8 +138,8 @@ fn millis_now<R: Clock>(rt: &R) -> u64 {
     }
 }
 
-fn metrics_response(alloc: Global, shelf: &Shelf) -> Result<Response<Full<Bytes>>, AllocError> {
-    let page = Bytes::from_string(metrics_page(alloc, &shelf.counts)?)?;
+fn metrics_response(alloc: Global, store: &ListStore) -> Result<Response<Full<Bytes>>, AllocError> {
+    let page = Bytes::from_string(metrics_page(alloc, &store.counts)?)?;
     response(
         alloc,
         StatusCode::OK,

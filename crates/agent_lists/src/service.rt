@@ -1,6 +1,6 @@
 //! The service that a connection calls for each request.
 use crate::answering::response_to;
-use crate::shelf::Shelf;
+use crate::list_store::ListStore;
 use bytes::Bytes;
 use futures::future::{Ready, ready};
 use http::{Request, Response};
@@ -11,12 +11,12 @@ use std::alloc::{AllocError, Global};
 use std::sync::{Arc, Wait};
 use std::time::Clock;
 
-/// Answers requests with what is on a shelf.
+/// Answers requests with what a store has.
 #[derive(Drop)]
 pub(crate) struct ListService<R> {
     pub(crate) rt: R,
     pub(crate) alloc: Global,
-    pub(crate) shelf: Arc<Shelf>,
+    pub(crate) store: Arc<ListStore>,
 }
 
 impl<R: Wait + Clock + Drop, I: Drop> Service<Request<Incoming<I>>> for ListService<R> {
@@ -31,7 +31,7 @@ impl<R: Wait + Clock + Drop, I: Drop> Service<Request<Incoming<I>>> for ListServ
         ready(response_to(
             &self.rt,
             self.alloc,
-            &self.shelf,
+            &self.store,
             head.method.as_str(),
             head.uri.path(),
             &head.headers,

@@ -1,7 +1,5 @@
 -- The names of members. The tables stand in `src/tables.rt`.
-use Rattle.std.specs.Prelude.{ℕ, List, map, Bool}
-use Rattle.std.specs.List.{list_any}
-use Rattle.std.specs.Str.{bytes_eq}
+use Rattle.std.specs.Prelude.{ℕ, List, map}
 use Rattle.agent_settings.specs.declared.members.Kind.{Kind}
 use Rattle.agent_settings.specs.declared.members.Kind.TheVariants.{Document, Tokens, Join}
 use Rattle.agent_settings.specs.declared.tables.TheConstants.{DOCUMENT, TOKENS, JOIN}
@@ -10,6 +8,3 @@ abbrev pub names_of : Kind → List (List ℕ)
 names_of Document = map (λ s. s.now) DOCUMENT
 names_of Tokens = map (λ s. s.now) TOKENS
 names_of Join = map (λ s. s.now) JOIN
-
-abbrev pub is_among : List (List ℕ) → List ℕ → Bool
-is_among names name = list_any (λ candidate. bytes_eq candidate name) names

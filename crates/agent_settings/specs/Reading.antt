@@ -3,7 +3,7 @@ use Rattle.std.specs.Prelude.{◌≡◌, ◌≢◌, ℕ, ◌==◌, ◌&&◌, Boo
 use Rattle.std.specs.List.{starts_with}
 use Rattle.std.specs.Option.{ok_or}
 use Rattle.serde_json.specs.Data.{Data}
-use Rattle.serde_json.specs.Find.{get, as_str}
+use Rattle.serde_json.specs.Find.{as_str}
 use Rattle.json_values.specs.Texts.{json_of}
 use Rattle.service_settings.specs.declared.address.Address.{Address}
 use Rattle.service_settings.specs.Addresses.{address_said}
@@ -26,10 +26,6 @@ Gives view (Err e) said = e ≢ Memory → said ≡ Err e
 -- the value of a JSON text
 abbrev pub json_said : List ℕ → Result Data SettingsError
 json_said bytes = ok_or (json_of bytes) NotJson
-
--- the member of a name, where what it is a member of is there
-abbrev pub member_at : List ℕ → Option Data → Option Data
-member_at name found = option_and_then (get name) found
 
 -- ---- what a value says
 

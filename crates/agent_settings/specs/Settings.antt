@@ -8,12 +8,13 @@ use Rattle.agent_settings.specs.declared.members.Kind.TheVariants as kind
 use Rattle.agent_settings.specs.declared.settings.Settings.{Settings}
 use Rattle.agent_settings.specs.declared.settings.Tokens.{Tokens}
 use Rattle.agent_settings.specs.declared.settings.TheConstants.{DEFAULT_LISTEN}
+use Rattle.service_settings.specs.Reading.{member_at}
 use Rattle.agent_settings.specs.Members.{known_said, members_said}
-use Rattle.agent_settings.specs.Reading.{◌>>=◌, json_said, lease_said, listen_said, member_at, path_said, text_said, url_said}
+use Rattle.agent_settings.specs.Reading.{◌>>=◌, json_said, lease_said, listen_said, path_said, text_said, url_said}
 
 unfoldable pub tokens_said : Option Data → Result Tokens SettingsError
 tokens_said found =
-    known_said kind.Tokens part.Tokens found >>= λ tokens.
+    known_said kind.Tokens found >>= λ tokens.
     path_said part.AllocatorToken (member_at (codes "allocator") tokens) >>= λ allocator.
     path_said part.AdminToken (member_at (codes "admin") tokens) >>= λ admin.
     path_said part.PrometheusToken (member_at (codes "prometheus") tokens) >>= λ prometheus.
@@ -21,7 +22,7 @@ tokens_said found =
 
 unfoldable pub settings_said : Data → Result Settings SettingsError
 settings_said d =
-    members_said kind.Document part.Document d >>= λ known.
+    members_said kind.Document d >>= λ known.
     text_said part.Name (get (codes "name") d) >>= λ name.
     url_said part.Allocator (get (codes "allocator") d) >>= λ allocator.
     url_said part.Prometheus (get (codes "prometheus") d) >>= λ prometheus.

@@ -1,17 +1,18 @@
 //! What a collector joins with.
 use crate::error::{Member, SettingsError};
 use crate::members::{Kind, known_or_none};
-use crate::reading::{json_in, member_of};
+use crate::reading::json_in;
 use json_values::text_of;
 use lists::Text;
 use serde_json::{Map, Value};
+use service_settings::member_of;
 use std::alloc::{AllocError, Global};
 
 /// The body with which an agent's collector of a name joins, where the document says that it joins by itself.
 pub fn join_text(alloc: Global, name: &str, bytes: &[u8]) -> Result<Option<Text>, SettingsError> {
     let document = json_in(alloc, bytes)?;
     let found = document.get("join");
-    match known_or_none(alloc, Kind::Join, Member::Join, found)? {
+    match known_or_none(alloc, Kind::Join, found)? {
         Some(join) => Ok(Some(body_of(alloc, name, join)?)),
         None => Ok(None),
     }

@@ -1,7 +1,7 @@
 //! What members of a document say, or why they are refused.
 ghost use Rattle.std.specs.Prelude.{◌≡◌, option_map};
 ghost use Rattle.serde_json.specs.View.{view};
-ghost use Rattle.agent_settings.specs.Reading.{Gives, above_zero, filled, filled_in, is_loop, json_said, lease_said, listen_said, loopback, loopback_in, member_at, path_said, text_said, time_in, url_in, url_said, url_text};
+ghost use Rattle.agent_settings.specs.Reading.{Gives, above_zero, filled, filled_in, is_loop, json_said, lease_said, listen_said, loopback, loopback_in, path_said, text_said, time_in, url_in, url_said, url_text};
 
 use crate::error::{Member, SettingsError};
 use json_values::parse;
@@ -15,13 +15,6 @@ pub(crate) fn json_in(alloc: Global, bytes: &[u8]) -> Result<Value, SettingsErro
     ensures { Gives view result (json_said bytes.now) }
 {
     parse(alloc, bytes)?.ok_or(SettingsError::NotJson)
-}
-
-/// The member of a name.
-pub(crate) fn member_of<'a>(found: Option<&'a Value>, name: &str) -> Option<&'a Value>
-    ensures { option_map (λ v. view v.now) result ≡ member_at name.now (option_map (λ v. view v.now) found.entry) }
-{
-    found?.get(name)
 }
 
 /// A text that is not empty.

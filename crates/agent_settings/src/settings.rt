@@ -6,10 +6,10 @@ ghost use Rattle.agent_settings.specs.Settings.{settings_read, settings_said, to
 
 use crate::error::{Member, SettingsError};
 use crate::members::{Kind, check_members, known_or_none};
-use crate::reading::{json_in, lease_or_none, listen_or, member_of, path_or_none, text_in, url_in};
+use crate::reading::{json_in, lease_or_none, listen_or, path_or_none, text_in, url_in};
 use lists::Text;
 use serde_json::Value;
-use service_settings::Address;
+use service_settings::{Address, member_of};
 use std::alloc::Global;
 
 /// Where an agent serves its Prometheus where nothing is said.
@@ -60,7 +60,7 @@ pub fn read_settings(alloc: Global, bytes: &[u8]) -> Result<Settings, SettingsEr
 fn settings_in(alloc: Global, document: &Value) -> Result<Settings, SettingsError>
     ensures { Gives (λ s. s) result (settings_said (view document.now)) }
 {
-    check_members(alloc, Kind::Document, Member::Document, document)?;
+    check_members(alloc, Kind::Document, document)?;
     let name = text_in(alloc, Member::Name, document.get("name"))?;
     let allocator = url_in(alloc, Member::Allocator, document.get("allocator"))?;
     let prometheus = url_in(alloc, Member::Prometheus, document.get("prometheus"))?;
@@ -83,7 +83,7 @@ fn settings_in(alloc: Global, document: &Value) -> Result<Settings, SettingsErro
 fn tokens_in(alloc: Global, found: Option<&Value>) -> Result<Tokens, SettingsError>
     ensures { Gives (λ t. t) result (tokens_said (option_map (λ v. view v.now) found.entry)) }
 {
-    let tokens = known_or_none(alloc, Kind::Tokens, Member::Tokens, found)?;
+    let tokens = known_or_none(alloc, Kind::Tokens, found)?;
     let allocator = member_of(tokens, "allocator");
     let allocator = path_or_none(alloc, Member::AllocatorToken, allocator)?;
     let admin = path_or_none(alloc, Member::AdminToken, member_of(tokens, "admin"))?;

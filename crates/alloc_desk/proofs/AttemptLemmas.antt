@@ -1,11 +1,11 @@
--- What the answer to an Install says of an attempt.
+-- What the answers to an Install and to a Spread say of an attempt.
 use Rattle.std.proofs.Common.{◌≡◌, ◌+◌, ℕ, IsTrue, sym, arith, true≢false}
 use Rattle.price_certificate.specs.Certificate.{IsCertified}
 use Rattle.price_certificate.specs.Problem.{Problem}
 use Rattle.price_certificate.specs.declared.plan.Plan.{Plan}
 use Rattle.allocation_core.specs.State.{State, instance_at}
 use Rattle.allocation_core.specs.Steps.{state_after}
-use Rattle.allocation_core.specs.Answers.{is_install_answer}
+use Rattle.allocation_core.specs.Answers.{is_install_answer, is_spread_answer}
 use Rattle.fleet_events.specs.declared.event.Event.{Event}
 use Rattle.fleet_events.specs.declared.event.Event.TheVariants.{Install}
 use Rattle.fleet_events.specs.declared.answer.Answer.{Answer}
@@ -18,6 +18,9 @@ use Rattle.alloc_desk.specs.Counts.{Counts}
 use Rattle.alloc_desk.specs.Reached.{Reached, IsReceipt}
 use Rattle.alloc_desk.specs.Reallocating.{EndsIn, CameTo}
 use Rattle.alloc_desk.proofs.JournalLemmas.{legal_push}
+use Rattle.std.specs.Prelude.{Option}
+use Rattle.spread_certificate.specs.declared.spread.Spread.{Spread as SpreadPlan}
+use Rattle.alloc_desk.specs.Spreading.{Spreads, CameToSpread, spread_attempted_by}
 
 -- a receipt's answer ends a journal
 pub ends_in : (opening : State) (counts : Counts) (event : Event) (r : Receipt) → Reached opening counts (IsReceipt event counts r) → EndsIn opening (counts.calls + 1) event r.answer
@@ -67,3 +70,41 @@ came_to opening counts instance plan (Taken number round held) searched certifie
 came_to opening counts instance plan (Served number round listed left_out) searched certified h e = absurd (true≢false (sym h))
 came_to opening counts instance plan (Released count) searched certified h e = absurd (true≢false (sym h))
 came_to opening counts instance plan Booked searched certified h e = absurd (true≢false (sym h))
+
+-- What the answer to a Spread says of an attempt.
+
+pub came_to_spread :
+    (opening : State) (counts : Counts) (slack : ℕ) (most_moves : Option ℕ) (question : Problem × ℕ) (spread : SpreadPlan) (a : Answer)
+    → IsTrue (is_spread_answer a) → Spreads opening counts slack most_moves question spread a → CameToSpread opening counts slack most_moves (spread_attempted_by a)
+came_to_spread opening counts slack most_moves question spread (Published number) h s = (question, (spread, s))
+came_to_spread opening counts slack most_moves question spread (Not (Unchanged number)) h s = (question, (spread, s))
+came_to_spread opening counts slack most_moves question spread (Not NumbersSpent) h s = (question, (spread, s))
+came_to_spread opening counts slack most_moves question spread (Not (RefusedSpread fault)) h s = (question, (spread, s))
+came_to_spread opening counts slack most_moves question spread (Not (Refused fault)) h s = absurd (true≢false (sym h))
+came_to_spread opening counts slack most_moves question spread (Not UnknownJob) h s = absurd (true≢false (sym h))
+came_to_spread opening counts slack most_moves question spread (Not UnknownSource) h s = absurd (true≢false (sym h))
+came_to_spread opening counts slack most_moves question spread (Not TooManyLive) h s = absurd (true≢false (sym h))
+came_to_spread opening counts slack most_moves question spread (Not TooManyKnown) h s = absurd (true≢false (sym h))
+came_to_spread opening counts slack most_moves question spread (Not (AlreadyJoined id)) h s = absurd (true≢false (sym h))
+came_to_spread opening counts slack most_moves question spread (Not TooManyCollectors) h s = absurd (true≢false (sym h))
+came_to_spread opening counts slack most_moves question spread (Not IdsSpent) h s = absurd (true≢false (sym h))
+came_to_spread opening counts slack most_moves question spread (Not UnknownCollector) h s = absurd (true≢false (sym h))
+came_to_spread opening counts slack most_moves question spread (Not AlreadyDraining) h s = absurd (true≢false (sym h))
+came_to_spread opening counts slack most_moves question spread (Not RoundsSpent) h s = absurd (true≢false (sym h))
+came_to_spread opening counts slack most_moves question spread (Not (NotTaken number)) h s = absurd (true≢false (sym h))
+came_to_spread opening counts slack most_moves question spread (Not UnknownTarget) h s = absurd (true≢false (sym h))
+came_to_spread opening counts slack most_moves question spread (Not (NotHolder holder)) h s = absurd (true≢false (sym h))
+came_to_spread opening counts slack most_moves question spread (Not (StillServed other)) h s = absurd (true≢false (sym h))
+came_to_spread opening counts slack most_moves question spread (Not (RoundClosed round)) h s = absurd (true≢false (sym h))
+came_to_spread opening counts slack most_moves question spread (Not (RoundNotOpen round)) h s = absurd (true≢false (sym h))
+came_to_spread opening counts slack most_moves question spread (Not AlreadyBooked) h s = absurd (true≢false (sym h))
+came_to_spread opening counts slack most_moves question spread (Discovered added removed) h s = absurd (true≢false (sym h))
+came_to_spread opening counts slack most_moves question spread (Joined id) h s = absurd (true≢false (sym h))
+came_to_spread opening counts slack most_moves question spread Left h s = absurd (true≢false (sym h))
+came_to_spread opening counts slack most_moves question spread Draining h s = absurd (true≢false (sym h))
+came_to_spread opening counts slack most_moves question spread LimitsSet h s = absurd (true≢false (sym h))
+came_to_spread opening counts slack most_moves question spread (RoundOpen round) h s = absurd (true≢false (sym h))
+came_to_spread opening counts slack most_moves question spread (Taken number round held) h s = absurd (true≢false (sym h))
+came_to_spread opening counts slack most_moves question spread (Served number round listed left_out) h s = absurd (true≢false (sym h))
+came_to_spread opening counts slack most_moves question spread (Released count) h s = absurd (true≢false (sym h))
+came_to_spread opening counts slack most_moves question spread Booked h s = absurd (true≢false (sym h))

@@ -7,4 +7,3 @@ pub mod Prefixes
 pub mod ReachedLemmas
 pub mod ReceiptLemmas
 pub mod SpareLemmas
-pub mod SpreadAttemptLemmas

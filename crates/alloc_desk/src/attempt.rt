@@ -8,7 +8,7 @@ use fleet_events::AllocationNumber;
 use price_certificate::{Fault, Instance, Plan};
 
 /// How a reallocation ended.
-#[derive(Clone, Copy, Debug, PartialEq, Eq)]
+#[derive(Clone, Copy, PartialEq, Eq)]
 pub enum Reallocated {
     /// The plan is the allocation of this number.
     Published(AllocationNumber),
@@ -17,7 +17,7 @@ pub enum Reallocated {
 }
 
 /// Why a reallocation did not end so.
-#[derive(Debug, Drop)]
+#[derive(Drop)]
 pub enum ReallocateError {
     /// The journal has its most entries.
     JournalFull,
@@ -30,7 +30,7 @@ pub enum ReallocateError {
 }
 
 /// The last plan that was overtaken, the instance that it was found for, and why it was refused.
-#[derive(Debug, Drop)]
+#[derive(Drop)]
 pub struct Lost {
     pub fault: Fault,
     pub instance: Instance,
@@ -38,7 +38,7 @@ pub struct Lost {
 }
 
 /// What one attempt came to.
-#[derive(Debug, Drop)]
+#[derive(Drop)]
 pub(crate) enum Attempt {
     Published(AllocationNumber),
     Unchanged(AllocationNumber),

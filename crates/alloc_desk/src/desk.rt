@@ -16,12 +16,12 @@ mod spreading;
 
 use crate::closed::Closed;
 use crate::front::Front;
+use crate::locked_record::LockedRecord;
 use crate::log::Log;
 use crate::name::{DeskName, Fits};
 use crate::pass::Pass;
 use crate::receipt::Receipt;
 use crate::record::{EnterError, Record};
-use crate::shelf::Shelf;
 use allocation_core::{Core, Event};
 use std::alloc::Global;
 use std::marker::PhantomData;
@@ -32,7 +32,7 @@ use std::sync::{Mutex, MutexGuard, Wait};
 /// that they booked, `N` says which desk it is.
 #[derive(Drop)]
 pub struct Desk<L: Ledger, B: Ledger, N: DeskName> {
-    shelf: Mutex<Shelf<L, B, N>>,
+    locked: Mutex<LockedRecord<L, B, N>>,
     passes: u32,
     calls_fit: Fits<L, N>,
     samples_fit: Fits<B, N>,
@@ -79,10 +79,10 @@ impl<L: Ledger, B: Ledger, N: DeskName> Desk<L, B, N> {
             );
             all.push_reserved(pass);
         }
-        let shelf = Shelf::new(Record::open(alloc, core), calls, samples, log);
+        let locked = LockedRecord::new(Record::open(alloc, core), calls, samples, log);
         Ok((
             Desk {
-                shelf: Mutex::new(shelf),
+                locked: Mutex::new(locked),
                 passes,
                 calls_fit: Fits { of: PhantomData },
                 samples_fit: Fits { of: PhantomData },
@@ -104,29 +104,29 @@ impl<L: Ledger, B: Ledger, N: DeskName> Desk<L, B, N> {
         ensures full { result ≡ Err EnterError.JournalFull → Reached N.opening pass.old IsFull }
         ensures err { OnErr result (pass.new ≡ pass.old) }
     {
-        self.shelf.lock(rt).submit(rt, pass, event)
+        self.locked.lock(rt).submit(rt, pass, event)
     }
 
     /// What the journal has now.
     pub fn front(&self, rt: &impl Wait) -> Front<N>
         ensures { IsLegal N.opening result (end_of N.opening result) }
     {
-        self.shelf.lock(rt).front().again()
+        self.locked.lock(rt).front().again()
     }
 
     /// What lies under the lock, once its journal has all that a front has seen. It has it at the first look, since the front is of an
     /// earlier one.
-    pub(crate) fn shelf_past(
+    pub(crate) fn locked_past(
         &self,
         rt: &impl Wait,
         front: &Front<N>,
-    ) -> MutexGuard<'_, Shelf<L, B, N>>
+    ) -> MutexGuard<'_, LockedRecord<L, B, N>>
         ensures { IsPrefix front.now (mutex_guard_value result).journal }
     {
         for _look in rt.forever() {
-            let shelf = self.shelf.lock(rt);
-            if shelf.front().covers(front) {
-                return shelf;
+            let locked = self.locked.lock(rt);
+            if locked.front().covers(front) {
+                return locked;
             }
         }
         unreachable!()
@@ -144,11 +144,11 @@ impl<L: Ledger, B: Ledger, N: DeskName> Desk<L, B, N> {
             return Err(PassMissing { desk: self, passes });
         }
         let Desk {
-            shelf,
+            locked,
             passes: _,
             calls_fit: _,
             samples_fit: _,
         } = self;
-        Ok(shelf.into_inner().finish(passes))
+        Ok(locked.into_inner().finish(passes))
     }
 }

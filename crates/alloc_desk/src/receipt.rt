@@ -2,7 +2,7 @@
 use allocation_core::Answer;
 
 /// What a submitted event got.
-#[derive(Debug, Drop)]
+#[derive(Drop)]
 pub struct Receipt {
     /// The position of its entry in the journal, from 0.
     pub position: u64,

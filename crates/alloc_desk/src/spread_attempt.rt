@@ -8,7 +8,7 @@ use fleet_events::AllocationNumber;
 use spread_certificate::SpreadFault;
 
 /// Why a reallocation that makes loads even did not end.
-#[derive(Clone, Copy, Debug, PartialEq, Eq)]
+#[derive(Clone, Copy, PartialEq, Eq)]
 pub enum SpreadError {
     /// The journal has its most entries.
     JournalFull,

@@ -12,7 +12,7 @@ use std::alloc::{AllocError, Global};
 use target_shares::{NumberedTarget, Share};
 
 /// A live collector.
-#[derive(Debug, Drop)]
+#[derive(Drop)]
 pub struct CollectorView {
     pub id: CollectorId,
     pub name: CollectorName,
@@ -22,7 +22,7 @@ pub struct CollectorView {
 }
 
 /// One moment of the allocator.
-#[derive(Debug, Drop)]
+#[derive(Drop)]
 pub struct View {
     /// The assignment problem of the moment.
     pub instance: Instance,

@@ -25,7 +25,7 @@ use Rattle.fleet_events.specs.declared.event.Event.TheVariants.{Discover, Join, 
 use Rattle.fleet_events.specs.declared.answer.Answer.TheVariants.{Booked}
 use Rattle.fleet_events.specs.declared.refusal.Refusal.{Refusal}
 use Rattle.fleet_events.specs.declared.refusal.Refusal.TheVariants.{RoundClosed, RoundNotOpen, AlreadyBooked}
-use Rattle.allocation_core.proofs.Admission.{Admitted, admitted}
+use Rattle.allocation_core.proofs.AnswerLemmas.{Admitted, admitted}
 use Rattle.allocation_core.proofs.BestLemmas.{step_grows}
 use Rattle.allocation_core.proofs.StepLemmas.{run_kept, start_kept, step_kept}
 use Rattle.allocation_core.proofs.RunLemmas.{state_of_append}

@@ -1,4 +1,3 @@
-pub mod Admission
 pub mod AnswerLemmas
 pub mod BestLemmas
 pub mod BookedLemmas

@@ -42,7 +42,7 @@ use Rattle.allocation_core.specs.Steps.{answer_by, answer_of, changed, entry_of,
 use Rattle.handover.specs.declared.holders.TheConstants.{LAST_NUMBER}
 use Rattle.allocation_core.specs.Runs.{state_of}
 use Rattle.allocation_core.specs.Kept.{IsKept}
-use Rattle.allocation_core.proofs.Admission.{admitted}
+use Rattle.allocation_core.proofs.AnswerLemmas.{admitted}
 
 -- an event that changes the state was not refused
 after_by : (m n : State) (P : State → Type 0) (o : Option Refusal) → P m → (o ≡ None → P n) → P (if is_some o then m else n)

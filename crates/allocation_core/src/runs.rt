@@ -12,7 +12,7 @@ use crate::machine::Core;
 use fleet_events::{Answer, Event};
 
 /// A run that stopped for want of memory. The core is as after the events that were answered.
-#[derive(Debug, Drop)]
+#[derive(Drop)]
 pub struct Stopped {
     pub answers: Vec<Answer>,
 }

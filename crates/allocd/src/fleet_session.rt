@@ -3,18 +3,14 @@ ghost use Rattle.std.specs.Prelude.{◌≡◌};
 ghost use Rattle.allocd.specs.Session.{session_ending, session_text};
 ghost use Rattle.offline_commands.specs.Writing.{IsWritten};
 
+use event_loops::Runtime;
 use offline_commands::{
     Answer, Ending, Input, Status, Stop, Unreadable, read_input, write_answer, write_last,
     write_stop,
 };
 use session_command::{Ended, Fault, session};
-use std::alloc::{AllocGlobal, Global};
+use std::alloc::Global;
 use std::io::{Read, Write};
-use std::net::{Net, TcpListener, TcpStream};
-use std::random::RandomSource;
-use std::sync::Wait;
-use std::thread::Threads;
-use std::time::Clock;
 
 /// Reads the document of a session to its end, runs the session, and writes its lines.
 pub fn run_session<R, D: Read, W: Write>(
@@ -24,16 +20,7 @@ pub fn run_session<R, D: Read, W: Write>(
     writer: &mut W,
 ) -> Ending
 where
-    R: Wait
-        + Threads
-        + Clock
-        + Net<Listener = TcpListener, Stream = TcpStream>
-        + RandomSource
-        + AllocGlobal
-        + Sync
-        + Send
-        + Copy
-        + Drop,
+    R: Runtime,
 {
     match read_input(alloc, reader) {
         Ok(Input::Whole(document)) => {

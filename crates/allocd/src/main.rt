@@ -6,24 +6,21 @@ mod fleet_session;
 
 use agent_command::agent;
 use command_words::{Asked, read_words};
+use event_loops::Runtime;
 use fleet_session::run_session;
 use log_queue::{Queued, start_log};
 use offline_commands::{
     Ending, Status, Stop, audit_files, books_of_files, run, seal_file, write_last, write_stop,
 };
-use scrape_client::start_lookups;
-use serve_command::{Machine, serve};
-use std::alloc::{AllocGlobal, Global};
+use scrape_client::{Lookups, start_lookups};
+use serve_command::{EtcdLookups, Machine, etcd_lookups, serve};
+use std::alloc::Global;
 use std::env::Args;
 use std::fs::File;
 use std::io::{ErrorKind, Input};
-use std::net::{Net, TcpListener, TcpStream};
 use std::process::ExitCode;
-use std::random::RandomSource;
 use std::rt::Files;
-use std::sync::Wait;
-use std::thread::Threads;
-use std::time::Clock;
+use std::sync::Arc;
 use std::{env, io};
 
 /// What is told of arguments that are no text.
@@ -38,13 +35,13 @@ fn main(rt: HostRuntime) -> ExitCode {
         Ok(words) => match read_words(rt.alloc(), words.as_slice()) {
             Ok(Asked::Serve(options)) => match start_log(&rt) {
                 Ok(queue) => match start_lookups(&rt) {
-                    Ok(lookups) => {
-                        let machine = Machine {
-                            host: rt,
-                            lookups: &lookups,
-                        };
-                        serve(&rt, &Queued::new(rt, &queue), machine, &options, &queue)
-                    }
+                    Ok(lookups) => match etcd_lookups(&rt, &options) {
+                        Ok(etcd) => {
+                            let machine = machine_of(rt, &lookups, &etcd);
+                            serve(&rt, &Queued::new(rt, &queue), machine, &options, &queue)
+                        }
+                        Err(_) => stopped_without_memory(&rt),
+                    },
                     Err(_) => stopped_without_memory(&rt),
                 },
                 Err(_) => stopped_without_memory(&rt),
@@ -66,6 +63,26 @@ fn main(rt: HostRuntime) -> ExitCode {
     }
 }
 
+/// What a service has of this machine.
+fn machine_of<'a>(
+    host: HostRuntime,
+    lookups: &'a Arc<Lookups>,
+    etcd: &'a Option<EtcdLookups>,
+) -> Machine<'a> {
+    match etcd {
+        Some(etcd) => Machine {
+            host,
+            lookups,
+            etcd: Some(etcd),
+        },
+        None => Machine {
+            host,
+            lookups,
+            etcd: None,
+        },
+    }
+}
+
 /// The arguments behind the program's name, where each is a text.
 fn words_of(alloc: Global, arguments: io::Result<Args>) -> io::Result<Vec<String>> {
     let mut words = Vec::new(alloc);
@@ -78,20 +95,7 @@ fn words_of(alloc: Global, arguments: io::Result<Args>) -> io::Result<Vec<String
 /// Does what the words ask for, unless it is to serve or to be an agent.
 fn run_asked<R>(rt: &R, asked: &Asked<'_>) -> ExitCode
 where
-    R: Wait
-        + Threads
-        + Clock
-        + Net<Listener = TcpListener, Stream = TcpStream>
-        + Files<File = File>
-        + RandomSource
-        + AllocGlobal
-        + Input
-        + Print
-        + Eprint
-        + Sync
-        + Send
-        + Copy
-        + Drop,
+    R: Runtime + Files<File = File> + Input + Print + Eprint,
 {
     let alloc = rt.alloc();
     let mut writer = io::writer(rt);

@@ -19,7 +19,7 @@ use price_certificate::{Instance, MOST_BINS, Plan};
 use std::alloc::{AllocError, Global};
 
 /// How much was searched.
-#[derive(Clone, Copy, Debug, PartialEq, Eq)]
+#[derive(Clone, Copy, PartialEq, Eq)]
 pub struct Work {
     /// How many searches there were, one from each item that was not in place at the start.
     pub searches: u64,

@@ -13,7 +13,7 @@ use replay_lines::Resumption;
 use std::alloc::{AllocError, Global};
 
 /// What an audit found.
-#[derive(Clone, Copy, Debug, PartialEq, Eq)]
+#[derive(Clone, Copy, PartialEq, Eq)]
 pub enum Audited {
     /// Each journal begins with the renewal of the state in which the one before it ended.
     Consistent,

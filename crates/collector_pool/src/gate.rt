@@ -9,7 +9,7 @@ pub trait Gate {
 }
 
 /// The gate that lets all through.
-#[derive(Clone, Copy, Debug)]
+#[derive(Clone, Copy)]
 pub struct Open;
 
 impl Gate for Open {

@@ -15,7 +15,7 @@ use std::sync::Wait;
 use std::sync::ledger::Ledger;
 
 /// How a turn ended.
-#[derive(Clone, Copy, Debug, PartialEq, Eq)]
+#[derive(Clone, Copy, PartialEq, Eq)]
 pub enum TurnEnd {
     /// All targets that the collector holds are reported.
     Complete,
@@ -28,7 +28,7 @@ pub enum TurnEnd {
 }
 
 /// What a turn did.
-#[derive(Clone, Copy, Debug, PartialEq, Eq)]
+#[derive(Clone, Copy, PartialEq, Eq)]
 pub struct Turn {
     /// The number of the allocation that was taken, 0 where nothing was.
     pub number: AllocationNumber,

@@ -3,6 +3,7 @@ use crate::collectors::{Joining, limits_fault, name_fault, pattern_fault};
 use crate::job::is_duration;
 use crate::lines::Lines;
 use crate::reach::reach_fault;
+use etcd_settings::read_members;
 use serde_json::Value;
 use service_settings::{Member, SettingsError, read_settings};
 use std::alloc::{AllocError, Global};
@@ -18,9 +19,29 @@ pub(crate) fn tell_settings(
     value: &Value,
 ) -> Result<(), AllocError> {
     match read_settings(alloc, document) {
-        Ok(_) => tell_durations(alloc, lines, value),
+        Ok(settings) => {
+            drop(settings);
+            tell_etcd(alloc, lines, document)?;
+            tell_durations(alloc, lines, value)
+        }
         Err(SettingsError::Memory) => Err(AllocError),
         Err(error) => tell_error(alloc, lines, value, &error),
+    }
+}
+
+/// Tells the first thing that is wrong with what is said of a journal in etcd.
+fn tell_etcd(alloc: Global, lines: &mut Lines<'_>, document: &[u8]) -> Result<(), AllocError> {
+    match read_members(alloc, document) {
+        Ok(members) => {
+            drop(members);
+            Ok(())
+        }
+        Err(etcd_settings::SettingsError::Memory) => Err(AllocError),
+        Err(error) => {
+            let (path, missing) = (error.path(), error.missing());
+            let line = format!(in alloc; "{path}: {missing}")?;
+            lines.tell(line.as_str())
+        }
     }
 }
 

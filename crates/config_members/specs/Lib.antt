@@ -1,3 +1,4 @@
+pub mod Unknown
 pub mod Names
 pub mod Unread
 pub mod Nearest

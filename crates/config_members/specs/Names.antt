@@ -1,7 +1,5 @@
 -- The names of members at each place, and the way to a member. The tables stand in `src/tables.rt`.
-use Rattle.std.specs.Prelude.{ℕ, List, ◌++◌, map, Bool, codes}
-use Rattle.std.specs.List.{list_any}
-use Rattle.std.specs.Str.{bytes_eq}
+use Rattle.std.specs.Prelude.{ℕ, List, ◌++◌, map, codes}
 use Rattle.std.specs.Fmt.{decimal}
 use Rattle.config_members.specs.declared.place.Place.{Place}
 use Rattle.config_members.specs.declared.place.Place.TheVariants.{Document, Global, Job, Entry}
@@ -28,9 +26,6 @@ other_names (Entry job StaticConfigs entry) = map (λ s. s.now) NO_OTHERS
 other_names (Entry job HttpSdConfigs entry) = map (λ s. s.now) SOURCE_OTHERS
 other_names (Entry job FileSdConfigs entry) = map (λ s. s.now) NO_OTHERS
 other_names (Entry job RelabelConfigs entry) = map (λ s. s.now) NO_OTHERS
-
-abbrev pub is_among : List (List ℕ) → List ℕ → Bool
-is_among names name = list_any (λ candidate. bytes_eq candidate name) names
 
 -- ---- the way to a member from the document
 

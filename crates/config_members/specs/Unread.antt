@@ -10,7 +10,8 @@ use Rattle.config_members.specs.declared.place.Part.TheVariants.{StaticConfigs, 
 use Rattle.config_members.specs.declared.unread.Unread.{Unread}
 use Rattle.config_members.specs.declared.unread.Standing.{Standing}
 use Rattle.config_members.specs.declared.unread.Standing.TheVariants.{Unknown, NotFollowed}
-use Rattle.config_members.specs.Names.{names_read, other_names, is_among, part_name}
+use Rattle.config_members.specs.Names.{names_read, other_names, part_name}
+use Rattle.config_members.specs.Unknown.{is_among}
 
 abbrev pub standing : Place → List ℕ → Standing
 standing place name = if is_among (other_names place) name then NotFollowed else Unknown

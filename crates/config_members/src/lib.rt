@@ -7,8 +7,10 @@
 mod meant;
 mod place;
 mod tables;
+mod unknown;
 mod unread;
 
 pub use meant::nearest;
 pub use place::{Part, Place};
+pub use unknown::{is_among, unknown_member};
 pub use unread::{Standing, Unread, unread_members};

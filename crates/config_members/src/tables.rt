@@ -1,7 +1,5 @@
 //! The names of members: at each place those that are read here, and those that Prometheus's published configuration has there
 //! besides (<https://prometheus.io/docs/prometheus/latest/configuration/configuration/>).
-ghost use Rattle.std.specs.Prelude.{◌≡◌, map};
-ghost use Rattle.config_members.specs.Names.{is_among as is_among_names};
 
 /// Of the document.
 pub(crate) static DOCUMENT_READ: [&str; 3] = ["global", "scrape_configs", "allocator"];
@@ -158,15 +156,3 @@ pub(crate) static RULE_READ: [&str; 7] = [
 
 /// Where there is no such name.
 pub(crate) static NO_OTHERS: [&str; 0] = [];
-
-/// Whether a name is among these.
-pub(crate) fn is_among(names: &[&str], name: &str) -> bool
-    ensures { result ≡ is_among_names (map (λ s. s.now) names.now) name.now }
-{
-    for candidate in names {
-        if *candidate == name {
-            return true;
-        }
-    }
-    false
-}

@@ -4,7 +4,7 @@ ghost use Rattle.serde_json.specs.View.{view, items_view, members_view};
 ghost use Rattle.config_members.specs.Unread.{standing_of, unread_of, unread_at, unread_in_global, entry_items, each_entry, unread_in_part, unread_in_job, each_job, unread_in};
 
 use crate::place::{Part, Place};
-use crate::tables::is_among;
+use crate::unknown::is_among;
 use lists::{List, Text};
 use serde_json::{Map, Value};
 use std::alloc::{AllocError, Global};

@@ -11,7 +11,7 @@ use std::default::Emptied;
 const MASK: &str = "<secret>";
 
 /// What becomes of a value.
-#[derive(Clone, Copy, Debug, PartialEq, Eq)]
+#[derive(Clone, Copy, PartialEq, Eq)]
 enum Treatment {
     /// It stays as it is.
     Kept,

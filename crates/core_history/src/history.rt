@@ -11,7 +11,7 @@ pub(crate) struct Certificate {
 }
 
 /// The parts of a renewed core.
-#[derive(Debug, Drop)]
+#[derive(Drop)]
 pub(crate) struct History {
     /// Pairs of a target and its collector.
     pub(crate) allocation: List<(u32, u32)>,

@@ -1,28 +1,28 @@
 //! The service over one desk.
 ghost use Rattle.std.specs.Prelude.{◌≡◌, None, IfOk};
+ghost use Rattle.std.specs.Arc.{arc_value};
 ghost use Rattle.journal_entries.specs.Legal.{IsLegal};
 ghost use Rattle.kept_journal.specs.Keeping.{IsOfService, MeansKeptWhere};
+ghost use Rattle.sd_server.specs.Named.{AreNamed};
 ghost use Rattle.service_tasks.specs.Later.{IsLater};
 
 use crate::running::Served;
-use alloc_desk::{Closed, Desk, Log, Pass};
+use alloc_desk::{Closed, Desk, Log, Pass, shared_desk};
 use allocation_core::Core;
 use durable_journal::Device;
-use event_loops::{Gate, Times};
+use event_loops::{Gate, Runtime, Times};
 use file_configs::ReadFiles;
 use http_get::FetchSeveral;
 use kept_journal::{DeskJournal, JournalName, Kept};
-use sd_server::{Handler, ListTexts};
+use sd_server::{Handler, ListTexts, are_named};
 use service_state::{ConfigPages, ServiceState};
-use service_tasks::{Configuration, Crew, Ending, Journal, Office, Service, Shared, kept_of};
-use std::alloc::{AllocError, AllocGlobal, Global};
+use service_tasks::{
+    Configuration, DeskPasses, Ending, Journal, Service, ServiceContext, Shared, kept_of,
+};
+use std::alloc::{AllocError, Global};
 use std::io;
-use std::net::{Net, TcpListener, TcpStream};
-use std::random::RandomSource;
 use std::sync::ledger::{Blank, Ledger};
 use std::sync::{Arc, Mutex, Wait};
-use std::thread::Threads;
-use std::time::Clock;
 
 /// How many passes a desk has: of the server, of the schedule, of the journal's file, and of the refresher.
 pub(crate) const SEATS: u32 = 4;
@@ -33,24 +33,14 @@ pub(crate) fn serve_desk<R, L, B, N, S, F, C>(
     rt: &R,
     alloc: Global,
     service: &Service,
-    office: &mut Office<S, F, C>,
+    context: &mut ServiceContext<S, F, C>,
     core: Core,
     calls: Blank,
     samples: Blank,
     log: Log,
 ) -> io::Result<(Core, Ending)>
 where
-    R: Wait
-        + Threads
-        + Clock
-        + Net<Listener = TcpListener, Stream = TcpStream>
-        + RandomSource
-        + AllocGlobal
-        + Eprint
-        + Sync
-        + Send
-        + Copy
-        + Drop,
+    R: Runtime + Eprint,
     L: Ledger + Send + Sync,
     B: Ledger + Send + Sync,
     N: JournalName + Send + Sync,
@@ -61,15 +51,59 @@ where
     requires calls { (calls.name ≡ L.name) × (calls.parts ≡ L.parts) × (L.parts ≡ SEATS) }
     requires samples { (samples.name ≡ B.name) × (samples.parts ≡ B.parts) × (B.parts ≡ SEATS) }
     requires log { log ≡ N.book }
-    requires file { IsOfService F.tells F.contents N.opening office.old.journal.file }
-    requires keeps { MeansKeptWhere F.tells F.kept N.opening office.old.journal.file N.keeps }
+    requires file { IsOfService F.tells F.contents N.opening context.old.journal.file }
+    requires keeps { MeansKeptWhere F.tells F.kept N.opening context.old.journal.file N.keeps }
     ensures later { IfOk result (λ r. IsLater N.opening r.0) }
-    ensures file { IfOk result (λ r. IsOfService F.tells F.contents r.0 office.new.journal.file) }
+    ensures file { IfOk result (λ r. IsOfService F.tells F.contents r.0 context.new.journal.file) }
+{
+    match are_named(alloc, &context.pages, core.fleet().jobs()) {
+        Ok(true) => serve_named::<R, L, B, N, S, F, C>(
+            rt, alloc, service, context, core, calls, samples, log,
+        ),
+        Ok(false) => {
+            drop(core);
+            Err(io::Error::other("the configuration has other jobs than the allocator"))
+        }
+        Err(error) => {
+            drop(core);
+            Err(error.into())
+        }
+    }
+}
+
+/// Serves over one desk of an allocator whose jobs are those of the configuration.
+fn serve_named<R, L, B, N, S, F, C>(
+    rt: &R,
+    alloc: Global,
+    service: &Service,
+    context: &mut ServiceContext<S, F, C>,
+    core: Core,
+    calls: Blank,
+    samples: Blank,
+    log: Log,
+) -> io::Result<(Core, Ending)>
+where
+    R: Runtime + Eprint,
+    L: Ledger + Send + Sync,
+    B: Ledger + Send + Sync,
+    N: JournalName + Send + Sync,
+    S: FetchSeveral + ReadFiles + Send + Drop,
+    F: Device + Send + Drop,
+    C: Configuration + Send + Drop,
+    requires core { (core ≡ N.opening) × (N.seats ≡ SEATS) }
+    requires calls { (calls.name ≡ L.name) × (calls.parts ≡ L.parts) × (L.parts ≡ SEATS) }
+    requires samples { (samples.name ≡ B.name) × (samples.parts ≡ B.parts) × (B.parts ≡ SEATS) }
+    requires log { log ≡ N.book }
+    requires named { AreNamed (arc_value context.old.pages).names N.opening.fleet.jobs }
+    requires file { IsOfService F.tells F.contents N.opening context.old.journal.file }
+    requires keeps { MeansKeptWhere F.tells F.kept N.opening context.old.journal.file N.keeps }
+    ensures later { IfOk result (λ r. IsLater N.opening r.0) }
+    ensures file { IfOk result (λ r. IsOfService F.tells F.contents r.0 context.new.journal.file) }
 {
     match Desk::<L, B, N>::open(alloc, core, SEATS, calls, samples, log) {
         Ok((desk, passes)) => {
-            let journal = office.journal.of_desk(desk.front(rt));
-            serve_open(rt, alloc, service, office, journal, desk, passes)
+            let journal = context.journal.of_desk(desk.front(rt));
+            serve_open(rt, alloc, service, context, journal, desk, passes)
         }
         Err(core) => {
             drop(core);
@@ -83,44 +117,35 @@ fn serve_open<R, L, B, N, S, F, C>(
     rt: &R,
     alloc: Global,
     service: &Service,
-    office: &mut Office<S, F, C>,
+    context: &mut ServiceContext<S, F, C>,
     journal: Option<DeskJournal<F, N>>,
     desk: Desk<L, B, N>,
     mut passes: Vec<Pass<L, B, N>>,
 ) -> io::Result<(Core, Ending)>
 where
-    R: Wait
-        + Threads
-        + Clock
-        + Net<Listener = TcpListener, Stream = TcpStream>
-        + RandomSource
-        + AllocGlobal
-        + Eprint
-        + Sync
-        + Send
-        + Copy
-        + Drop,
+    R: Runtime + Eprint,
     L: Ledger + Send + Sync,
     B: Ledger + Send + Sync,
     N: JournalName + Send + Sync,
     S: FetchSeveral + ReadFiles + Send + Drop,
     F: Device + Send + Drop,
     C: Configuration + Send + Drop,
+    requires { AreNamed (arc_value context.old.pages).names N.opening.fleet.jobs }
     ensures later { IfOk result (λ r. IsLater N.opening r.0) }
-    ensures file { IfOk result (λ r. IsOfService F.tells F.contents r.0 office.new.journal.file) }
+    ensures file { IfOk result (λ r. IsOfService F.tells F.contents r.0 context.new.journal.file) }
 {
     let Some(asked) = passes.pop() else {
         drop((journal, desk, passes));
         return Err(AllocError.into());
     };
-    let Some(crew) = Crew::muster(passes) else {
+    let Some(desk_passes) = DeskPasses::from_passes(passes) else {
         drop((journal, desk, asked));
         return Err(AllocError.into());
     };
-    match handler_of(rt, alloc, office, &journal, desk, asked) {
-        Ok(handler) => serve_by(rt, service, office, journal, handler, crew),
+    match handler_of(rt, alloc, context, &journal, desk, asked) {
+        Ok(handler) => serve_by(rt, service, context, journal, handler, desk_passes),
         Err(AllocError) => {
-            drop((journal, crew));
+            drop((journal, desk_passes));
             Err(AllocError.into())
         }
     }
@@ -130,23 +155,13 @@ where
 fn serve_by<R, L, B, N, S, F, C>(
     rt: &R,
     service: &Service,
-    office: &mut Office<S, F, C>,
+    context: &mut ServiceContext<S, F, C>,
     mut journal: Option<DeskJournal<F, N>>,
     handler: Handler<R, L, B, N>,
-    mut crew: Crew<L, B, N>,
+    mut desk_passes: DeskPasses<L, B, N>,
 ) -> io::Result<(Core, Ending)>
 where
-    R: Wait
-        + Threads
-        + Clock
-        + Net<Listener = TcpListener, Stream = TcpStream>
-        + RandomSource
-        + AllocGlobal
-        + Eprint
-        + Sync
-        + Send
-        + Copy
-        + Drop,
+    R: Runtime + Eprint,
     L: Ledger + Send + Sync,
     B: Ledger + Send + Sync,
     N: JournalName + Send + Sync,
@@ -155,12 +170,19 @@ where
     C: Configuration + Send + Drop,
     requires { handler.kept ≡ None → journal ≡ None }
     ensures later { IfOk result (λ r. IsLater N.opening r.0) }
-    ensures file { IfOk result (λ r. IsOfService F.tells F.contents r.0 office.new.journal.file) }
+    ensures file { IfOk result (λ r. IsOfService F.tells F.contents r.0 context.new.journal.file) }
 {
-    match run(rt, service, office, &mut journal, &handler, &mut crew) {
-        Ok(ending) => ended(&mut office.journal, journal, handler, crew, ending),
+    match run(
+        rt,
+        service,
+        context,
+        &mut journal,
+        &handler,
+        &mut desk_passes,
+    ) {
+        Ok(ending) => ended(&mut context.journal, journal, handler, desk_passes, ending),
         Err(error) => {
-            drop((journal, handler, crew));
+            drop((journal, handler, desk_passes));
             Err(error)
         }
     }
@@ -170,15 +192,16 @@ where
 fn handler_of<R: Wait + Copy, L: Ledger, B: Ledger, N: JournalName, S, F: Device, C>(
     rt: &R,
     alloc: Global,
-    office: &Office<S, F, C>,
+    context: &ServiceContext<S, F, C>,
     journal: &Option<DeskJournal<F, N>>,
     desk: Desk<L, B, N>,
     asked: Pass<L, B, N>,
 ) -> Result<Handler<R, L, B, N>, AllocError>
+    requires { AreNamed (arc_value context.now.pages).names N.opening.fleet.jobs }
     ensures { IfOk result (λ h. h.kept ≡ None → journal.now ≡ None) }
 {
-    match Shown::of(rt, alloc, office, journal) {
-        Ok(shown) => handler_with(rt, alloc, office, shown, desk, asked),
+    match Shown::of(rt, alloc, context, journal) {
+        Ok(shown) => handler_with(rt, alloc, context, shown, desk, asked),
         Err(error) => {
             drop((desk, asked));
             Err(error)
@@ -199,15 +222,16 @@ impl<N: JournalName> Shown<N> {
     fn of<R: Wait, S, F: Device, C>(
         rt: &R,
         alloc: Global,
-        office: &Office<S, F, C>,
+        context: &ServiceContext<S, F, C>,
         journal: &Option<DeskJournal<F, N>>,
     ) -> Result<Shown<N>, AllocError>
-        ensures { IfOk result (λ s. s.kept ≡ None → journal.now ≡ None) }
+        ensures kept { IfOk result (λ s. s.kept ≡ None → journal.now ≡ None) }
+        ensures pages { IfOk result (λ s. arc_value s.pages ≡ arc_value context.now.pages) }
     {
         let kept = kept_of(rt, alloc, journal)?;
         let texts = shared(alloc, ListTexts::new(alloc))?;
-        let pages = Arc::try_clone(&office.pages)?;
-        let state = Arc::try_clone(&office.state)?;
+        let pages = Arc::try_clone(&context.pages)?;
+        let state = Arc::try_clone(&context.state)?;
         Ok(Shown {
             kept,
             texts,
@@ -220,21 +244,22 @@ impl<N: JournalName> Shown<N> {
 fn handler_with<R: Copy, L: Ledger, B: Ledger, N: JournalName, S, F, C>(
     rt: &R,
     alloc: Global,
-    office: &Office<S, F, C>,
+    context: &ServiceContext<S, F, C>,
     shown: Shown<N>,
     desk: Desk<L, B, N>,
     asked: Pass<L, B, N>,
 ) -> Result<Handler<R, L, B, N>, AllocError>
+    requires { AreNamed (arc_value shown.pages).names N.opening.fleet.jobs }
     ensures { IfOk result (λ h. h.kept ≡ shown.kept) }
 {
-    let doors = match Arc::try_clone(&office.doors) {
+    let doors = match Arc::try_clone(&context.doors) {
         Ok(doors) => doors,
         Err(error) => {
             drop((shown, desk, asked));
             return Err(error);
         }
     };
-    match seated(alloc, desk, asked) {
+    match shared_desk(alloc, desk, asked) {
         Ok((desk, pass)) => Ok(Handler {
             rt: *rt,
             alloc,
@@ -245,7 +270,7 @@ fn handler_with<R: Copy, L: Ledger, B: Ledger, N: JournalName, S, F, C>(
             kept: shown.kept,
             texts: shown.texts,
             doors,
-            epoch: office.journal.epoch,
+            epoch: context.journal.epoch,
             peer: None,
             time: None,
             gate: None,
@@ -257,30 +282,15 @@ fn handler_with<R: Copy, L: Ledger, B: Ledger, N: JournalName, S, F, C>(
     }
 }
 
-/// A desk and the pass of its server, as threads share them.
-fn seated<L: Ledger, B: Ledger, N: JournalName>(
+/// The gate of a server with as many connections as the service may have.
+fn gate_of<S, F, C>(
     alloc: Global,
-    desk: Desk<L, B, N>,
-    asked: Pass<L, B, N>,
-) -> Result<(Arc<Desk<L, B, N>>, Arc<Mutex<Pass<L, B, N>>>), AllocError> {
-    match shared(alloc, desk) {
-        Ok(desk) => match shared(alloc, Mutex::new(asked)) {
-            Ok(pass) => Ok((desk, pass)),
-            Err(error) => {
-                drop(desk);
-                Err(error)
-            }
-        },
-        Err(error) => {
-            drop(asked);
-            Err(error)
-        }
-    }
-}
-
-/// The gate of a server with as many connections as the office has.
-fn gate_of<S, F, C>(alloc: Global, office: &Office<S, F, C>) -> Result<Arc<Gate>, AllocError> {
-    shared(alloc, Gate::new(alloc, office.connections, Times::DEFAULT)?)
+    context: &ServiceContext<S, F, C>,
+) -> Result<Arc<Gate>, AllocError> {
+    shared(
+        alloc,
+        Gate::new(alloc, context.connections, Times::DEFAULT)?,
+    )
 }
 
 fn shared<T: Drop>(alloc: Global, value: T) -> Result<Arc<T>, AllocError> {
@@ -291,23 +301,13 @@ fn shared<T: Drop>(alloc: Global, value: T) -> Result<Arc<T>, AllocError> {
 fn run<R, L, B, N, S, F, C>(
     rt: &R,
     service: &Service,
-    office: &mut Office<S, F, C>,
+    context: &mut ServiceContext<S, F, C>,
     journal: &mut Option<DeskJournal<F, N>>,
     handler: &Handler<R, L, B, N>,
-    crew: &mut Crew<L, B, N>,
+    desk_passes: &mut DeskPasses<L, B, N>,
 ) -> io::Result<Ending>
 where
-    R: Wait
-        + Threads
-        + Clock
-        + Net<Listener = TcpListener, Stream = TcpStream>
-        + RandomSource
-        + AllocGlobal
-        + Eprint
-        + Sync
-        + Send
-        + Copy
-        + Drop,
+    R: Runtime + Eprint,
     L: Ledger + Send + Sync,
     B: Ledger + Send + Sync,
     N: JournalName + Send + Sync,
@@ -316,10 +316,19 @@ where
     C: Configuration + Send + Drop,
     requires { handler.now.kept ≡ None → journal.old ≡ None }
 {
-    let gate = gate_of(handler.alloc, office)?;
-    match shared_by(rt, service, office, handler) {
+    let gate = gate_of(handler.alloc, context)?;
+    match shared_by(rt, service, context, handler) {
         Ok(shared) => {
-            let ending = run_over(rt, service, office, journal, handler, crew, &gate, &shared);
+            let ending = run_over(
+                rt,
+                service,
+                context,
+                journal,
+                handler,
+                desk_passes,
+                &gate,
+                &shared,
+            );
             drop((shared, gate));
             ending
         }
@@ -334,25 +343,15 @@ where
 fn run_over<R, L, B, N, S, F, C>(
     rt: &R,
     service: &Service,
-    office: &mut Office<S, F, C>,
+    context: &mut ServiceContext<S, F, C>,
     journal: &mut Option<DeskJournal<F, N>>,
     handler: &Handler<R, L, B, N>,
-    crew: &mut Crew<L, B, N>,
+    desk_passes: &mut DeskPasses<L, B, N>,
     gate: &Arc<Gate>,
     shared: &Shared<R, L, B, N>,
 ) -> io::Result<Ending>
 where
-    R: Wait
-        + Threads
-        + Clock
-        + Net<Listener = TcpListener, Stream = TcpStream>
-        + RandomSource
-        + AllocGlobal
-        + Eprint
-        + Sync
-        + Send
-        + Copy
-        + Drop,
+    R: Runtime + Eprint,
     L: Ledger + Send + Sync,
     B: Ledger + Send + Sync,
     N: JournalName + Send + Sync,
@@ -361,7 +360,7 @@ where
     C: Configuration + Send + Drop,
     requires { handler.now.kept ≡ None → journal.old ≡ None }
 {
-    if let Err(error) = shared.begin(&mut crew.scheduler, service, office) {
+    if let Err(error) = shared.begin(&mut desk_passes.scheduler, service, context) {
         return Err(error.into());
     }
     let served = Served {
@@ -371,7 +370,7 @@ where
         handler,
         gate,
     };
-    match served.run(office, journal, crew) {
+    match served.run(context, journal, desk_passes) {
         Ok(()) => Ok(shared.ending()),
         Err(error) => Err(error),
     }
@@ -381,26 +380,26 @@ where
 fn shared_by<R: Wait + Copy, L: Ledger, B: Ledger, N: JournalName, S, F, C>(
     rt: &R,
     service: &Service,
-    office: &Office<S, F, C>,
+    context: &ServiceContext<S, F, C>,
     handler: &Handler<R, L, B, N>,
 ) -> Result<Shared<R, L, B, N>, AllocError> {
     let desk = Arc::try_clone(&handler.desk)?;
     let kept = Kept::shared(&handler.kept)?;
-    Shared::new(rt, handler.alloc, service, office, desk, kept)
+    Shared::new(rt, handler.alloc, service, context, desk, kept)
 }
 
-/// Closes the desk of a handler and a crew whose threads have ended, and its journal.
+/// Closes the desk of a handler whose threads have ended, with their passes, and its journal.
 fn ended<R: Drop, L: Ledger, B: Ledger, N: JournalName, F: Device + Drop>(
     service: &mut Journal<F>,
     journal: Option<DeskJournal<F, N>>,
     handler: Handler<R, L, B, N>,
-    crew: Crew<L, B, N>,
+    desk_passes: DeskPasses<L, B, N>,
     ending: Ending,
 ) -> io::Result<(Core, Ending)>
     ensures later { IfOk result (λ r. IsLater N.opening r.0) }
     ensures file { IfOk result (λ r. IsOfService F.tells F.contents r.0 service.new.file) }
 {
-    match crew.dismiss(handler.alloc) {
+    match desk_passes.into_passes(handler.alloc) {
         Ok(passes) => match closed(handler, passes) {
             Ok(closed) => {
                 service.end_desk(journal, &closed);

@@ -3,19 +3,17 @@ ghost use Rattle.std.specs.Thread.{IsSend};
 
 use alloc_desk::Pass;
 use durable_journal::Device;
-use event_loops::Gate;
+use event_loops::{Gate, Runtime};
 use file_configs::ReadFiles;
 use http_get::FetchSeveral;
 use kept_journal::{DeskJournal, JournalName};
 use sd_server::{DEFAULT_LOOPS, Handler, serve_by_loops};
-use service_tasks::{Configuration, Crew, Office, Schedule, Shared, Watch};
-use std::alloc::{AllocGlobal, Global};
-use std::net::{Net, TcpListener, TcpStream};
-use std::random::RandomSource;
+use service_tasks::{Configuration, DeskPasses, Schedule, ServiceContext, Shared, Watch};
+use std::alloc::Global;
+use std::net::TcpListener;
 use std::sync::atomic::{AtomicBool, Ordering};
 use std::sync::ledger::Ledger;
 use std::sync::{Arc, Wait};
-use std::thread::Threads;
 use std::time::Clock;
 use std::{io, thread};
 
@@ -31,17 +29,7 @@ pub(crate) struct Served<'a, R, L: Ledger, B: Ledger, N: JournalName> {
 
 impl<'a, R, L, B, N> Served<'a, R, L, B, N>
 where
-    R: Wait
-        + Threads
-        + Clock
-        + Net<Listener = TcpListener, Stream = TcpStream>
-        + RandomSource
-        + AllocGlobal
-        + Eprint
-        + Sync
-        + Send
-        + Copy
-        + Drop,
+    R: Runtime + Eprint,
     L: Ledger + Send + Sync,
     B: Ledger + Send + Sync,
     N: JournalName + Send + Sync,
@@ -53,21 +41,21 @@ where
         C: Configuration + Send + Drop,
     >(
         &self,
-        office: &mut Office<S, F, C>,
+        context: &mut ServiceContext<S, F, C>,
         journal: &mut Option<DeskJournal<F, N>>,
-        crew: &mut Crew<L, B, N>,
+        desk_passes: &mut DeskPasses<L, B, N>,
     ) -> io::Result<()> {
-        let Office {
+        let ServiceContext {
             listener,
             schedule,
             watch,
             ..
-        } = office;
-        let Crew {
+        } = context;
+        let DeskPasses {
             scheduler,
             keeper,
             refresher,
-        } = crew;
+        } = desk_passes;
         let is_last = AtomicBool::new(false);
         let ((), served) = thread::join(
             &self.rt,

@@ -7,18 +7,15 @@ use crate::one_desk::{SEATS, serve_desk};
 use alloc_desk::Log;
 use allocation_core::Core;
 use durable_journal::{Archive, Device};
+use event_loops::Runtime;
 use file_configs::ReadFiles;
 use http_get::FetchSeveral;
-use service_tasks::{Configuration, Ending, Journal, Office, Service, continued};
-use std::alloc::{AllocGlobal, Global};
+use service_tasks::{Configuration, Ending, Journal, Service, ServiceContext, continued};
+use std::alloc::Global;
 use std::io;
 use std::marker::Brand;
-use std::net::{Net, TcpListener, TcpStream};
-use std::random::RandomSource;
-use std::sync::Wait;
+use std::net::TcpListener;
 use std::sync::ledger::Blank;
-use std::thread::Threads;
-use std::time::Clock;
 
 /// Serves over an allocator with its journal until the service is to end, and gives the allocator back as it is then. The file of the journal
 /// leads to the allocator. The archive begins the journals after it: over each desk that is opened in between, the file that is written behind
@@ -35,17 +32,7 @@ pub fn serve<R, S, F, A, C>(
     core: Core,
 ) -> io::Result<Core>
 where
-    R: Wait
-        + Threads
-        + Clock
-        + Net<Listener = TcpListener, Stream = TcpStream>
-        + RandomSource
-        + AllocGlobal
-        + Eprint
-        + Sync
-        + Send
-        + Copy
-        + Drop,
+    R: Runtime + Eprint,
     S: FetchSeveral + ReadFiles + Send + Drop,
     F: Device + Send + Drop,
     A: Archive<F>,
@@ -53,7 +40,7 @@ where
     requires { IsOfService F.tells F.contents core journal.file }
     ensures { IfOk result (IsLater core) }
 {
-    match Office::open(
+    match ServiceContext::open(
         rt,
         alloc,
         &service,
@@ -62,10 +49,10 @@ where
         device,
         configuration,
     ) {
-        Ok(mut office) => {
+        Ok(mut context) => {
             let mut service = service;
-            let core = serve_desks(rt, alloc, &mut service, &mut office, archive, core);
-            drop((service, office));
+            let core = serve_desks(rt, alloc, &mut service, &mut context, archive, core);
+            drop((service, context));
             core
         }
         Err(error) => {
@@ -81,37 +68,27 @@ fn serve_desks<R, S, F, A, C>(
     rt: &R,
     alloc: Global,
     service: &mut Service,
-    office: &mut Office<S, F, C>,
+    context: &mut ServiceContext<S, F, C>,
     archive: &mut A,
     core: Core,
 ) -> io::Result<Core>
 where
-    R: Wait
-        + Threads
-        + Clock
-        + Net<Listener = TcpListener, Stream = TcpStream>
-        + RandomSource
-        + AllocGlobal
-        + Eprint
-        + Sync
-        + Send
-        + Copy
-        + Drop,
+    R: Runtime + Eprint,
     S: FetchSeveral + ReadFiles + Send + Drop,
     F: Device + Send + Drop,
     A: Archive<F>,
     C: Configuration + Send + Drop,
-    requires { IsOfService F.tells F.contents core office.old.journal.file }
+    requires { IsOfService F.tells F.contents core context.old.journal.file }
     ensures { IfOk result (IsLater core) }
 {
     let mut core = core;
     for _turn in rt.forever() {
-        let (later, ending) = serve_once(rt, alloc, service, office, core)?;
+        let (later, ending) = serve_once(rt, alloc, service, context, core)?;
         if ending == Ending::Quit {
             return Ok(later);
         }
-        office.remember_names(rt, alloc);
-        core = continued(rt, alloc, service, office, archive, later)?;
+        context.remember_names(rt, alloc);
+        core = continued(rt, alloc, service, context, archive, later)?;
     }
     unreachable!()
 }
@@ -121,34 +98,24 @@ fn serve_once<R, S, F, C>(
     rt: &R,
     alloc: Global,
     service: &Service,
-    office: &mut Office<S, F, C>,
+    context: &mut ServiceContext<S, F, C>,
     core: Core,
 ) -> io::Result<(Core, Ending)>
 where
-    R: Wait
-        + Threads
-        + Clock
-        + Net<Listener = TcpListener, Stream = TcpStream>
-        + RandomSource
-        + AllocGlobal
-        + Eprint
-        + Sync
-        + Send
-        + Copy
-        + Drop,
+    R: Runtime + Eprint,
     S: FetchSeveral + ReadFiles + Send + Drop,
     F: Device + Send + Drop,
     C: Configuration + Send + Drop,
-    requires { IsOfService F.tells F.contents core office.old.journal.file }
+    requires { IsOfService F.tells F.contents core context.old.journal.file }
     ensures later { IfOk result (λ r. IsLater core r.0) }
-    ensures file { IfOk result (λ r. IsOfService F.tells F.contents r.0 office.new.journal.file) }
+    ensures file { IfOk result (λ r. IsOfService F.tells F.contents r.0 context.new.journal.file) }
 {
     let seats = u64::from(SEATS);
     let ended = serve_desk::<R, Brand, Brand, Brand, S, F, C>(
         rt,
         alloc,
         service,
-        office,
+        context,
         core,
         Blank::new(seats),
         Blank::new(seats),

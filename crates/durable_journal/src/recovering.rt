@@ -15,7 +15,7 @@ use std::io::Read;
 pub const MOST_JOURNAL: u64 = 1073741824;
 
 /// What a journal's file has.
-#[derive(Debug, Drop)]
+#[derive(Drop)]
 pub enum Recovered {
     /// The whole lines, each with its line feed and without its digest.
     Found {

@@ -104,7 +104,7 @@ impl KnownTags {
 fn tagged(alloc: Global, text: &Bytes, tag: &HeaderValue) -> Result<Arc<TaggedText>, AllocError>
     requires { tag.now ≡ plain_value (tag_of text.now) }
 {
-    let made = TaggedText::new(text.clone()?, tag.clone()?);
+    let made = TaggedText::with_tag(text.clone()?, tag.clone()?);
     Ok(Arc::new(alloc, made)?)
 }
 

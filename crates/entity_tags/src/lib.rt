@@ -7,3 +7,4 @@ mod tagged_text;
 
 pub use known_tags::KnownTags;
 pub use tag::{entity_tag, is_shown};
+pub use tagged_text::TaggedText;

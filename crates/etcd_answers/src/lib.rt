@@ -19,5 +19,6 @@ pub use laws::{kept_is_there, never_both, others_say_nothing};
 pub use leases::{Granted, Lease, read_granted, read_lease};
 pub use response::Response;
 pub use verdict::{
-    Verdict, claim_verdict, forget_verdict, remove_verdict, switch_verdict, write_verdict,
+    Verdict, claim_verdict, forget_verdict, has_value, remove_verdict, switch_verdict,
+    write_verdict,
 };

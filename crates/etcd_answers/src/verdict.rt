@@ -139,7 +139,7 @@ fn forget_failed(responses: &[Response], term: &str) -> Verdict
 }
 
 /// Whether the key that was read has this value. None where more than one was found.
-fn has_value(found: &[Found], bytes: &[u8]) -> Option<bool>
+pub fn has_value(found: &[Found], bytes: &[u8]) -> Option<bool>
     ensures { result ≡ has_value bytes.now found.now }
 {
     match found {

@@ -9,6 +9,7 @@ mod limits;
 mod watch;
 
 pub use client::EtcdClient;
+pub use etcd_login::Login;
 pub use keeping::keep_lease;
 pub use leases::{grant, keep_once, revoke};
 pub use limits::limit_millis;

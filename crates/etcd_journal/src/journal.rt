@@ -11,6 +11,9 @@ use std::alloc::{AllocError, Global};
 use std::io;
 use std::io::Write;
 
+/// How many epochs are removed at most where another begins, beside the one that is kept no more.
+const MOST_FORGOTTEN: u32 = 8;
+
 /// A journal in etcd, of whoever leads. What is written to it is not asked to be kept before `keep`.
 #[derive(Drop)]
 pub struct EtcdJournal<E> {
@@ -25,6 +28,8 @@ pub struct EtcdJournal<E> {
     pub pending: Vec<u8>,
     /// How many epochs are kept that are over.
     pub(crate) kept_epochs: u32,
+    /// The youngest epoch that whoever led before may have left, where more were kept then. 0 where there is none.
+    pub(crate) left: u32,
 }
 
 impl<E: Etcd> EtcdJournal<E> {
@@ -56,20 +61,43 @@ impl<E: Etcd> EtcdJournal<E> {
         )
     }
 
-    /// Removes the youngest epoch that is not kept any more.
+    /// Removes the youngest epoch that is not kept any more, and some of those that were left before it.
     fn forget_old(&mut self) -> Result<bool, AllocError> {
         let last = self.seat.going.saturating_sub(1);
         let old = last.saturating_sub(self.kept_epochs);
         if old == 0 {
             return Ok(true);
         }
+        if !self.forget_epoch(old)? {
+            return Ok(false);
+        }
+        self.left = self.left.min(old.saturating_sub(1));
+        self.forget_left()
+    }
+
+    /// Removes some of the epochs that were left, the youngest first.
+    fn forget_left(&mut self) -> Result<bool, AllocError> {
+        for _ in 0..MOST_FORGOTTEN {
+            let left = self.left;
+            if left == 0 {
+                return Ok(true);
+            }
+            if !self.forget_epoch(left)? {
+                return Ok(false);
+            }
+            self.left = left.saturating_sub(1);
+        }
+        Ok(true)
+    }
+
+    fn forget_epoch(&mut self, epoch: u32) -> Result<bool, AllocError> {
         forget(
             self.alloc,
             self.prefix.as_str(),
             self.term.as_str(),
             &mut self.etcd,
             &mut self.seat,
-            old,
+            epoch,
         )
     }
 

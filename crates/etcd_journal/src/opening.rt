@@ -63,6 +63,7 @@ fn make_opened<E: Etcd + Drop>(
                 seat,
                 pending: Vec::new(alloc),
                 kept_epochs,
+                left: u32::MAX,
             };
             Ok(Some(Opened { journal, lines }))
         }

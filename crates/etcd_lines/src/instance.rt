@@ -40,7 +40,7 @@ impl<R: AllocGlobal + Copy> Outer<'_, R> {
         let endpoints = self.words.endpoints(alloc)?;
         let lookups = Arc::try_clone(self.lookups)?;
         let watch = Arc::try_clone(watch)?;
-        Ok(EtcdClient::new(self.rt, lookups, endpoints, watch))
+        Ok(EtcdClient::new(self.rt, lookups, endpoints, None, watch))
     }
 }
 

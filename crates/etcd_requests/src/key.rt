@@ -8,7 +8,7 @@ use std::alloc::{AllocError, Global};
 const DIGITS: u32 = 10;
 
 /// A key of a journal.
-#[derive(Clone, Copy, Debug, PartialEq, Eq)]
+#[derive(Clone, Copy, PartialEq, Eq)]
 pub enum Key {
     /// Who leads.
     Leader,

@@ -11,7 +11,7 @@ use lists::List;
 use std::alloc::{AllocError, Global};
 
 /// What was read of an epoch. Its blocks are read one after the other, from its first on.
-#[derive(Debug, Drop)]
+#[derive(Drop)]
 pub struct Reading {
     /// 0 before the first.
     pub epoch: u32,
@@ -30,7 +30,7 @@ pub struct Reading {
 }
 
 /// What a look came to.
-#[derive(Clone, Copy, Debug, PartialEq, Eq)]
+#[derive(Clone, Copy, PartialEq, Eq)]
 pub enum Looked {
     /// It is not known, and asked again.
     Unknown,

@@ -5,7 +5,7 @@ ghost use Rattle.etcd_terms.specs.Seats.{ended, is_granted, may, may_fill, is_fi
 use lists::List;
 
 /// What is to be asked.
-#[derive(Debug, Drop)]
+#[derive(Drop)]
 pub enum Wish {
     /// This is the next block of the epoch that goes on.
     Append(List<u8>),
@@ -34,7 +34,7 @@ pub enum Ahead {
 }
 
 /// What an instance knows while it leads, and what it asks.
-#[derive(Debug, Drop)]
+#[derive(Drop)]
 pub struct Seat {
     /// Whether it leads no more. Then it asks nothing.
     pub is_over: bool,

@@ -1,9 +1,9 @@
 //! What became of what was asked, by its answer.
 ghost use Rattle.std.specs.Prelude.{◌≡◌, IfOk};
-ghost use Rattle.etcd_answers.specs.Verdicts.{has_value, judged as both_hold};
+ghost use Rattle.etcd_answers.specs.Verdicts.{judged as both_hold};
 ghost use Rattle.etcd_terms.specs.Seats.{goes_on, leads_verdict, looked};
 
-use etcd_answers::{Answer, Found, Response, Verdict};
+use etcd_answers::{Answer, Found, Response, Verdict, has_value};
 use std::alloc::{AllocError, Global};
 
 /// Whether the term leads and the epoch goes on, by the answer to a look.
@@ -53,17 +53,6 @@ fn goes_on(alloc: Global, found: &[Found], going: u32) -> Result<Option<bool>, A
     }
     let number = format!(in alloc; "{going}")?;
     Ok(has_value(found, number.as_bytes()))
-}
-
-/// Whether the key that was read has this value. None where more than one was found.
-fn has_value(found: &[Found], bytes: &[u8]) -> Option<bool>
-    ensures { result ≡ has_value bytes.now found.now }
-{
-    match found {
-        [] => Some(false),
-        [only] => Some(only.value.as_slice() == bytes),
-        _ => None,
-    }
 }
 
 /// By whether the term leads, and whether the epoch goes on.

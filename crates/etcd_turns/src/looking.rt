@@ -17,7 +17,7 @@ use lists::List;
 use std::alloc::{AllocError, Global};
 
 /// What one look came to.
-#[derive(Debug, Drop)]
+#[derive(Drop)]
 pub struct Sight {
     pub looked: Looked,
     /// The text of the term that leads. None where nobody leads, or nothing is known.

@@ -2,7 +2,7 @@
 use lists::List;
 
 /// A status and a body.
-#[derive(Debug, Drop)]
+#[derive(Drop)]
 pub struct Reply {
     pub status: u16,
     pub body: List<u8>,

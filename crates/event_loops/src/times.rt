@@ -1,7 +1,7 @@
 //! The limits of time of a server.
 
 /// The limits of time of a connection, in milliseconds.
-#[derive(Clone, Copy, Debug, PartialEq, Eq)]
+#[derive(Clone, Copy, PartialEq, Eq)]
 pub struct Times {
     /// How long a connection may be idle.
     pub idle: u64,

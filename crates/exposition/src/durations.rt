@@ -7,7 +7,7 @@ use crate::observing::observe_in;
 const BUCKET_COUNT: usize = 13;
 
 /// The observations that are no longer than a bound.
-#[derive(Clone, Copy, Debug)]
+#[derive(Clone, Copy)]
 pub struct Bucket {
     /// The bound, in milliseconds.
     pub bound: u64,
@@ -16,7 +16,7 @@ pub struct Bucket {
 }
 
 /// How many durations were observed, by how long they were, and how long they were together.
-#[derive(Clone, Copy, Debug)]
+#[derive(Clone, Copy)]
 pub struct Durations {
     pub buckets: [Bucket; BUCKET_COUNT],
     /// How many there are, whatever they are.

@@ -2,7 +2,7 @@
 use lists::{List, Text};
 
 /// A file that was read.
-#[derive(Debug, Drop)]
+#[derive(Drop)]
 pub struct FileText {
     pub path: Text,
     pub body: List<u8>,

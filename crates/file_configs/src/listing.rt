@@ -1,13 +1,12 @@
 //! What the files of a source list.
-ghost use Rattle.std.specs.Prelude.{◌≡◌, ◌++◌, OnOk, sum_by, length, nat_le};
-ghost use Rattle.sd_documents.specs.declared.limits.TheConstants.{MOST_TARGETS};
+ghost use Rattle.std.specs.Prelude.{◌≡◌, ◌++◌, OnOk};
 ghost use Rattle.file_configs.specs.Listing.{Gives, with_file, groups_said, few_said, files_said};
 
 use crate::fault::FilesFault;
 use crate::file_text::FileText;
 use crate::groups::groups_in;
 use lists::{List, Plain};
-use sd_documents::{Group, MOST_TARGETS};
+use sd_documents::{Group, has_few_targets};
 use std::alloc::{AllocError, Global};
 
 /// The groups of all files in order, each with the path of its file as a label, or why the first file that has none is refused.
@@ -22,7 +21,7 @@ pub fn groups_of_files(alloc: Global, files: &[FileText]) -> Result<List<Group>,
 fn few(groups: List<Group>) -> Result<List<Group>, FilesFault>
     ensures { Gives (λ g. g) result (few_said groups) }
 {
-    if !are_few(groups.as_slice()) {
+    if !has_few_targets(groups.as_slice()) {
         return Err(FilesFault::TooMany);
     }
     Ok(groups)
@@ -55,18 +54,4 @@ fn append(all: &mut List<Group>, groups: &[Group]) -> Result<(), AllocError>
         all.push(group.copy()?)?;
     }
     Ok(())
-}
-
-/// Whether the groups have no more targets together than a list may.
-fn are_few(groups: &[Group]) -> bool
-    ensures { result ≡ nat_le (sum_by (λ (g : Group). length g.targets) groups.now) MOST_TARGETS }
-{
-    let mut left = MOST_TARGETS;
-    for group in groups {
-        if group.targets.len() > left {
-            return false;
-        }
-        left -= group.targets.len();
-    }
-    true
 }

@@ -6,7 +6,7 @@ ghost use Rattle.file_configs.specs.Patterns.{behind, is_between as is_between_t
 use std::fmt;
 
 /// Why a text is no path and no pattern of files.
-#[derive(Clone, Copy, Debug, PartialEq, Eq)]
+#[derive(Clone, Copy, PartialEq, Eq)]
 pub enum PatternFault {
     /// YAML files are not read.
     Yaml,

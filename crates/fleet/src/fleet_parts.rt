@@ -5,7 +5,7 @@ use crate::known_target::KnownTarget;
 use lists::List;
 
 /// What a fleet is made of, by the names of its readers.
-#[derive(Debug, Drop)]
+#[derive(Drop)]
 pub struct FleetParts {
     pub jobs: List<JobSpec>,
     /// For each job and source the numbers of the targets that it lists, ascending.

@@ -4,7 +4,7 @@ use std::alloc::AllocError;
 
 /// A job: its name, how many of its targets a collector may have, where 0 is no limit, and how many sources
 /// list its targets.
-#[derive(Debug, Drop)]
+#[derive(Drop)]
 pub struct JobSpec {
     pub name: Text,
     pub target_limit: u32,

@@ -4,7 +4,7 @@ use reach_rules::HasTarget;
 use std::hash::{Hash, Hasher};
 
 /// A target that some source listed once.
-#[derive(Debug, Drop)]
+#[derive(Drop)]
 pub struct KnownTarget {
     /// The index of the job.
     pub job: usize,

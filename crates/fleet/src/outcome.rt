@@ -1,7 +1,7 @@
 //! What becomes of a list, of a collector that wants to join, and of one that is to drain or gets other limits.
 
 /// What becomes of a list.
-#[derive(Clone, Copy, Debug, PartialEq, Eq)]
+#[derive(Clone, Copy, PartialEq, Eq)]
 pub enum Listing {
     /// So many targets became live, and so many are live no longer.
     Changed { added: u32, removed: u32 },
@@ -9,7 +9,7 @@ pub enum Listing {
 }
 
 /// Why a source does not list the targets.
-#[derive(Clone, Copy, Debug, PartialEq, Eq)]
+#[derive(Clone, Copy, PartialEq, Eq)]
 pub enum ListRefusal {
     UnknownJob,
     UnknownSource,
@@ -52,7 +52,7 @@ pub enum DrainRefusal {
 }
 
 /// What becomes of a collector that gets other limits of its own.
-#[derive(Clone, Copy, Debug, PartialEq, Eq)]
+#[derive(Clone, Copy, PartialEq, Eq)]
 pub enum Limiting {
     /// It has these limits, and none besides.
     LimitsSet,
@@ -60,7 +60,7 @@ pub enum Limiting {
 }
 
 /// Why a collector does not get other limits.
-#[derive(Clone, Copy, Debug, PartialEq, Eq)]
+#[derive(Clone, Copy, PartialEq, Eq)]
 pub enum LimitsRefusal {
     UnknownCollector,
     /// A limit is for no job.

@@ -21,7 +21,7 @@ pub use answer::Answer;
 pub use event::Event;
 pub use ids::{AllocationNumber, CollectorId, Round, TargetId};
 pub use reading::{read_event, read_outcome, read_report};
-pub use refusal::Refusal;
+pub use refusal::{REFUSAL_COUNT, REFUSALS, Refusal, RefusalKind};
 pub use report::Report;
 pub use scrape_books::Outcome;
 pub use target::read_target;

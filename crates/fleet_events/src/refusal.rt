@@ -86,6 +86,116 @@ impl Refusal {
     }
 }
 
+/// A refusal without its values, as refusals are counted.
+#[derive(Clone, Copy, PartialEq, Eq)]
+pub enum RefusalKind {
+    UnknownJob,
+    UnknownSource,
+    TooManyLive,
+    TooManyKnown,
+    AlreadyJoined,
+    TooManyCollectors,
+    IdsSpent,
+    UnknownCollector,
+    AlreadyDraining,
+    Refused,
+    RefusedSpread,
+    Unchanged,
+    NumbersSpent,
+    RoundsSpent,
+    NotTaken,
+    UnknownTarget,
+    NotHolder,
+    StillServed,
+    RoundClosed,
+    RoundNotOpen,
+    AlreadyBooked,
+}
+
+/// How many refusals there are.
+pub const REFUSAL_COUNT: usize = RefusalKind::AlreadyBooked as usize + 1;
+
+/// All refusals, in the order in which they are told.
+pub const REFUSALS: [RefusalKind; REFUSAL_COUNT] = [
+    RefusalKind::UnknownJob,
+    RefusalKind::UnknownSource,
+    RefusalKind::TooManyLive,
+    RefusalKind::TooManyKnown,
+    RefusalKind::AlreadyJoined,
+    RefusalKind::TooManyCollectors,
+    RefusalKind::IdsSpent,
+    RefusalKind::UnknownCollector,
+    RefusalKind::AlreadyDraining,
+    RefusalKind::Refused,
+    RefusalKind::RefusedSpread,
+    RefusalKind::Unchanged,
+    RefusalKind::NumbersSpent,
+    RefusalKind::RoundsSpent,
+    RefusalKind::NotTaken,
+    RefusalKind::UnknownTarget,
+    RefusalKind::NotHolder,
+    RefusalKind::StillServed,
+    RefusalKind::RoundClosed,
+    RefusalKind::RoundNotOpen,
+    RefusalKind::AlreadyBooked,
+];
+
+impl RefusalKind {
+    /// That of a refusal.
+    pub fn of(refusal: &Refusal) -> RefusalKind {
+        match refusal {
+            Refusal::UnknownJob => RefusalKind::UnknownJob,
+            Refusal::UnknownSource => RefusalKind::UnknownSource,
+            Refusal::TooManyLive => RefusalKind::TooManyLive,
+            Refusal::TooManyKnown => RefusalKind::TooManyKnown,
+            Refusal::AlreadyJoined(_) => RefusalKind::AlreadyJoined,
+            Refusal::TooManyCollectors => RefusalKind::TooManyCollectors,
+            Refusal::IdsSpent => RefusalKind::IdsSpent,
+            Refusal::UnknownCollector => RefusalKind::UnknownCollector,
+            Refusal::AlreadyDraining => RefusalKind::AlreadyDraining,
+            Refusal::Refused(_) => RefusalKind::Refused,
+            Refusal::RefusedSpread(_) => RefusalKind::RefusedSpread,
+            Refusal::Unchanged(_) => RefusalKind::Unchanged,
+            Refusal::NumbersSpent => RefusalKind::NumbersSpent,
+            Refusal::RoundsSpent => RefusalKind::RoundsSpent,
+            Refusal::NotTaken(_) => RefusalKind::NotTaken,
+            Refusal::UnknownTarget => RefusalKind::UnknownTarget,
+            Refusal::NotHolder(_) => RefusalKind::NotHolder,
+            Refusal::StillServed(_) => RefusalKind::StillServed,
+            Refusal::RoundClosed(_) => RefusalKind::RoundClosed,
+            Refusal::RoundNotOpen(_) => RefusalKind::RoundNotOpen,
+            Refusal::AlreadyBooked => RefusalKind::AlreadyBooked,
+        }
+    }
+
+    /// The name of the refusal.
+    pub fn name(self) -> &'static str {
+        match self {
+            RefusalKind::UnknownJob => "UnknownJob",
+            RefusalKind::UnknownSource => "UnknownSource",
+            RefusalKind::TooManyLive => "TooManyLive",
+            RefusalKind::TooManyKnown => "TooManyKnown",
+            RefusalKind::AlreadyJoined => "AlreadyJoined",
+            RefusalKind::TooManyCollectors => "TooManyCollectors",
+            RefusalKind::IdsSpent => "IdsSpent",
+            RefusalKind::UnknownCollector => "UnknownCollector",
+            RefusalKind::AlreadyDraining => "AlreadyDraining",
+            RefusalKind::Refused => "Refused",
+            RefusalKind::RefusedSpread => "RefusedSpread",
+            RefusalKind::Unchanged => "Unchanged",
+            RefusalKind::NumbersSpent => "NumbersSpent",
+            RefusalKind::RoundsSpent => "RoundsSpent",
+            RefusalKind::NotTaken => "NotTaken",
+            RefusalKind::UnknownTarget => "UnknownTarget",
+            RefusalKind::NotHolder => "NotHolder",
+            RefusalKind::StillServed => "StillServed",
+            RefusalKind::RoundClosed => "RoundClosed",
+            RefusalKind::RoundNotOpen => "RoundNotOpen",
+            RefusalKind::AlreadyBooked => "AlreadyBooked",
+        }
+    }
+}
+
 /// `Refused`, and the fault's line after one space.
 fn refused_line(alloc: Global, fault: &Fault) -> Result<String, AllocError>
     ensures { IfOk result (λ s. string_bytes s ≡ refusal_line (Refusal.Refused fault.now)) }

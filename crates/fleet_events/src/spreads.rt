@@ -1,18 +1,17 @@
 //! Spreads out of JSON, and as JSON.
-ghost use Rattle.std.specs.Prelude.{◌≡◌, Some, IfOk, OnOk, option_map, codes};
+ghost use Rattle.std.specs.Prelude.{◌≡◌, Some, IfOk, OnOk, option_map};
 ghost use Rattle.serde_json.specs.Data.{object, no_members};
-ghost use Rattle.serde_json.specs.Find.{get};
 ghost use Rattle.serde_json.specs.View.{view, members_view};
-ghost use Rattle.spread_certificate.specs.Document.{even_in, optional_in, spread_in};
+ghost use Rattle.spread_certificate.specs.Document.{spread_in};
 ghost use Rattle.fleet_events.specs.Reading.{event_in, spread_event_in};
 ghost use Rattle.fleet_events.specs.Writing.{spread_event_data};
 
 use crate::event::Event;
 use crate::members::put_event;
-use json_values::{Spelled, member, put_written};
+use json_values::{Spelled, put_written};
 use price_certificate::Plan;
 use serde_json::{Map, Value};
-use spread_certificate::{Even, Spread};
+use spread_certificate::{Spread, spread_of};
 use std::alloc::{AllocError, Global};
 
 /// The spread that a JSON object says, if it says one.
@@ -26,46 +25,11 @@ pub(crate) fn read_spread(alloc: Global, value: &Value) -> Result<Option<Event>,
 }
 
 /// The spread of a plan.
-#[tactic(auto, unfolding(spread_certificate::specs::Document::spread_in))]
 fn read_within(alloc: Global, plan: Plan, value: &Value) -> Result<Option<Event>, AllocError>
     ensures { IfOk result (λ o. o ≡ option_map Event.Spread (spread_in plan (view value.now))) }
 {
-    let Some(caps) = member(alloc, value, "caps")? else {
-        return Ok(None);
-    };
-    let Some(free_item_prices) = member(alloc, value, "free_item_prices")? else {
-        return Ok(None);
-    };
-    let Some(free_bin_prices) = member(alloc, value, "free_bin_prices")? else {
-        return Ok(None);
-    };
-    let Some(even) = read_even_or_none(alloc, value)? else {
-        return Ok(None);
-    };
-    Ok(Some(Event::Spread(Spread {
-        caps,
-        plan,
-        free_item_prices,
-        free_bin_prices,
-        even,
-    })))
-}
-
-/// How even a spread is: it does not tell that where the member is left out.
-fn read_even_or_none(alloc: Global, value: &Value) -> Result<Option<Option<Even>>, AllocError>
-    ensures { IfOk result (λ o. o ≡ optional_in even_in (get (codes "even") (view value.now))) }
-{
-    match value.get("even") {
-        Some(even) => read_even(alloc, even),
-        None => Ok(Some(None)),
-    }
-}
-
-fn read_even(alloc: Global, even: &Value) -> Result<Option<Option<Even>>, AllocError>
-    ensures { IfOk result (λ o. o ≡ option_map Some (even_in (view even.now))) }
-{
-    match Even::read(alloc, even)? {
-        Some(even) => Ok(Some(Some(even))),
+    match spread_of(alloc, plan, value)? {
+        Some(spread) => Ok(Some(Event::Spread(spread))),
         None => Ok(None),
     }
 }

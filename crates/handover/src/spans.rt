@@ -10,7 +10,7 @@ use std::marker::Model;
 pub(crate) const OPEN: u32 = 4_294_967_295;
 
 /// A collector held a target from one number to another, both included.
-#[derive(Clone, Copy, Debug)]
+#[derive(Clone, Copy)]
 pub(crate) struct Span {
     pub(crate) first: u32,
     pub(crate) last: u32,

@@ -5,7 +5,7 @@ ghost use Rattle.http_get.specs.Causes.{fault_of};
 use crate::reply::FetchFault;
 
 /// Why there is no answer, as closely as a device tells.
-#[derive(Clone, Copy, Debug, PartialEq, Eq)]
+#[derive(Clone, Copy, PartialEq, Eq)]
 pub enum Cause {
     /// The address is none that can be reached.
     NoAddress,

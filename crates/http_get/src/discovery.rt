@@ -11,7 +11,7 @@ use sd_documents::{Group, Job, SdError, is_json_media, read_groups};
 use std::alloc::{AllocError, Global};
 
 /// What an answer of a source lists, and how many targets of it are left out.
-#[derive(Debug, Drop)]
+#[derive(Drop)]
 pub struct Listing {
     /// The source lists the final targets.
     pub event: Event,

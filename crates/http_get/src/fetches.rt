@@ -6,7 +6,7 @@ use std::io;
 use std::time::Duration;
 
 /// What whoever asks wants next.
-#[derive(Debug, Drop)]
+#[derive(Drop)]
 pub enum Next {
     /// This is to be asked; what it comes to is told with this mark.
     Ask { mark: usize, get: Get },

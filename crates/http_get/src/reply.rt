@@ -2,7 +2,7 @@
 use lists::{List, Text};
 
 /// An answer.
-#[derive(Debug, Drop)]
+#[derive(Drop)]
 pub struct Reply {
     /// The status code (RFC 9110, section 15).
     pub status: u16,
@@ -12,7 +12,7 @@ pub struct Reply {
 }
 
 /// Why there is no answer.
-#[derive(Clone, Copy, Debug, PartialEq, Eq)]
+#[derive(Clone, Copy, PartialEq, Eq)]
 pub enum FetchFault {
     /// The address is none, or the connection or the exchange failed.
     Device,

@@ -3,7 +3,7 @@
 //! A journal begins as `PATH.next`. Once it is on the device the last journal becomes `PATH.N`, and then the new one takes its place. So
 //! whenever the machine stops, there is `PATH`, or else `PATH.next` is whole. Meanwhile nobody else has them: they are his who has the
 //! lock of `PATH.lock`, which keeps its name.
-ghost use Rattle.std.specs.Prelude.{◌≡◌, IfOk};
+ghost use Rattle.std.specs.Prelude.{◌≡◌, IfOk, IsSome};
 ghost use Rattle.durable_journal.specs.Beginnings.{IsBegunAnew};
 
 use crate::disk::Disk;
@@ -73,7 +73,9 @@ impl<R> Journals<R> {
 
 impl<R> Journals<R> {
     /// The path of the journal that is written.
-    pub(crate) fn path(&self) -> Option<&str> {
+    pub(crate) fn path(&self) -> Option<&str>
+        ensures { IsSome self.now.path → IsSome result }
+    {
         match &self.path {
             Some(path) => Some(path.as_str()),
             None => None,

@@ -19,4 +19,5 @@ pub use journals::Journals;
 pub use laws::found_lead;
 pub use names::{NamedCollector, with_names};
 pub use opening::{Opened, open_allocator};
+pub use reading::{Journal, Next, Past, Start, Wanted, read_journal};
 pub use rounds::round_age;

@@ -1,5 +1,5 @@
 //! The file of the journal, and the allocator to begin with.
-ghost use Rattle.std.specs.Prelude.{◌≡◌, IfOk, Some, map};
+ghost use Rattle.std.specs.Prelude.{◌≡◌, IfOk, IsSome, Some, map};
 ghost use Rattle.replay_lines.specs.Configurations.{spec_of};
 ghost use Rattle.sd_documents.specs.Config.{job_data};
 ghost use Rattle.journal_files.specs.Opening.{AllocatorOf, IsBegunAs, IsBegunWith, IsNextOf, IsOpened};
@@ -55,7 +55,8 @@ pub fn open_allocator<R: Files<File = File> + AllocGlobal + Clock + Eprint + Cop
     jobs: &[Job],
     round: u64,
 ) -> Result<Opened<Disk>, Fault>
-    ensures { IfOk result (AllocatorOf ⟦<Disk as Device>⟧.tells ⟦<Disk as Write>⟧.contents line.now (map spec_of (map job_data jobs.now))) }
+    ensures allocator { IfOk result (AllocatorOf ⟦<Disk as Device>⟧.tells ⟦<Disk as Write>⟧.contents line.now (map spec_of (map job_data jobs.now))) }
+    ensures file { IfOk result (λ o. IsSome journals.now.path → IsSome o.file) }
 {
     let epoch = next_epoch(&journals.rt, 0);
     match journals.path() {
@@ -85,7 +86,8 @@ fn open_at<R: Files<File = File> + AllocGlobal + Clock + Eprint + Copy + Drop>(
     path: &str,
     wanted: Wanted<'_>,
 ) -> Result<Opened<Disk>, Fault>
-    ensures { IfOk result (IsOpened ⟦<Disk as Device>⟧.tells ⟦<Disk as Write>⟧.contents (asked_by wanted.entry)) }
+    ensures opened { IfOk result (IsOpened ⟦<Disk as Device>⟧.tells ⟦<Disk as Write>⟧.contents (asked_by wanted.entry)) }
+    ensures file { IfOk result (λ o. IsSome o.file) }
 {
     let mut file = own_journal(&journals.rt, journals.alloc, path)?;
     match read_journal(journals.alloc, path, &mut file, wanted) {
@@ -123,7 +125,8 @@ fn begin<R: Files<File = File> + AllocGlobal + Clock + Eprint + Copy + Drop>(
     file: File,
     start: Start,
 ) -> Result<Opened<Disk>, Fault>
-    ensures { IfOk result (IsBegunAs ⟦<Disk as Device>⟧.tells ⟦<Disk as Write>⟧.contents start) }
+    ensures opened { IfOk result (IsBegunAs ⟦<Disk as Device>⟧.tells ⟦<Disk as Write>⟧.contents start) }
+    ensures file { IfOk result (λ o. IsSome o.file) }
 {
     let Start {
         core,

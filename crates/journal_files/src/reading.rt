@@ -23,27 +23,27 @@ use std::io::Read;
 
 /// An allocator to begin with, and its journal.
 #[derive(Drop)]
-pub(crate) struct Start {
-    pub(crate) core: Core,
-    pub(crate) past: Past,
-    pub(crate) journal: Journal,
+pub struct Start {
+    pub core: Core,
+    pub past: Past,
+    pub journal: Journal,
 }
 
 /// A journal that was read.
 #[derive(Drop)]
-pub(crate) struct Journal {
+pub struct Journal {
     /// How many bytes its whole lines have.
-    pub(crate) whole: u64,
+    pub whole: u64,
     /// The digest of the last of them, where they have digests.
-    pub(crate) chain: Option<Chain>,
+    pub chain: Option<Chain>,
     /// How many bytes of a torn line follow them.
-    pub(crate) torn: usize,
-    pub(crate) next: Next,
+    pub torn: usize,
+    pub next: Next,
 }
 
 /// What is to become of a journal.
 #[derive(Drop)]
-pub(crate) enum Next {
+pub enum Next {
     /// It has no line, and begins with this one.
     Begins(FirstLine),
     /// It goes on behind so many events.
@@ -54,22 +54,22 @@ pub(crate) enum Next {
 
 /// What a journal is to go on with.
 #[derive(Clone, Copy)]
-pub(crate) struct Wanted<'a> {
+pub struct Wanted<'a> {
     /// The document of the configuration, as one line.
-    pub(crate) line: &'a str,
-    pub(crate) jobs: &'a [Job],
+    pub line: &'a str,
+    pub jobs: &'a [Job],
     /// The epoch of a journal that begins now, where there is none before it.
-    pub(crate) epoch: u64,
+    pub epoch: u64,
     /// How long a round is, in milliseconds.
-    pub(crate) round: u64,
+    pub round: u64,
 }
 
 /// What a journal tells beside its allocator.
 #[derive(Drop)]
-pub(crate) struct Past {
-    pub(crate) epoch: u64,
+pub struct Past {
+    pub epoch: u64,
     /// The names that its collectors have or had.
-    pub(crate) names: Vec<NamedCollector>,
+    pub names: Vec<NamedCollector>,
 }
 
 /// An allocator, what its journal tells beside it, and what is to become of that journal.
@@ -81,7 +81,7 @@ struct Begun {
 }
 
 /// Reads the journal at a path to its end, and changes nothing of it.
-pub(crate) fn read_journal<F: Read>(
+pub fn read_journal<F: Read>(
     alloc: Global,
     path: &str,
     file: &mut F,

@@ -88,6 +88,11 @@ impl<F: Device, N: JournalName> DeskJournal<F, N> {
         self.file.break_down();
     }
 
+    /// Fails where nobody would find what is written to the file from now on.
+    pub fn check(&self) -> io::Result<()> {
+        self.file.check()
+    }
+
     /// What the desk's journal has behind what is in the file, or some of it.
     pub fn news<L: Ledger, B: Ledger>(
         &mut self,

@@ -81,6 +81,11 @@ impl<F: Device> JournalFile<F> {
         }
     }
 
+    /// Fails where nobody would find what is written from now on.
+    pub(crate) fn check(&self) -> io::Result<()> {
+        self.file.check()
+    }
+
     /// Writes lines behind those that are there, and has the device keep all that it has, where it does not yet. Where it fails nothing is kept any
     /// more.
     pub(crate) fn write(&mut self, lines: &Lines, is_kept: bool) -> io::Result<()>

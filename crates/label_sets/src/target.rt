@@ -101,7 +101,7 @@ impl Plain for Target {
 }
 
 /// What a label set is finished to.
-#[derive(Debug, Drop)]
+#[derive(Drop)]
 pub enum Finished {
     Target(Target),
     /// There is no `__address__`.

@@ -9,7 +9,7 @@ use std::time::Clock;
 
 /// Writes each record to the standard error of `R`, a line of logfmt for each: `ts`, `level`, `msg`, and the record's pairs. Messages
 /// have no quotation marks; a text from outside is a pair with a `Quoted` value, and a URL one with a `QuotedUrl`.
-#[derive(Clone, Copy, Debug, Drop)]
+#[derive(Clone, Copy, Drop)]
 pub struct Logfmt<R>(pub R);
 
 impl<R: Eprint + Clock> Log for Logfmt<R> {

@@ -3,7 +3,7 @@ use std::fmt;
 use std::fmt::{Display, Formatter};
 
 /// Shows a length of time as `12ms`.
-#[derive(Clone, Copy, Debug)]
+#[derive(Clone, Copy)]
 pub struct Milliseconds(pub u64);
 
 impl Display for Milliseconds {

@@ -4,7 +4,7 @@ use std::fmt::{Display, Formatter};
 
 /// Shows a text in quotation marks. Quotation marks and backslashes in it have a backslash before them, and control characters are
 /// shown as spaces.
-#[derive(Clone, Copy, Debug)]
+#[derive(Clone, Copy)]
 pub struct Quoted<'a>(pub &'a str);
 
 impl<'a> Display for Quoted<'a> {

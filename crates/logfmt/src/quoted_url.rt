@@ -4,7 +4,7 @@ use std::fmt::{Display, Formatter};
 
 /// Shows a URL in quotation marks, in one line. Quotation marks, backslashes and control characters in it are percent-encoded (RFC 3986, section 2.1),
 /// as the line feeds between the paths of a source of files.
-#[derive(Clone, Copy, Debug)]
+#[derive(Clone, Copy)]
 pub struct QuotedUrl<'a>(pub &'a str);
 
 impl<'a> Display for QuotedUrl<'a> {

@@ -16,7 +16,7 @@ pub enum Status {
 }
 
 /// Why there is no answer, or only a front of one.
-#[derive(Clone, Copy, Debug, PartialEq, Eq)]
+#[derive(Clone, Copy, PartialEq, Eq)]
 pub enum Stop {
     /// No memory was found.
     Memory,
@@ -25,7 +25,7 @@ pub enum Stop {
 }
 
 /// How the program ends.
-#[derive(Clone, Copy, Debug, PartialEq, Eq)]
+#[derive(Clone, Copy, PartialEq, Eq)]
 pub enum Ending {
     /// The whole answer is written.
     Answered(Status),

@@ -222,7 +222,7 @@ fn worth(instance: &Instance, pairs: &[(u32, u32)]) -> u64
 }
 
 /// The sum of the items' prices.
-fn value_of_items(prices: &[u32]) -> u64
+pub fn value_of_items(prices: &[u32]) -> u64
     requires { length prices.now ≤ MOST_ITEMS }
     ensures sum { result ≡ sum prices.now }
     ensures most { result ≤ 70368744161280 }
@@ -235,7 +235,7 @@ fn value_of_items(prices: &[u32]) -> u64
 }
 
 /// The sum of the bins' prices, each as often as the bin's capacity.
-fn value_of_bins(instance: &Instance, prices: &[u32]) -> u64
+pub fn value_of_bins(instance: &Instance, prices: &[u32]) -> u64
     requires { length prices.now ≡ bins_of instance.now }
     ensures sum { result ≡ sum_below (λ bin. capacity_of instance.now bin * slice_index prices.now bin) (bins_of instance.now) }
     ensures most { result ≤ 1152921504338411520 }

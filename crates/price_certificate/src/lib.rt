@@ -17,7 +17,7 @@ pub use document::{
     DocumentError, document_value, instance_of, one_document, one_instance, read_document,
     read_instance, write_document,
 };
-pub use faults::count_bins;
+pub use faults::{count_bins, value_of_bins, value_of_items};
 pub use instance::Instance;
 pub use laws::{
     certified_is_optimal, no_fault_is_certified, price_fault_is_least, worth_is_by_level,

@@ -14,7 +14,7 @@ const WORD_BITS: usize = 64;
 const MOST_WORDS: usize = usize::MAX / WORD_BITS;
 
 /// A row of bits. Contracts see the bits, and how many more there is room for.
-#[derive(Debug, Drop)]
+#[derive(Drop)]
 pub(crate) struct BitRow {
     words: Vec<u64>,
     count: usize,

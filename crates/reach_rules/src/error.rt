@@ -2,7 +2,7 @@
 use std::alloc::AllocError;
 
 /// Why a collector's name is refused.
-#[derive(Debug, Clone, Copy, PartialEq, Eq)]
+#[derive(Clone, Copy, PartialEq, Eq)]
 pub enum NameError {
     /// The text is empty or longer than 128 bytes.
     BadName,

@@ -9,7 +9,7 @@ use lists::Plain;
 use std::alloc::{AllocError, Global};
 
 /// A collector that joined, and which of the targets it reaches, by their numbers.
-#[derive(Debug, Drop)]
+#[derive(Drop)]
 pub(crate) struct Row {
     pub(crate) id: u32,
     pub(crate) reach: Reach,

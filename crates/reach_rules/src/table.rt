@@ -11,7 +11,7 @@ use std::marker::Model;
 
 /// Which collectors reach which targets: each collector's rules are asked once about each target. Contracts see a row of answers
 /// for each collector in order of joining, and how many targets more can appear without memory.
-#[derive(Debug, Drop)]
+#[derive(Drop)]
 pub struct ReachTable {
     alloc: Global,
     rows: Vec<Row>,

@@ -3,7 +3,7 @@ ghost use Rattle.std.specs.Prelude.{◌≡◌};
 ghost use Rattle.relabel.specs.Spelling.{action_named as action_of, names_its_target as names_target, needs_target as needs, is_hash_mod};
 
 /// What a rule does.
-#[derive(Clone, Copy, Debug, PartialEq, Eq)]
+#[derive(Clone, Copy, PartialEq, Eq)]
 pub enum Action {
     /// Gives a label a text, where the pattern matches.
     Replace,

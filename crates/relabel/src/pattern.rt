@@ -9,7 +9,7 @@ use regex_syntax::{Config, ErrorKind, parse};
 use std::alloc::{AllocError, Global};
 
 /// Why a pattern was not compiled.
-#[derive(Clone, Copy, Debug, PartialEq, Eq)]
+#[derive(Clone, Copy, PartialEq, Eq)]
 pub enum PatternError {
     /// The grammar does not read it.
     NoPattern,

@@ -20,7 +20,7 @@ use std::alloc::{AllocError, Global};
 use std::marker::Model;
 
 /// What a rule says.
-#[derive(Debug, Drop)]
+#[derive(Drop)]
 pub struct RuleSettings {
     pub source_labels: List<LabelName>,
     pub separator: Text,

@@ -33,7 +33,7 @@ impl Model for Rules {
 }
 
 /// What rules make of the labels of a target.
-#[derive(Debug, Drop)]
+#[derive(Drop)]
 pub enum Relabelled {
     Kept(Labels),
     /// The number of the rule that dropped the target. The first rule has the number 1.

@@ -19,7 +19,7 @@ pub struct Resumption {
 }
 
 /// A line that says no event, or a first line that opens no allocator.
-#[derive(Clone, Copy, Debug, PartialEq, Eq)]
+#[derive(Clone, Copy, PartialEq, Eq)]
 pub struct Damage {
     /// Its number, from 1.
     pub line: u64,

@@ -1,17 +1,19 @@
 //! What is to be answered, by its name.
 use crate::numbers::{first_word, large, number};
 use bytes::Bytes;
+use entity_tags::TaggedText;
 use fleet_events::{Answer, Refusal};
 use lists::Text;
 use sd_routes::{ListHead, Notice, Place, RequestError, Said};
 use std::alloc::{AllocError, Global};
 
-/// What a text says: `answer ANSWER`, `refused NAME`, `page TEXT`, `taken HEAD GROUPS`, `served LEFT HEAD GROUPS`, `metrics TEXT`, `document TEXT`,
+/// What a text says: `answer ANSWER`, `refused NAME`, `page TEXT`, `nothing`, `taken HEAD GROUPS`, `served LEFT HEAD GROUPS`, `metrics TEXT`, `document TEXT`,
 /// `misshapen MEMBER`, `reloaded TEXT` or `notice NAME`. HEAD is `ALLOCATION ROUND COLLECTOR EPOCH AGE LENGTH`.
 pub(crate) fn said_in(alloc: Global, text: &str) -> Result<Option<Said>, AllocError> {
     let (word, rest) = first_word(text);
     match word {
         "page" => Ok(Some(Said::Page(Text::from_str(alloc, rest)?))),
+        "nothing" => Ok(Some(Said::Nothing)),
         "metrics" => Ok(Some(Said::Metrics(Text::from_str(alloc, rest)?))),
         "document" => Ok(Some(Said::Document(Text::from_str(alloc, rest)?))),
         "misshapen" => Ok(Some(Said::Misshapen(Text::from_str(alloc, rest)?))),
@@ -34,6 +36,7 @@ fn served(alloc: Global, text: &str) -> Result<Said, AllocError> {
 fn list(alloc: Global, left_out: Option<u32>, text: &str) -> Result<Said, AllocError> {
     let (head, groups) = head(left_out, text);
     let groups = Bytes::from_string(String::from_str(alloc, groups)?)?;
+    let groups = TaggedText::untagged(groups);
     Ok(Said::List { head, groups })
 }
 

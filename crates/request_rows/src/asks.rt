@@ -163,12 +163,11 @@ fn with(alloc: Global, ask: &Ask, said: String) -> Result<String, AllocError> {
     }
 }
 
+/// What is asked for. Of what has no part of its own, the route in the figures.
 fn spelled(alloc: Global, ask: &Ask) -> Result<String, AllocError> {
     match ask {
-        Ask::Status => String::from_str(alloc, "status"),
         Ask::ScrapeConfigs { rules: false } => String::from_str(alloc, "scrape configs"),
         Ask::ScrapeConfigs { rules: true } => String::from_str(alloc, "scrape configs with rules"),
-        Ask::Jobs => String::from_str(alloc, "jobs"),
         Ask::Job(job) => format!(in alloc; "job <{}>", job.as_str()),
         Ask::JobTargets(job) => format!(in alloc; "targets of <{}>", job.as_str()),
         Ask::CollectorTargets { job, name, takes } => {
@@ -178,24 +177,14 @@ fn spelled(alloc: Global, ask: &Ask) -> Result<String, AllocError> {
         Ask::Uncovered(job) => format!(in alloc; "uncovered of <{}>", job.as_str()),
         Ask::FindTargets(text) => format!(in alloc; "targets with <{}>", text.as_str()),
         Ask::Acknowledged { told, counts } => spelled_acknowledgement(alloc, told, *counts),
-        Ask::Allocations => String::from_str(alloc, "allocations"),
         Ask::Books(None) => String::from_str(alloc, "books"),
         Ask::Books(Some(round)) => format!(in alloc; "books of round {round}"),
-        Ask::Certificate => String::from_str(alloc, "certificate"),
-        Ask::Collectors => String::from_str(alloc, "collectors"),
         Ask::Collector(which) => of_collector(alloc, "collector", which),
-        Ask::Join => String::from_str(alloc, "join"),
         Ask::Leave(which) => of_collector(alloc, "leave", which),
         Ask::Drain(which) => of_collector(alloc, "drain", which),
         Ask::Release(which) => of_collector(alloc, "release", which),
         Ask::SetLimits(which) => of_collector(alloc, "limits of", which),
-        Ask::Report => String::from_str(alloc, "report"),
-        Ask::Healthy => String::from_str(alloc, "healthy"),
-        Ask::Live => String::from_str(alloc, "live"),
-        Ask::Ready => String::from_str(alloc, "ready"),
-        Ask::Metrics => String::from_str(alloc, "metrics"),
-        Ask::Reload => String::from_str(alloc, "reload"),
-        Ask::Quit => String::from_str(alloc, "quit"),
+        plain => String::from_str(alloc, plain.route().name()),
     }
 }
 

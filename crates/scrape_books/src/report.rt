@@ -59,7 +59,7 @@ impl Plain for Entry {
 }
 
 /// The sums over a target's entries.
-#[derive(Clone, Copy, Debug, PartialEq, Eq)]
+#[derive(Clone, Copy, PartialEq, Eq)]
 pub struct Page {
     /// How many entries there are.
     pub reports: u32,

@@ -47,7 +47,7 @@ pub struct Job {
 }
 
 /// A parameter, with its values.
-#[derive(Debug, Drop)]
+#[derive(Drop)]
 pub struct Param {
     pub name: Text,
     pub values: List<Text>,

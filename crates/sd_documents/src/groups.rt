@@ -55,8 +55,8 @@ fn few_targets_of(groups: List<Group>) -> Result<List<Group>, SdError>
     Ok(groups)
 }
 
-/// Whether the groups have no more than the most targets.
-fn has_few_targets(groups: &[Group]) -> bool
+/// Whether the groups have no more targets together than a list may, 16,384.
+pub fn has_few_targets(groups: &[Group]) -> bool
     ensures { result ≡ nat_le (sum_by (λ g. length g.targets) groups.now) MOST_TARGETS }
 {
     let mut left = MOST_TARGETS;

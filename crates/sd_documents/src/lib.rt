@@ -19,7 +19,7 @@ mod written;
 pub use config::{Config, Job, Param, read_config, scrape_configs_text};
 pub use error::{Limit, Member, SdError};
 pub use group::Group;
-pub use groups::{read_group, read_groups};
+pub use groups::{has_few_targets, read_group, read_groups};
 pub use labelling::first_labels;
 pub use laws::{documents_laws, first_labels_laws};
 pub use limits::{MOST_JOBS, MOST_RULES, MOST_TARGETS, MOST_URLS};

@@ -8,7 +8,7 @@ use Rattle.matchit.specs.Level.{IsText, AllSegment}
 use Rattle.matchit.proofs.SeekLemmas.{prepend-nil, step-append, step-hit, step-miss, or_else-none, seek-empty, seek-drop, seek-lit, param_step-empty}
 use Rattle.matchit.proofs.LongestLemmas.{longest_from-append, longest-kid}
 use Rattle.matchit.proofs.ParamLemmas.{longest-ends, with_suffix-append, with_suffix-all, with_suffix-ends, drop-length}
-use Rattle.sd_routes.specs.Table.{fits, first_fit, past_segment}
+use Rattle.sd_routes.specs.Places.{fits, first_fit, past_segment}
 
 -- on these rows the router finds the first that fits
 abbrev pub Agrees : Rows → Type 0

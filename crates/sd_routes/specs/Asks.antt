@@ -4,14 +4,15 @@ use Rattle.std.specs.Char.{is_ascii_digit}
 use Rattle.std.specs.List.{list_all}
 use Rattle.reach_rules.specs.Name.{is_collector_name}
 use Rattle.sd_routes.specs.Decimals.{decimal_in}
-use Rattle.sd_routes.specs.Methods.{purpose_of}
+use Rattle.sd_routes.specs.Places.{place_of, purpose_of}
 use Rattle.sd_routes.specs.Queries.{flag_of, number_of, value_of}
 use Rattle.sd_routes.specs.Segments.{second_segment, text_in}
-use Rattle.sd_routes.specs.Table.{place_of}
 use Rattle.sd_routes.specs.declared.decimal.TheConstants.{MOST_OF_32_BITS, MOST_OF_64_BITS}
+use Rattle.sd_routes.specs.declared.access.Access.{Access}
+use Rattle.sd_routes.specs.declared.access.Access.TheVariants.{Shown, Noted, Looked, Taken, Reported, Changed}
 use Rattle.sd_routes.specs.declared.acknowledgement.Acknowledgement.{Acknowledgement}
 use Rattle.sd_routes.specs.declared.ask.Ask.{Ask}
-use Rattle.sd_routes.specs.declared.ask.Ask.TheVariants.{Status, ScrapeConfigs, Jobs, Job, JobTargets, CollectorTargets, Uncovered, FindTargets, Acknowledged, Allocations, Books, Certificate, Collectors, Collector, Join, Leave, Drain, Release, SetLimits, Report, Healthy, Live, Ready, Metrics, Reload, Quit}
+use Rattle.sd_routes.specs.declared.ask.Ask.TheVariants.{Status, ScrapeConfigs, Jobs, Job, JobTargets, CollectorTargets, Uncovered, FindTargets, Acknowledged, Allocations, Books, Certificate, Collectors, Collector, Join, Leave, Drain, Release, SetLimits, Report, Healthy, Live, Ready, Leading, Metrics, Reload, Quit}
 use Rattle.sd_routes.specs.declared.place.Place.{Place}
 use Rattle.sd_routes.specs.declared.place.Place.TheVariants as place
 use Rattle.sd_routes.specs.declared.purpose.Purpose.{Purpose}
@@ -176,6 +177,7 @@ asked_at place.Reports purpose path query = Ok Report
 asked_at place.Healthy purpose path query = Ok Healthy
 asked_at place.Live purpose path query = Ok Live
 asked_at place.Ready purpose path query = Ok Ready
+asked_at place.Leading purpose path query = Ok Leading
 asked_at place.Metrics purpose path query = Ok Metrics
 asked_at place.Reload purpose path query = Ok Reload
 asked_at place.Quit purpose path query = Ok Quit
@@ -191,3 +193,40 @@ asked_by (Some place) method path query = asked_for place (purpose_of place meth
 
 abbrev pub asked : List ℕ → List ℕ → Option (List ℕ) → Result Ask RequestError
 asked method path query = asked_by (place_of path) method path query
+
+-- ---- of which kind it is
+
+-- Pages and figures are only shown. A collector's list is taken or looked at.
+abbrev pub access_of : Ask → Access
+access_of Status = Shown
+access_of (ScrapeConfigs rules) = Shown
+access_of Jobs = Shown
+access_of (Job job) = Shown
+access_of (JobTargets job) = Shown
+access_of (CollectorTargets job name takes) = if takes then Taken else Looked
+access_of (Uncovered job) = Shown
+access_of (FindTargets text) = Shown
+access_of (Acknowledged told counts) = if counts then Noted else Shown
+access_of Allocations = Shown
+access_of (Books round) = Shown
+access_of Certificate = Shown
+access_of Collectors = Shown
+access_of (Collector collector) = Shown
+access_of Join = Changed
+access_of (Leave collector) = Changed
+access_of (Drain collector) = Changed
+access_of (Release collector) = Changed
+access_of (SetLimits collector) = Changed
+access_of Report = Reported
+access_of Healthy = Shown
+access_of Live = Shown
+access_of Ready = Shown
+access_of Leading = Shown
+access_of Metrics = Shown
+access_of Reload = Changed
+access_of Quit = Changed
+
+-- whose list it is
+abbrev pub taker_of : Ask → Option (List ℕ)
+taker_of (CollectorTargets job name takes) = Some name
+taker_of _ = None

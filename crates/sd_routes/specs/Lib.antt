@@ -1,6 +1,4 @@
-pub mod Table
-pub mod Rows
-pub mod Methods
+pub mod Places
 pub mod Segments
 pub mod Decimals
 pub mod Queries

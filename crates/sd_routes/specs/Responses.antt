@@ -16,12 +16,12 @@ use Rattle.fleet_events.specs.declared.refusal.Refusal.TheVariants.{UnknownJob, 
 use Rattle.sd_routes.specs.AnswerTexts.{answer_text, answers_text}
 use Rattle.sd_routes.specs.Errors.{status_of, name_of}
 use Rattle.sd_routes.specs.Notices.{status_noticed, text_noticed}
-use Rattle.sd_routes.specs.Methods.{allowed_at}
+use Rattle.sd_routes.specs.Places.{allowed_at}
 use Rattle.sd_routes.specs.declared.list_head.ListHead.{ListHead}
 use Rattle.sd_routes.specs.declared.request_error.RequestError.{RequestError}
 use Rattle.sd_routes.specs.declared.request_error.RequestError.TheVariants.{Method, Token}
 use Rattle.sd_routes.specs.declared.responding.Said.{Said}
-use Rattle.sd_routes.specs.declared.responding.Said.TheVariants.{Answer as Answered, Answers, Page, List as ListOf, Refused, Misshapen, Notice as Noticed, Metrics, Document, Reloaded, NotReloaded}
+use Rattle.sd_routes.specs.declared.responding.Said.TheVariants.{Answer as Answered, Answers, Page, List as ListOf, Nothing, Refused, Misshapen, Notice as Noticed, Metrics, Document, Reloaded, NotReloaded}
 
 -- a head with this status code and these headers
 pub record IsHead (code : ℕ) (fields : Entries FieldValue) (head : Parts) : Type 0 where
@@ -120,6 +120,7 @@ status_said (Answered answer) = status_answered answer
 status_said (Answers answers round) = 200
 status_said (Page text) = 200
 status_said (ListOf head groups) = 200
+status_said Nothing = 200
 status_said (Refused error) = status_of error
 status_said (Misshapen name) = 400
 status_said (Noticed notice) = status_noticed notice
@@ -131,6 +132,7 @@ status_said (NotReloaded fault) = 500
 abbrev pub headers_said : Said → Entries FieldValue
 headers_said (Page text) = page_headers
 headers_said (ListOf head groups) = list_headers head
+headers_said Nothing = page_headers
 headers_said (Refused error) = refused_headers error
 headers_said (Noticed notice) = media_headers (codes "text/plain; charset=utf-8")
 headers_said (Metrics text) = media_headers (codes "text/plain; version=0.0.4; charset=utf-8")
@@ -144,6 +146,7 @@ body_said (Answered answer) = answer_text answer
 body_said (Answers answers round) = answers_text answers round
 body_said (Page text) = text
 body_said (ListOf head groups) = groups
+body_said Nothing = codes "[]"
 body_said (Refused error) = refused_text (name_of error)
 body_said (Misshapen name) = compact_text (misshapen_data name)
 body_said (Noticed notice) = text_noticed notice

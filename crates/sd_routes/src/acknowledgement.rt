@@ -3,7 +3,7 @@ use fleet_events::{AllocationNumber, CollectorId};
 use lists::Text;
 
 /// That a collector follows its list of a job.
-#[derive(Debug, Drop)]
+#[derive(Drop)]
 pub struct Acknowledgement {
     pub collector: CollectorId,
     pub job: Text,

@@ -15,7 +15,7 @@ use serde_json::{Map, Value, put};
 use std::alloc::{AllocError, Global};
 
 /// What is told of an allocation that was published.
-#[derive(Debug, Drop)]
+#[derive(Drop)]
 pub struct AllocationRow {
     pub number: AllocationNumber,
     /// When it was published, as a timestamp (RFC 3339).
@@ -35,7 +35,7 @@ pub struct AllocationRow {
 }
 
 /// What is told of the targets of a job that moved alike.
-#[derive(Debug, Drop)]
+#[derive(Drop)]
 pub struct MoveRow {
     pub job: Text,
     /// The collector that held them.

@@ -16,7 +16,7 @@ use serde_json::{Map, Value, json, put};
 use std::alloc::{AllocError, Global};
 
 /// What was booked in a round.
-#[derive(Debug, Drop)]
+#[derive(Drop)]
 pub struct BooksRow {
     /// The round that is open.
     pub open_round: Round,
@@ -27,7 +27,7 @@ pub struct BooksRow {
 }
 
 /// What was booked of a job in a round.
-#[derive(Debug, Drop)]
+#[derive(Drop)]
 pub struct JobBooks {
     pub job: Text,
     /// What all collectors reported of it.
@@ -37,7 +37,7 @@ pub struct JobBooks {
 }
 
 /// What a collector reported of a job in a round.
-#[derive(Debug, Drop)]
+#[derive(Drop)]
 pub struct CollectorBooks {
     pub id: CollectorId,
     /// None where it has left.
@@ -46,7 +46,7 @@ pub struct CollectorBooks {
 }
 
 /// What was reported of some targets in a round.
-#[derive(Clone, Copy, Debug, PartialEq, Eq)]
+#[derive(Clone, Copy, PartialEq, Eq)]
 pub struct BookCounts {
     /// How many scrapes were reported as answered.
     pub up: u64,

@@ -7,7 +7,7 @@ use lists::List;
 use reach_rules::{CollectorName, OwnLimits};
 
 /// What is to happen to a collector.
-#[derive(Debug, Drop)]
+#[derive(Drop)]
 pub enum Change {
     Leave,
     Drain,
@@ -34,7 +34,7 @@ impl Change {
 }
 
 /// What a request wants to happen.
-#[derive(Debug, Drop)]
+#[derive(Drop)]
 pub enum Wanted {
     /// This event.
     Event(Event),

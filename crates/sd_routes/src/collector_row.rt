@@ -15,7 +15,7 @@ use serde_json::{Map, Value, put};
 use std::alloc::{AllocError, Global};
 
 /// What is told of a live collector.
-#[derive(Debug, Drop)]
+#[derive(Drop)]
 pub struct CollectorRow {
     pub id: CollectorId,
     pub name: CollectorName,

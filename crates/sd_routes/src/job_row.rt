@@ -15,7 +15,7 @@ use serde_json::{Map, Value, json, put};
 use std::alloc::{AllocError, Global};
 
 /// What is told of a job at a moment.
-#[derive(Debug, Drop)]
+#[derive(Drop)]
 pub struct JobRow {
     pub name: Text,
     /// How many targets are live.
@@ -34,7 +34,7 @@ pub struct JobRow {
 }
 
 /// What is told of a discovery source.
-#[derive(Debug, Drop)]
+#[derive(Drop)]
 pub struct SourceRow {
     pub url: Text,
     /// When it last gave its list, in seconds since 1970, if it did.

@@ -5,6 +5,7 @@
 //! bodies of pages being made by functions of their own.
 #![tactic(auto)]
 
+mod access;
 mod acknowledgement;
 mod acknowledging;
 mod allocation_row;
@@ -35,10 +36,11 @@ mod routing;
 mod segment;
 mod which_collector;
 
+pub use access::Access;
 pub use acknowledgement::Acknowledgement;
 pub use acknowledging::acknowledged_list;
 pub use allocation_row::{AllocationRow, MoveRow, allocations_page};
-pub use ask::Ask;
+pub use ask::{Ask, ROUTE_COUNT, ROUTES, Route};
 pub use books_row::{BookCounts, BooksRow, CollectorBooks, JobBooks, books_page};
 pub use change::{Change, Wanted};
 pub use collector_row::{CollectorRow, collector_page, collectors_page};

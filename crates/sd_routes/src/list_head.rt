@@ -2,7 +2,7 @@
 use fleet_events::{AllocationNumber, CollectorId, Round};
 
 /// What the head of a list tells.
-#[derive(Clone, Copy, Debug, PartialEq, Eq)]
+#[derive(Clone, Copy, PartialEq, Eq)]
 pub struct ListHead {
     pub allocation: AllocationNumber,
     pub round: Round,

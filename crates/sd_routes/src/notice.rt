@@ -5,7 +5,7 @@ ghost use Rattle.sd_routes.specs.Notices.{status_noticed, text_noticed};
 use http::StatusCode;
 
 /// What the service says of itself in a line of plain text, after Prometheus's management API.
-#[derive(Clone, Copy, Debug, PartialEq, Eq)]
+#[derive(Clone, Copy, PartialEq, Eq)]
 pub enum Notice {
     /// It answers.
     Healthy,
@@ -15,6 +15,8 @@ pub enum Notice {
     Ready,
     /// It does not answer for all sources yet, or does not answer for what is submitted.
     NotReady,
+    /// It leads, and does not stand by.
+    Leading,
     /// It ends.
     Quitting,
     /// It does not end for a request, and does not read its configuration again for one.
@@ -28,7 +30,7 @@ impl Notice {
     {
         match self {
             Notice::Healthy | Notice::Ready => StatusCode::OK,
-            Notice::Quitting => StatusCode::OK,
+            Notice::Leading | Notice::Quitting => StatusCode::OK,
             Notice::Broken | Notice::NotReady => StatusCode::SERVICE_UNAVAILABLE,
             Notice::NoLifecycle => StatusCode::FORBIDDEN,
         }
@@ -43,6 +45,7 @@ impl Notice {
             Notice::Broken => "allocd cannot keep what is submitted.\n",
             Notice::Ready => "allocd is ready.\n",
             Notice::NotReady => "allocd is not ready.\n",
+            Notice::Leading => "allocd leads.\n",
             Notice::Quitting => "allocd ends. Goodbye!\n",
             Notice::NoLifecycle => "The lifecycle API is not enabled.\n",
         }

@@ -1,7 +1,7 @@
 //! What a method is for.
 
 /// What a method is for at a place.
-#[derive(Clone, Copy, Debug, PartialEq, Eq)]
+#[derive(Clone, Copy, PartialEq, Eq)]
 pub(crate) enum Purpose {
     /// What the place has is shown.
     Show,

@@ -12,6 +12,7 @@ use crate::misshapen::misshapen_page;
 use crate::notice::Notice;
 use crate::request_error::RequestError;
 use bytes::Bytes;
+use entity_tags::TaggedText;
 use fleet_events::{Answer, Refusal, Round};
 use http::header::{
     ALLOW, CONNECTION, CONTENT_SECURITY_POLICY, CONTENT_TYPE, HeaderName, HeaderValue, VARY,
@@ -28,7 +29,7 @@ const POLICY: &str =
     "default-src 'none'; style-src 'unsafe-inline'; form-action 'self'; frame-ancestors 'none'";
 
 /// What a request is answered with.
-#[derive(Debug, Drop)]
+#[derive(Drop)]
 pub enum Said {
     /// What the allocator answers to an event.
     Answer(Answer),
@@ -43,8 +44,10 @@ pub enum Said {
     List {
         head: ListHead,
         /// The list of groups, as its JSON text.
-        groups: Bytes,
+        groups: TaggedText,
     },
+    /// The empty list of a job: whoever asks under the name of a collector that left has nothing to scrape of it.
+    Nothing,
     /// The request is refused without an answer of the allocator.
     Refused(RequestError),
     /// The request's body is not of the documented shape, at this member.
@@ -104,6 +107,7 @@ fn response_of(alloc: Global, said: Said) -> Result<Response<Full<Bytes>>, Alloc
         }
         Said::Page(text) => response(page_head(alloc), Ok(text.into_string())),
         Said::List { head, groups } => list_response(list_parts(alloc, &head), groups),
+        Said::Nothing => response(page_head(alloc), String::from_str(alloc, "[]")),
         Said::Refused(error) => {
             let text = refused_text(alloc, error.name());
             response(refused_head(alloc, error), text)
@@ -179,13 +183,13 @@ fn response(
 /// The response of a head, if there was memory for it, and a list.
 fn list_response(
     head: Result<Parts, AllocError>,
-    groups: Bytes,
+    groups: TaggedText,
 ) -> Result<Response<Full<Bytes>>, AllocError>
     ensures memory { IfOk result (λ r. IsOk head) }
     ensures says { IfOk result (λ r. IfOk head (λ h. IsResponse h.status h.headers groups r)) }
 {
     match head {
-        Ok(head) => Ok(response_with(head, groups)),
+        Ok(head) => Ok(response_with(head, groups.into_text())),
         Err(refused) => {
             drop(groups);
             Err(refused)

@@ -71,6 +71,7 @@ fn ask_at(
         Place::Healthy => Ok(Ask::Healthy),
         Place::Live => Ok(Ask::Live),
         Place::Ready => Ok(Ask::Ready),
+        Place::Leading => Ok(Ask::Leading),
         Place::Metrics => Ok(Ask::Metrics),
         Place::Reload => Ok(Ask::Reload),
         Place::Quit => Ok(Ask::Quit),

@@ -3,7 +3,7 @@ use fleet_events::CollectorId;
 use reach_rules::CollectorName;
 
 /// Which collector a path means.
-#[derive(Debug, Drop)]
+#[derive(Drop)]
 pub enum WhichCollector {
     /// The one of this number.
     Number(CollectorId),

@@ -5,7 +5,7 @@ use Rattle.journal_entries.specs.declared.entry.Entry.{Entry as Line}
 use Rattle.sd_routes.specs.declared.ask.Ask.{Ask}
 use Rattle.sd_routes.specs.declared.request_error.RequestError.TheVariants.{NotKept}
 use Rattle.sd_routes.specs.declared.responding.Said.{Said}
-use Rattle.sd_routes.specs.declared.responding.Said.TheVariants.{Answer as Answered, Answers, Page, List as ListOf, Refused, Misshapen, Notice, Metrics, Document, Reloaded, NotReloaded}
+use Rattle.sd_routes.specs.declared.responding.Said.TheVariants.{Answer as Answered, Answers, Page, List as ListOf, Nothing, Refused, Misshapen, Notice, Metrics, Document, Reloaded, NotReloaded}
 use Rattle.service_state.specs.declared.config_pages.ConfigPages.{ConfigPages}
 use Rattle.sd_server.specs.Entries.{Comes, IsPast, KeptPast, OnceKept, WaitsFor}
 use Rattle.sd_server.specs.Says.{Says, SaysIn, SaysReload, is_of_journal}
@@ -16,6 +16,7 @@ pub reload_waits : (keeps : List Line → Type 0) (span : Span) (said : Said) �
 reload_waits keeps span (Answered answer) says = absurd says
 reload_waits keeps span (Answers answers round) says = absurd says
 reload_waits keeps span (ListOf head groups) says = absurd says
+reload_waits keeps span Nothing says = absurd says
 reload_waits keeps span (Page page) says = tt
 reload_waits keeps span (Refused error) says = tt
 reload_waits keeps span (Misshapen name) says = tt
@@ -47,6 +48,7 @@ once_past : (keeps : List Line → Type 0) (span : Span) (said : Said) → KeptP
 once_past keeps span (Answered answer) past = past
 once_past keeps span (Answers answers round) past = past
 once_past keeps span (ListOf head groups) past = past
+once_past keeps span Nothing past = past
 once_past keeps span (Page page) past = tt
 once_past keeps span (Refused error) past = tt
 once_past keeps span (Misshapen name) past = tt
@@ -60,6 +62,7 @@ apart_waits : (keeps : List Line → Type 0) (span : Span) (said : Said) → is_
 apart_waits keeps span (Answered answer) apart = absurd cc
 apart_waits keeps span (Answers answers round) apart = absurd cc
 apart_waits keeps span (ListOf head groups) apart = absurd cc
+apart_waits keeps span Nothing apart = absurd cc
 apart_waits keeps span (Page page) apart = tt
 apart_waits keeps span (Refused error) apart = tt
 apart_waits keeps span (Misshapen name) apart = tt

@@ -3,6 +3,7 @@ use Rattle.std.proofs.Common.{◌≡◌, List, true, Option, Result, Ok, Err, sy
 use Rattle.std.specs.Prelude.{IsSome}
 use Rattle.std.specs.declared.sync.ledger.Ledger as Ledger
 use Rattle.alloc_desk.specs.declared.name.DeskName as DeskName
+use Rattle.kept_journal.specs.declared.journal_name.JournalName as JournalName
 use Rattle.journal_entries.specs.declared.entry.Entry.{Entry as Line}
 use Rattle.sd_routes.specs.declared.ask.Ask.{Ask}
 use Rattle.sd_routes.specs.declared.request_error.RequestError.{RequestError}
@@ -17,15 +18,15 @@ use Rattle.sd_server.specs.Replies.{Gives, IsTo, MaySay, Reads, SaysAtMost, has_
 use Rattle.sd_server.specs.Spans.{Span}
 
 pub gives_weaker :
-    {R L B N I : Type 0} {l : Ledger.Ghosts L} {b : Ledger.Ghosts B} {n : DeskName.Ghosts N} (keeps : List Line → Type 0) (before after : Reply R L B N I l b n)
+    {R L B N I : Type 0} {l : Ledger.Ghosts L} {b : Ledger.Ghosts B} {j : JournalName.Ghosts N} {n : DeskName.Ghosts N} (keeps : List Line → Type 0) (before after : Reply R L B N I l b j n)
     → after.manner ≡ before.manner → ((said : Said) → MaySay keeps before.seen before.stage said → MaySay keeps after.seen after.stage said) → (x : _) → Gives keeps before x → Gives keeps after x
 gives_weaker keeps before after manner weaker (Ok response) given = rw manner (given.0, weaker given.0 given.1, given.2)
 gives_weaker keeps before after manner weaker (Err error) given = given
 
 -- a reply that reads the body of what is asked is one to what asks for it
 pub reads_to :
-    {R L B N I K J : Type 0} {l : Ledger.Ghosts L} {b : Ledger.Ghosts B} {n : DeskName.Ghosts N} (keeps : List Line → Type 0) (kept : Option K) (inner : Option J) (pages : ConfigPages) (asked : Ask)
-    (came : Result Ask RequestError) (seen : Span) (st : Stage R L B N I l b n) → (IsSome kept → IsSome inner) → came ≡ Ok asked → has_body asked ≡ true → Reads inner pages asked st
+    {R L B N I K J : Type 0} {l : Ledger.Ghosts L} {b : Ledger.Ghosts B} {j : JournalName.Ghosts N} {n : DeskName.Ghosts N} (keeps : List Line → Type 0) (kept : Option K) (inner : Option J) (pages : ConfigPages) (asked : Ask)
+    (came : Result Ask RequestError) (seen : Span) (st : Stage R L B N I l b j n) → (IsSome kept → IsSome inner) → came ≡ Ok asked → has_body asked ≡ true → Reads inner pages asked st
     → IsTo keeps kept pages came seen st
 reads_to keeps kept inner pages asked came seen (stage.Told entry) some is body reads = absurd reads
 reads_to keeps kept inner pages asked came seen (stage.Reading reading) some is body reads =
@@ -33,8 +34,8 @@ reads_to keeps kept inner pages asked came seen (stage.Reading reading) some is 
 
 -- a reply that says what an entry leads to
 pub told_to :
-    {R L B N I K : Type 0} {l : Ledger.Ghosts L} {b : Ledger.Ghosts B} {n : DeskName.Ghosts N} (keeps : List Line → Type 0) (kept : Option K) (pages : ConfigPages) (came : Result Ask RequestError)
-    (seen other : Span) (entry : Entry N) (st : Stage R L B N I l b n) → st ≡ stage.Told entry → other ≡ seen
+    {R L B N I K : Type 0} {l : Ledger.Ghosts L} {b : Ledger.Ghosts B} {j : JournalName.Ghosts N} {n : DeskName.Ghosts N} (keeps : List Line → Type 0) (kept : Option K) (pages : ConfigPages) (came : Result Ask RequestError)
+    (seen other : Span) (entry : Entry N) (st : Stage R L B N I l b j n) → st ≡ stage.Told entry → other ≡ seen
     → Leads keeps (SaysAtMost seen pages came) entry × Leads keeps (OnceKept kept keeps seen) entry → IsTo keeps kept pages came other st
 told_to keeps kept pages came seen other entry st is same leads =
     subst (λ s. IsTo keeps kept pages came other s) (sym is)

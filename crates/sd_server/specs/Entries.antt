@@ -4,7 +4,7 @@ use mathlib.Core.List.{IsPrefix}
 use Rattle.journal_entries.specs.declared.entry.Entry.{Entry as Line}
 use Rattle.sd_routes.specs.declared.request_error.RequestError.TheVariants.{NotKept}
 use Rattle.sd_routes.specs.declared.responding.Said.{Said}
-use Rattle.sd_routes.specs.declared.responding.Said.TheVariants.{Answer as Answered, Answers, List as ListOf, Refused}
+use Rattle.sd_routes.specs.declared.responding.Said.TheVariants.{Answer as Answered, Answers, List as ListOf, Nothing, Refused}
 use Rattle.sd_server.specs.Says.{SaysReload, is_of_journal}
 use Rattle.sd_server.specs.Spans.{Span}
 use Rattle.sd_server.specs.declared.entry.Entry.{Entry}
@@ -34,6 +34,7 @@ abbrev pub IsPast : (List Line → Type 0) → Span → Said → Type 0
 IsPast keeps span (Answered answer) = KeptPast keeps span.after
 IsPast keeps span (Answers answers round) = KeptPast keeps span.after
 IsPast keeps span (ListOf head groups) = KeptPast keeps span.after
+IsPast keeps span Nothing = KeptPast keeps span.after
 IsPast keeps span _ = Unit {0}
 
 -- so it is, where something is to be kept

@@ -1,9 +1,9 @@
-pub mod Allocations
 pub mod Replies
 pub mod Entries
 pub mod Says
 pub mod Spans
 pub mod Listing
+pub mod Named
 pub mod Texts
 pub mod Looks
 pub mod Writing

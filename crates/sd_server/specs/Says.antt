@@ -1,14 +1,13 @@
 -- What a request is told.
-use Rattle.std.specs.Prelude.{◌≡◌, ◌⊎◌, ◌≤◌, ℕ, List, [], ◌∷◌, Option, Some, None, Result, Ok, Err, Bool, true, false, IsSome, codes, length, map, if◌then◌else◌}
+use Rattle.std.specs.Prelude.{◌≡◌, ◌⊎◌, ◌≤◌, ℕ, List, [], ◌∷◌, Option, Some, None, Result, Ok, Err, Bool, true, false, IsSome, length, map, if◌then◌else◌}
 use mathlib.Core.List.{IsPrefix}
-use Rattle.fleet.specs.Fleet.{id_named, is_joined}
+use Rattle.fleet.specs.Fleet.{id_named}
 use Rattle.fleet_events.specs.declared.event.Event.{Event}
 use Rattle.fleet_events.specs.declared.event.Event.TheVariants.{Take, Serve}
 use Rattle.fleet_events.specs.declared.answer.Answer.{Answer}
 use Rattle.fleet_events.specs.declared.answer.Answer.TheVariants.{Taken as HasTaken, Served as HasServed, Not}
 use Rattle.fleet_events.specs.declared.refusal.Refusal.TheVariants.{UnknownJob, UnknownCollector}
 use Rattle.allocation_core.specs.Idle.{IsIdle}
-use Rattle.allocation_core.specs.State.{State}
 use Rattle.journal_entries.specs.declared.entry.Entry.{Entry as Line}
 use Rattle.alloc_desk.specs.History.{History}
 use Rattle.alloc_desk.specs.Reached.{IsFull}
@@ -33,23 +32,23 @@ use Rattle.sd_routes.specs.declared.collector_row.CollectorRow.{CollectorRow}
 use Rattle.sd_routes.specs.declared.found_targets.FoundTarget.{FoundTarget}
 use Rattle.sd_routes.specs.declared.job_row.JobRow.{JobRow}
 use Rattle.sd_routes.specs.declared.which_collector.WhichCollector.{WhichCollector}
-use Rattle.sd_routes.specs.declared.which_collector.WhichCollector.TheVariants.{Number, Name}
 use Rattle.sd_routes.specs.declared.ask.Ask.{Ask}
 use Rattle.sd_routes.specs.declared.ask.Ask.TheVariants as ask
 use Rattle.sd_routes.specs.declared.list_head.ListHead.{ListHead}
-use Rattle.sd_routes.specs.declared.notice.Notice.TheVariants.{Healthy, Broken, Ready, NotReady, Quitting, NoLifecycle}
+use Rattle.sd_routes.specs.declared.notice.Notice.TheVariants.{Healthy, Broken, Ready, NotReady, Leading, Quitting, NoLifecycle}
 use Rattle.sd_routes.specs.declared.request_error.RequestError.{RequestError}
 use Rattle.sd_routes.specs.declared.request_error.RequestError.TheVariants.{NoRoute, Shape, UnknownRound, JournalFull, NotKept, Memory}
 use Rattle.sd_routes.specs.declared.responding.Said.{Said}
-use Rattle.sd_routes.specs.declared.responding.Said.TheVariants.{Answer as Answered, Answers, Page, List as ListOf, Refused, Misshapen, Notice as Noticed, Metrics, Document, Reloaded, NotReloaded}
+use Rattle.sd_routes.specs.declared.responding.Said.TheVariants.{Answer as Answered, Answers, Page, List as ListOf, Nothing, Refused, Misshapen, Notice as Noticed, Metrics, Document, Reloaded, NotReloaded}
 use Rattle.service_pages.specs.declared.notes.AllocationNote.{AllocationNote}
-use Rattle.service_state.specs.Booked.{IsBooks}
+use Rattle.page_rows.specs.Allocations.{allocation_row}
+use Rattle.page_rows.specs.Booked.{IsBooks}
+use Rattle.page_rows.specs.Meant.{id_meant}
+use Rattle.page_rows.specs.declared.found.TheConstants.{MOST_FOUND}
 use Rattle.service_state.specs.Jobs.{place_of}
-use Rattle.sd_server.specs.Allocations.{allocation_row}
 use Rattle.sd_server.specs.Keeping.{FindsKept}
 use Rattle.sd_server.specs.Looks.{HeadIs, IsLook}
 use Rattle.sd_server.specs.declared.look.Look.{Look}
-use Rattle.sd_server.specs.declared.found.TheConstants.{MOST_FOUND}
 use Rattle.sd_server.specs.Listing.{IsListText}
 use Rattle.sd_server.specs.Spans.{Span, OfSome, IsEntered}
 use Rattle.sd_server.specs.Texts.{certificate_text, job_text}
@@ -164,18 +163,18 @@ SaysCopy text said = (said ≡ Page text) ⊎ (said ≡ Refused Memory)
 -- what is told under a name that nobody has: nothing is to be scraped by a collector that had it, unless its lists could not be let go
 -- or memory ran out, and no other is known
 abbrev pub SaysGone : Span → Said → Type 0
-SaysGone span said = (said ≡ Answered (Not UnknownCollector)) ⊎ (SaysCopy (codes "[]") said ⊎ SaysNoAnswer span said)
+SaysGone span said = (said ≡ Answered (Not UnknownCollector)) ⊎ ((said ≡ Nothing) ⊎ SaysNoAnswer span said)
 
--- what a collector is told of a job: it takes, or is served, or looks
-abbrev pub SaysList : Span → Option (List ℕ) → ℕ → List ℕ → ℕ → Said → Type 0
-SaysList span at place job id said =
-    SaysGiven span at job place id (Take id) said ⊎ (SaysServed span at job place id said ⊎ SaysLook span place job id said)
+-- what a collector is told of a job: it takes, or is served; or it only looks
+abbrev pub SaysList : Span → Option (List ℕ) → ℕ → List ℕ → ℕ → Bool → Said → Type 0
+SaysList span at place job id true said = SaysGiven span at job place id (Take id) said ⊎ SaysServed span at job place id said
+SaysList span at place job id false said = SaysLook span place job id said
 
 -- nobody has the name, or its collector has a list
-unfoldable pub SaysHeld : Span → Option (List ℕ) → ℕ → List ℕ → List ℕ → Said → Type 0
-SaysHeld span at place job name said =
+unfoldable pub SaysHeld : Span → Option (List ℕ) → ℕ → List ℕ → List ℕ → Bool → Said → Type 0
+SaysHeld span at place job name takes said =
     (OfSome span (λ h. id_named h.state.fleet.collectors name ≡ None) × SaysGone span said)
-    ⊎ ((id : ℕ) × OfSome span (λ h. id_named h.state.fleet.collectors name ≡ Some id) × SaysList span at place job id said)
+    ⊎ ((id : ℕ) × OfSome span (λ h. id_named h.state.fleet.collectors name ≡ Some id) × SaysList span at place job id takes said)
 
 -- a page, unless memory ran out
 abbrev pub SaysText : Span → (History → List ℕ) → Said → Type 0
@@ -188,9 +187,9 @@ abbrev pub SaysJob : Span → List ℕ → Option ℕ → Said → Type 0
 SaysJob span job None said = said ≡ Answered (Not UnknownJob)
 SaysJob span job (Some place) said = SaysText span (job_text job place) said
 
-abbrev pub SaysCollector : Span → Option (List ℕ) → List ℕ → List ℕ → Option ℕ → Said → Type 0
-SaysCollector span at job name None said = said ≡ Answered (Not UnknownJob)
-SaysCollector span at job name (Some place) said = SaysHeld span at place job name said
+abbrev pub SaysCollector : Span → Option (List ℕ) → List ℕ → List ℕ → Bool → Option ℕ → Said → Type 0
+SaysCollector span at job name takes None said = said ≡ Answered (Not UnknownJob)
+SaysCollector span at job name takes (Some place) said = SaysHeld span at place job name takes said
 
 -- what a collector is told that follows a list: no figures, or that there is no such path where no list is acknowledged
 abbrev pub SaysAcknowledged : Option (List ℕ) → Said → Type 0
@@ -269,11 +268,6 @@ SaysCollectors (Page page) = IsCollectorsText page
 SaysCollectors (Refused error) = error ≡ Memory
 SaysCollectors _ = ⊥
 
--- the number of the live collector that is meant, if there is one
-abbrev pub id_meant : State → WhichCollector → Option ℕ
-id_meant m (Number id) = if is_joined m.fleet id then Some id else None
-id_meant m (Name name) = id_named m.fleet.collectors name
-
 -- what is told of the collector that is meant
 abbrev pub IsCollectorText : Span → WhichCollector → List ℕ → Type 0
 IsCollectorText span which text =
@@ -341,6 +335,7 @@ SaysPage span pages ask.Certificate said = SaysText span certificate_text said
 SaysPage span pages ask.Healthy said = said ≡ Noticed Healthy
 SaysPage span pages ask.Live said = SaysLive said
 SaysPage span pages ask.Ready said = SaysReady said
+SaysPage span pages ask.Leading said = said ≡ Noticed Leading
 SaysPage span pages ask.Metrics said = SaysMetrics said
 SaysPage span pages ask.Reload said = SaysReload said
 SaysPage span pages ask.Quit said = SaysQuit said
@@ -348,7 +343,7 @@ SaysPage span pages ask.Status said = SaysDocument said
 SaysPage span pages (ask.Uncovered job) said = SaysUncovered (place_of job pages.names) said
 SaysPage span pages (ask.Job job) said = SaysOneJob job (place_of job pages.names) said
 SaysPage span pages (ask.JobTargets job) said = SaysJob span job (place_of job pages.names) said
-SaysPage span pages (ask.CollectorTargets job name takes) said = SaysCollector span pages.acknowledge job name (place_of job pages.names) said
+SaysPage span pages (ask.CollectorTargets job name takes) said = SaysCollector span pages.acknowledge job name takes (place_of job pages.names) said
 SaysPage span pages ask.Collectors said = SaysCollectors said
 SaysPage span pages (ask.Collector which) said = SaysCollectorPage span which said
 SaysPage span pages (ask.FindTargets text) said = SaysFound said
@@ -386,11 +381,12 @@ SaysBy span pages asked (Ok (Some (Reports events))) said = SaysReports span eve
 SaysBy span pages asked (Ok None) said = SaysPage span pages asked said
 SaysBy span pages asked (Err error) said = SaysRefused error said
 
--- it is an answer, or a list
+-- it is an answer, or a list, which may be empty
 abbrev pub is_of_journal : Said → Bool
 is_of_journal (Answered answer) = true
 is_of_journal (Answers answers round) = true
 is_of_journal (ListOf head groups) = true
+is_of_journal Nothing = true
 is_of_journal _ = false
 
 -- there is an answer or a list, and it is not told, since the journal is not kept

@@ -3,12 +3,13 @@ use Rattle.std.specs.Prelude.{codes, Bool, true, false}
 use Rattle.http_header.specs.FieldValue.{FieldValue, plain_value}
 use Rattle.http_header.specs.HeaderMap.{Entries, insert}
 use Rattle.sd_routes.specs.declared.responding.Said.{Said}
-use Rattle.sd_routes.specs.declared.responding.Said.TheVariants.{Page, List as ListOf}
+use Rattle.sd_routes.specs.declared.responding.Said.TheVariants.{Page, List as ListOf, Nothing}
 
 -- a page or a list in JSON is said
 abbrev pub is_page : Said → Bool
 is_page (Page text) = true
 is_page (ListOf head groups) = true
+is_page Nothing = true
 is_page _ = false
 
 -- the media type is YAML's (RFC 9512, section 2.1) where it is told as YAML

@@ -2,7 +2,7 @@
 use http_header::{ACCEPT, HeaderMap};
 
 /// A form in which something is shown.
-#[derive(Clone, Copy, Debug, PartialEq, Eq)]
+#[derive(Clone, Copy, PartialEq, Eq)]
 enum Form {
     Json,
     Yaml,

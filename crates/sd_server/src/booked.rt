@@ -1,6 +1,6 @@
 //! What is told of a round that was booked.
 ghost use Rattle.std.specs.Prelude.{IfOk, Some};
-ghost use Rattle.service_state.specs.Booked.{IsBooks};
+ghost use Rattle.page_rows.specs.Booked.{IsBooks};
 ghost use Rattle.sd_server.specs.Says.{SaysBooks};
 ghost use Rattle.sd_server.specs.Spans.{Moves, now_of};
 
@@ -10,9 +10,9 @@ use alloc_desk::Record;
 use fleet_events::Round;
 use kept_journal::JournalName;
 use lists::Text;
+use page_rows::books_asked;
 use sd_routes::{BookCounts, BooksRow, JobBooks, RequestError, Said, books_page};
 use service_pages::{BookLine, Reporter, ShownBooks, books_document};
-use service_state::books_asked;
 use std::alloc::{AllocError, Global};
 use std::sync::Wait;
 use std::sync::ledger::Ledger;

@@ -1,5 +1,5 @@
 //! The lists that collectors ask for.
-ghost use Rattle.std.specs.Prelude.{◌≡◌, ◌<◌, Some, IfOk, IfErr, IfSome, IsTrue, All, codes, length};
+ghost use Rattle.std.specs.Prelude.{◌≡◌, ◌<◌, true, false, Some, IfOk, IfErr, IfSome, IsTrue, All, length};
 ghost use Rattle.std.specs.Arc.{arc_value};
 ghost use Rattle.fleet.specs.Fleet.{id_named};
 ghost use Rattle.fleet_events.specs.declared.event.Event.TheVariants.{Serve, Take};
@@ -11,7 +11,7 @@ ghost use Rattle.sd_server.specs.Listing.{AreGroups, AreKnown, IsGroups, IsListT
 ghost use Rattle.sd_server.specs.Looks.{HeadIs, IsLook};
 ghost use Rattle.sd_server.specs.Texts.{groups_text};
 ghost use Rattle.sd_server.specs.Spans.{Moves, now_of};
-ghost use Rattle.sd_server.specs.Says.{IsAnswered, SaysCollector, SaysCopy, SaysGiven, SaysGone, SaysHeld, SaysList, SaysLook, SaysLookOf, SaysNot, SaysGroups, SaysServed, SaysTold};
+ghost use Rattle.sd_server.specs.Says.{IsAnswered, SaysCollector, SaysGiven, SaysGone, SaysHeld, SaysList, SaysLook, SaysLookOf, SaysNot, SaysGroups, SaysServed, SaysTold};
 
 use crate::handler::Handler;
 use crate::list_text::ListText;
@@ -20,6 +20,7 @@ use crate::seen::Seen;
 use alloc_desk::Front;
 use allocation_core::{Answer, Core, Event, Refusal};
 use bytes::Bytes;
+use entity_tags::TaggedText;
 use fleet_events::{AllocationNumber, CollectorId, Round, TargetId};
 use kept_journal::JournalName;
 use lists::{List, Plain, Text};
@@ -40,7 +41,7 @@ impl<R: Wait + Clock + Copy, L: Ledger, B: Ledger, N: JournalName> Handler<R, L,
         name: &CollectorName,
         takes: bool,
     ) -> Said
-        ensures says { SaysCollector seen.new (arc_value self.now.pages).acknowledge job.now name.now (place_of job.now (arc_value self.now.pages).names) result }
+        ensures says { SaysCollector seen.new (arc_value self.now.pages).acknowledge job.now name.now takes (place_of job.now (arc_value self.now.pages).names) result }
         ensures moves { Moves seen.old seen.new }
     {
         let Some(place) = self.pages.place(job.as_str()) else {
@@ -58,7 +59,7 @@ impl<R: Wait + Clock + Copy, L: Ledger, B: Ledger, N: JournalName> Handler<R, L,
         name: &str,
         takes: bool,
     ) -> Said
-        ensures says { SaysHeld seen.new (arc_value self.now.pages).acknowledge place job.now name.now result }
+        ensures says { SaysHeld seen.new (arc_value self.now.pages).acknowledge place job.now name.now takes result }
         ensures moves { Moves seen.old seen.new }
     {
         if takes {
@@ -70,7 +71,7 @@ impl<R: Wait + Clock + Copy, L: Ledger, B: Ledger, N: JournalName> Handler<R, L,
 
     #[tactic(auto, using(crate::proofs::SpanLemmas::moves_trans), unfolding(crate::specs::Says::SaysHeld))]
     fn held(&self, seen: &mut Seen<N>, place: usize, job: &Text, name: &str) -> Said
-        ensures says { SaysHeld seen.new (arc_value self.now.pages).acknowledge place job.now name.now result }
+        ensures says { SaysHeld seen.new (arc_value self.now.pages).acknowledge place job.now name.now true result }
         ensures moves { Moves seen.old seen.new }
     {
         match self.named(seen, name) {
@@ -101,7 +102,7 @@ impl<R: Wait + Clock + Copy, L: Ledger, B: Ledger, N: JournalName> Handler<R, L,
         name: &str,
         id: CollectorId,
     ) -> Said
-        ensures says { SaysList seen.new (arc_value self.now.pages).acknowledge place job.now id result }
+        ensures says { SaysList seen.new (arc_value self.now.pages).acknowledge place job.now id true result }
         ensures moves { Moves seen.old seen.new }
     {
         if !self.state.is_ordered() {
@@ -201,21 +202,11 @@ impl<R: Wait + Clock + Copy, L: Ledger, B: Ledger, N: JournalName> Handler<R, L,
         self.state.note_taker(&self.rt, id);
         if !self.state.is_ordered() {
             seen.now();
-            return self.nothing();
+            return Said::Nothing;
         }
         match self.let_go(seen, job, id) {
-            Ok(()) => self.nothing(),
+            Ok(()) => Said::Nothing,
             Err(error) => Said::Refused(error),
-        }
-    }
-
-    /// The empty list.
-    fn nothing(&self) -> Said
-        ensures { SaysCopy (codes "[]") result }
-    {
-        match Text::from_str(self.alloc, "[]") {
-            Ok(nothing) => Said::Page(nothing),
-            Err(_) => Said::Refused(RequestError::Memory),
         }
     }
 
@@ -387,12 +378,12 @@ impl<R: Wait + Clock + Copy, L: Ledger, B: Ledger, N: JournalName> Handler<R, L,
     /// What is shown to who only looks, and takes nothing.
     #[tactic(auto, using(crate::proofs::SpanLemmas::moves_trans), unfolding(crate::specs::Says::SaysHeld))]
     fn looked(&self, seen: &mut Seen<N>, place: usize, job: &Text, name: &str) -> Said
-        ensures says { SaysHeld seen.new (arc_value self.now.pages).acknowledge place job.now name.now result }
+        ensures says { SaysHeld seen.new (arc_value self.now.pages).acknowledge place job.now name.now false result }
         ensures moves { Moves seen.old seen.new }
     {
         match self.named(seen, name) {
             Some(id) => self.look(seen, place, job, id),
-            None if self.state.was_live(&self.rt, name) => self.nothing(),
+            None if self.state.was_live(&self.rt, name) => Said::Nothing,
             None => Said::Answer(Answer::Not(Refusal::UnknownCollector)),
         }
     }
@@ -445,7 +436,7 @@ impl<R: Wait + Clock + Copy, L: Ledger, B: Ledger, N: JournalName> Handler<R, L,
         place: usize,
         head: &ListHead,
         targets: &[TargetId],
-    ) -> Result<Bytes, AllocError>
+    ) -> Result<TaggedText, AllocError>
         ensures text { IfOk result (IsListText seen.new at.now job.now head.now place targets.now) }
         ensures moves { Moves seen.old seen.new }
     {
@@ -464,12 +455,12 @@ impl<R: Wait + Clock + Copy, L: Ledger, B: Ledger, N: JournalName> Handler<R, L,
         place: usize,
         head: &ListHead,
         targets: &[TargetId],
-    ) -> Result<Bytes, AllocError>
+    ) -> Result<TaggedText, AllocError>
         ensures text { IfOk result (IsListText seen.new (Some at.now) job.now head.now place targets.now) }
         ensures moves { Moves seen.old seen.new }
     {
         let groups = self.groups(seen, place, head.collector, head.allocation, targets)?;
-        acknowledged_list(self.alloc, at, job, head, groups.as_slice())
+        Ok(TaggedText::untagged(acknowledged_list(self.alloc, at, job, head, groups.as_slice())?))
     }
 
     /// The text of these targets of a collector in an allocation.
@@ -480,7 +471,7 @@ impl<R: Wait + Clock + Copy, L: Ledger, B: Ledger, N: JournalName> Handler<R, L,
         collector: CollectorId,
         allocation: AllocationNumber,
         held: &[TargetId],
-    ) -> Result<Bytes, AllocError>
+    ) -> Result<TaggedText, AllocError>
         ensures text { IfOk result (IsGroups seen.new place held.now) }
         ensures moves { Moves seen.old seen.new }
     {
@@ -501,7 +492,7 @@ impl<R: Wait + Clock + Copy, L: Ledger, B: Ledger, N: JournalName> Handler<R, L,
         collector: CollectorId,
         allocation: AllocationNumber,
         held: &[TargetId],
-    ) -> Result<Bytes, AllocError>
+    ) -> Result<TaggedText, AllocError>
         ensures text { IfOk result (IsGroups seen.new place held.now) }
         ensures moves { Moves seen.old seen.new }
     {
@@ -518,7 +509,7 @@ impl<R: Wait + Clock + Copy, L: Ledger, B: Ledger, N: JournalName> Handler<R, L,
         collector: CollectorId,
         allocation: AllocationNumber,
         held: &[TargetId],
-        text: &Bytes,
+        text: &TaggedText,
     )
         requires { AreGroups place held.now text.now (now_of seen.now) }
     {
@@ -535,11 +526,11 @@ impl<R: Wait + Clock + Copy, L: Ledger, B: Ledger, N: JournalName> Handler<R, L,
         front: &Front<N>,
         place: usize,
         held: &[TargetId],
-        text: &Bytes,
+        text: &TaggedText,
     ) -> Result<Arc<ListText<N>>, AllocError>
         requires { AreGroups place held.now text.now (history_of N.opening front.now) }
     {
-        let text = ListText::new(self.alloc, front, place, held, text.clone()?)?;
+        let text = ListText::new(self.alloc, front, place, held, text.again()?)?;
         Ok(Arc::new(self.alloc, text)?)
     }
 
@@ -549,7 +540,7 @@ impl<R: Wait + Clock + Copy, L: Ledger, B: Ledger, N: JournalName> Handler<R, L,
         seen: &mut Seen<N>,
         place: usize,
         held: &[TargetId],
-    ) -> Result<Bytes, AllocError>
+    ) -> Result<TaggedText, AllocError>
         ensures text { IfOk result (λ t. AreGroups place held.now t (now_of seen.new)) }
         ensures moves { Moves seen.old seen.new }
     {
@@ -564,12 +555,13 @@ impl<R: Wait + Clock + Copy, L: Ledger, B: Ledger, N: JournalName> Handler<R, L,
         seen: &mut Seen<N>,
         place: usize,
         held: &[TargetId],
-    ) -> Result<Bytes, AllocError>
+    ) -> Result<TaggedText, AllocError>
         ensures text { IfOk result (λ t. t ≡ groups_text place held.now (now_of seen.new)) }
         ensures moves { Moves seen.old seen.new }
     {
         let targets = self.numbered(seen, place, held)?;
-        Bytes::from_string(targets_page(self.alloc, targets.as_slice())?.into_string())
+        let page = targets_page(self.alloc, targets.as_slice())?;
+        TaggedText::tagged(self.alloc, Bytes::from_string(page.into_string())?)
     }
 
     fn are_known(&self, seen: &mut Seen<N>, held: &[TargetId]) -> bool

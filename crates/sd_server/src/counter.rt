@@ -1,6 +1,7 @@
 //! What counts a request.
 use http::StatusCode;
-use service_state::{Route, ServiceState};
+use sd_routes::Route;
+use service_state::ServiceState;
 use std::sync::{Arc, Wait};
 use std::time::{Clock, Instant};
 

@@ -6,16 +6,17 @@ ghost use Rattle.sd_server.specs.Says.{IsJobRowText, Says, SaysCollectorPage, Sa
 ghost use Rattle.sd_server.specs.Spans.{Moves, Span};
 ghost use Rattle.sd_routes.specs.declared.which_collector.WhichCollector.{WhichCollector};
 
-use crate::collector_state::{CollectorState, collector_state};
-use crate::found_state::{FoundState, found_state};
 use crate::handler::Handler;
-use crate::job_state::{JobState, held_by_name, job_state, source_rows};
 use crate::seen::Seen;
 use allocation_core::{Answer, Refusal};
 use fleet_events::TargetId;
 use json_values::{Spelled, text_of};
 use kept_journal::JournalName;
 use lists::{List, Text};
+use page_rows::{
+    CollectorState, FoundState, JobState, collector_state, found_state, held_by_name, job_state,
+    source_rows,
+};
 use sd_routes::{Ask, JobRow, RequestError, Said, SourceRow, WhichCollector, job_row_page};
 use service_pages::{
     MOST_ROWS, Rows, ShownCollector, ShownJob, collector_document, found_document, job_document,
@@ -69,6 +70,7 @@ impl<R: Wait + Clock + Copy, L: Ledger, B: Ledger, N: JournalName> Handler<R, L,
             | Ask::Healthy
             | Ask::Live
             | Ask::Ready
+            | Ask::Leading
             | Ask::Metrics
             | Ask::Reload
             | Ask::Quit => None,

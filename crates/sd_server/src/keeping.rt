@@ -13,7 +13,7 @@ use lists::List;
 use std::alloc::{AllocError, Global};
 
 /// What a collector's last list of a job keeps, which another collector waits for.
-#[derive(Debug, Drop)]
+#[derive(Drop)]
 pub(crate) struct Keeping {
     pub(crate) look: Look,
     /// The targets that the list is to let go, in order of number: other collectors hold them.

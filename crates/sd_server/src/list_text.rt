@@ -6,7 +6,7 @@ ghost use Rattle.sd_server.specs.Listing.{AreGroups, IfGroups};
 ghost use Rattle.sd_server.specs.Spans.{Span};
 
 use alloc_desk::{DeskName, Front};
-use bytes::Bytes;
+use entity_tags::TaggedText;
 use fleet_events::TargetId;
 use lists::{List, Plain, all_same, copies};
 use std::alloc::{AllocError, Global};
@@ -18,7 +18,7 @@ use std::marker::Model;
 pub(crate) struct ListText<N: DeskName> {
     place: usize,
     held: List<TargetId>,
-    text: Bytes,
+    text: TaggedText,
     front: Front<N>,
 }
 
@@ -40,7 +40,7 @@ impl<N: DeskName> ListText<N> {
         front: &Front<N>,
         place: usize,
         held: &[TargetId],
-        text: Bytes,
+        text: TaggedText,
     ) -> Result<ListText<N>, AllocError>
         requires { AreGroups place held.now text (history_of N.opening front.now) }
     {
@@ -59,7 +59,7 @@ impl<N: DeskName> ListText<N> {
         front: &Front<N>,
         place: usize,
         held: &[TargetId],
-    ) -> Result<Option<Bytes>, AllocError>
+    ) -> Result<Option<TaggedText>, AllocError>
         ensures { IfOk result (λ found. (span : Span) → span.opening ≡ N.opening → span.after ≡ front.now → IfGroups span place held.now found) }
     {
         if self.place != place || !all_same(self.held.as_slice(), held) {
@@ -68,6 +68,6 @@ impl<N: DeskName> ListText<N> {
         if !front.covers(&self.front) {
             return Ok(None);
         }
-        Ok(Some(self.text.clone()?))
+        Ok(Some(self.text.again()?))
     }
 }

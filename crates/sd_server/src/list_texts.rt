@@ -5,8 +5,7 @@ ghost use Rattle.sd_server.specs.Spans.{Span};
 
 use crate::list_text::ListText;
 use alloc_desk::{DeskName, Front};
-use bytes::Bytes;
-use entity_tags::KnownTags;
+use entity_tags::{KnownTags, TaggedText};
 use fleet_events::{AllocationNumber, CollectorId, TargetId};
 use indexmap::IndexMap;
 use std::alloc::{AllocError, Global};
@@ -46,7 +45,7 @@ impl<N: DeskName> ListTexts<N> {
         collector: CollectorId,
         place: usize,
         held: &[TargetId],
-    ) -> Result<Option<Bytes>, AllocError>
+    ) -> Result<Option<TaggedText>, AllocError>
         ensures { IfOk result (λ found. (span : Span) → span.opening ≡ N.opening → span.after ≡ front.now → IfGroups span place held.now found) }
     {
         match self.kept_text(rt, collector, place)? {

@@ -8,7 +8,7 @@ use lists::List;
 use std::alloc::AllocError;
 
 /// What a look finds of a collector.
-#[derive(Debug, Drop)]
+#[derive(Drop)]
 pub(crate) struct Look {
     pub(crate) allocation: AllocationNumber,
     pub(crate) round: Round,

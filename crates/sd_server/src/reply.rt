@@ -25,7 +25,6 @@ use http_body_util::{BodyExt, Collected, Full, Limited, LimitedError};
 use hyper::body::Incoming;
 use kept_journal::JournalName;
 use sd_routes::{Ask, RequestError, Said};
-use service_state::Route;
 use std::alloc::{AllocError, Global};
 use std::sync::Wait;
 use std::sync::ledger::Ledger;
@@ -97,7 +96,7 @@ impl<R: Wait + Clock + Copy, L: Ledger, B: Ledger, N: JournalName, I: Drop> Repl
         ensures seen { result.seen ≡ seen }
     {
         let alloc = handler.alloc;
-        let counter = handler.counter(Route::of(Some(&ask)), handler.now());
+        let counter = handler.counter(ask.route(), handler.now());
         let body = Limited::new(body, LONGEST_BODY as usize).collect(alloc);
         Reply {
             alloc,

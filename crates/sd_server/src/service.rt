@@ -1,5 +1,5 @@
 //! The service that a connection calls for each request.
-ghost use Rattle.std.specs.Prelude.{◌≡◌, []};
+ghost use Rattle.std.specs.Prelude.{◌≡◌, [], IfOk, IsSome};
 ghost use Rattle.std.specs.Arc.{arc_value};
 ghost use Rattle.http.specs.Request as request;
 ghost use Rattle.http_uri.specs.Uri.{uri_path, uri_query};
@@ -22,19 +22,20 @@ use crate::manner::Manner;
 use crate::reply::Reply;
 use crate::seen::Seen;
 use bytes::Bytes;
+use event_loops::Gate;
 use http::request::Parts;
 use http::{Request, Response};
 use http_body_util::Full;
 use hyper::body::Incoming;
 use hyper::service::Service;
 use kept_journal::JournalName;
-use sd_routes::{Ask, RequestError, Routes, Said, route};
-use service_state::Route;
+use sd_routes::{Ask, RequestError, Route, Routes, Said, route};
 use std::alloc::{AllocError, Global};
 use std::net::SocketAddr;
 use std::sync::ledger::Ledger;
 use std::sync::{Arc, Wait};
 use std::time::Clock;
+use tokio::time::Handle;
 
 /// Answers requests with what a desk says.
 #[derive(Drop)]
@@ -57,13 +58,35 @@ impl<R: Wait + Clock + Copy, L: Ledger, B: Ledger, N: JournalName> AllocatorServ
         handler: &Handler<R, L, B, N>,
         routes: &Arc<Routes>,
         peer: Option<SocketAddr>,
-    ) -> Result<AllocatorService<R, L, B, N>, AllocError> {
+    ) -> Result<AllocatorService<R, L, B, N>, AllocError>
+        ensures same { IfOk result (λ s. (arc_value s.handler.pages ≡ arc_value handler.now.pages) × (IsSome handler.now.kept → IsSome s.handler.kept)) }
+        ensures epoch { IfOk result (λ s. s.handler.epoch ≡ handler.now.epoch) }
+    {
         let routes = Arc::try_clone(routes)?;
         match handler.another() {
             Ok(mut handler) => {
                 handler.peer = peer;
                 Ok(AllocatorService { handler, routes })
             }
+            Err(error) => {
+                drop(routes);
+                Err(error)
+            }
+        }
+    }
+
+    /// One for the same desk, with the timers and the gate of a loop.
+    pub(crate) fn of_loop(
+        handler: &Handler<R, L, B, N>,
+        time: &Handle,
+        gate: &Arc<Gate>,
+    ) -> Result<AllocatorService<R, L, B, N>, AllocError>
+        ensures same { IfOk result (λ s. (arc_value s.handler.pages ≡ arc_value handler.now.pages) × (IsSome handler.now.kept → IsSome s.handler.kept)) }
+        ensures epoch { IfOk result (λ s. s.handler.epoch ≡ handler.now.epoch) }
+    {
+        let routes = shared_routes(handler.alloc)?;
+        match handler.of_loop(time, gate) {
+            Ok(handler) => Ok(AllocatorService { handler, routes }),
             Err(error) => {
                 drop(routes);
                 Err(error)
@@ -79,7 +102,7 @@ impl<R: Wait + Clock + Copy, L: Ledger, B: Ledger, N: JournalName> AllocatorServ
             Ok(ask) => self.begin_with(seen, ask, wants_document(&head.headers)),
             Err(error) => {
                 seen.now();
-                Begun::Told(Entry::Now(Said::Refused(error)), Route::of(None))
+                Begun::Told(Entry::Now(Said::Refused(error)), Route::NoRoute)
             }
         }
     }
@@ -127,7 +150,7 @@ impl<R: Wait + Clock + Copy, L: Ledger, B: Ledger, N: JournalName> AllocatorServ
                 seen.now();
                 Begun::Reads(ask)
             }
-            _ => Begun::Told(self.entry(seen, &ask, for_people), Route::of(Some(&ask))),
+            _ => Begun::Told(self.entry(seen, &ask, for_people), ask.route()),
         }
     }
 

@@ -1,18 +1,19 @@
 //! The pages of collectors, of targets that are searched for, and of the last allocations.
 ghost use Rattle.std.specs.Prelude.{◌≡◌, ◌≤◌, length, Some, IfOk, IfSome};
-ghost use Rattle.sd_server.specs.Says.{IsAllocationsText, IsCollectorText, IsCollectorsText, IsFoundText, SaysAllocations, SaysCollectorPage, SaysCollectors, SaysFound, id_meant};
+ghost use Rattle.sd_server.specs.Says.{IsAllocationsText, IsCollectorText, IsCollectorsText, IsFoundText, SaysAllocations, SaysCollectorPage, SaysCollectors, SaysFound};
+ghost use Rattle.page_rows.specs.Meant.{id_meant};
 ghost use Rattle.sd_server.specs.Spans.{Moves, now_of};
-ghost use Rattle.sd_server.specs.declared.found.TheConstants.{MOST_FOUND};
+ghost use Rattle.page_rows.specs.declared.found.TheConstants.{MOST_FOUND};
 
-use crate::allocation_rows::allocations_text;
-use crate::collector_rows::{row_meant, rows_of};
-use crate::found::{Found, LOOKED_AT_ONCE, found_of, matching};
 use crate::handler::Handler;
 use crate::seen::Seen;
 use allocation_core::{Answer, Refusal};
 use fleet_events::TargetId;
 use kept_journal::JournalName;
 use lists::Text;
+use page_rows::{
+    Found, LOOKED_AT_ONCE, allocations_text, collector_meant, collector_rows, found_of, matching,
+};
 use sd_routes::{
     CollectorRow, RequestError, Said, WhichCollector, collector_page, collectors_page, found_page,
 };
@@ -47,7 +48,7 @@ impl<R: Wait + Clock + Copy, L: Ledger, B: Ledger, N: JournalName> Handler<R, L,
         self.desk.read(
             &self.rt,
             &mut *pass,
-            |record| rows_of(self.alloc, record.core()),
+            |record| collector_rows(self.alloc, record.core()),
         )
     }
 
@@ -89,7 +90,7 @@ impl<R: Wait + Clock + Copy, L: Ledger, B: Ledger, N: JournalName> Handler<R, L,
             &self.rt,
             &self.desk,
             &mut *pass,
-            |record| row_meant(self.alloc, record.core(), which),
+            |record| collector_meant(self.alloc, record.core(), which),
         )
     }
 

@@ -6,7 +6,7 @@ ghost use Rattle.entity_tags.specs.Tags.{tag_of};
 use crate::list_texts::ListTexts;
 use alloc_desk::DeskName;
 use bytes::Bytes;
-use entity_tags::entity_tag;
+use entity_tags::{TaggedText, entity_tag};
 use http_header::HeaderValue;
 use sd_routes::ListHead;
 use std::alloc::{AllocError, Global};
@@ -21,6 +21,21 @@ pub(crate) struct Tags<R, N: DeskName> {
 
 /// The entity tag of a list with this head.
 pub(crate) fn list_tag<R: Wait, N: DeskName>(
+    alloc: Global,
+    tags: &Option<Tags<R, N>>,
+    head: &ListHead,
+    groups: &TaggedText,
+) -> Result<HeaderValue, AllocError>
+    ensures { IfOk result (λ tag. tag ≡ plain_value (tag_of groups.now)) }
+{
+    match groups.tag()? {
+        Some(tag) => Ok(tag),
+        None => found_tag(alloc, tags, head, groups.text()),
+    }
+}
+
+/// The entity tag of a text, which may be known.
+fn found_tag<R: Wait, N: DeskName>(
     alloc: Global,
     tags: &Option<Tags<R, N>>,
     head: &ListHead,

@@ -14,7 +14,7 @@ use std::alloc::AllocError;
 pub(crate) fn is_page(said: &Said) -> bool
     ensures { result ≡ is_page_of said.now }
 {
-    matches!(said, Said::Page(_) | Said::List { .. })
+    matches!(said, Said::Page(_) | Said::List { .. } | Said::Nothing)
 }
 
 /// The same bytes as YAML.

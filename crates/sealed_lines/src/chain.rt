@@ -9,7 +9,7 @@ use std::alloc::{AllocError, Global};
 
 /// The digest of a line, and so of all lines before it: the first 8 bytes of SHA-256 (FIPS 180-4) over the digits of the digest before it
 /// and the line's bytes.
-#[derive(Clone, Copy, Debug, PartialEq, Eq)]
+#[derive(Clone, Copy, PartialEq, Eq)]
 pub struct Chain {
     /// Hex digits in lower case.
     digits: [u8; 16],

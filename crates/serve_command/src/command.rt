@@ -4,11 +4,16 @@ use crate::descriptors::{most_connections, warn_of_fewer};
 use crate::devices::{Devices, Machine};
 use crate::documents::{read_document, service_in};
 use crate::doors::admission_at;
+use crate::etcd_words::etcd_of;
+use crate::in_etcd::{Begun, serve_in_etcd};
+use crate::instance::{Instance, check_instance};
 use crate::listening::{listen_address, listener_at};
 use crate::not_followed::{told_valid, warn_of};
 use crate::running::serve_journal;
 use crate::standard_streams::hold_streams;
 use command_words::{ServeOptions, VERSION};
+use etcd_settings::Settings;
+use event_loops::Runtime;
 use journal_files::{Fault, is_same_file};
 use log::{error, info};
 use log_queue::LogQueue;
@@ -31,11 +36,14 @@ use std::time::{Clock, Duration};
 /// The status where the machine failed.
 const MACHINE: u8 = 3;
 
+/// The status where another instance leads, or may.
+const DEPOSED: u8 = 4;
+
 /// How long the end waits for the last lines to be read, in milliseconds.
 const LAST_LINES: u64 = 1_000;
 
 /// Does what the options ask for, and gives the exit status: 0 where the service was told to end, 2 where it is not told what to do, 3 where
-/// the machine failed it. What is logged is written to `queued`, a handle whose standard error is the queue. The last fault is told past that, by
+/// the machine failed it, 4 where another instance leads. What is logged is written to `queued`, a handle whose standard error is the queue. The last fault is told past that, by
 /// `rt`, if somebody has read all before. By the machine's handle the configuration is read again.
 pub fn serve<R, Q>(
     rt: &R,
@@ -82,6 +90,7 @@ fn tell<R: Eprint + Clock + Copy>(rt: &R, fault: &Fault) {
             let _ = rt.eprintln(line.as_str());
         }
         Fault::Machine(error) => log_failure(rt, error),
+        Fault::Deposed => log_deposed(rt),
     }
 }
 
@@ -89,11 +98,16 @@ fn status_of(fault: &Fault) -> ExitCode {
     match fault {
         Fault::Told(_) => ExitCode::from(2),
         Fault::Machine(_) => ExitCode::from(MACHINE),
+        Fault::Deposed => ExitCode::from(DEPOSED),
     }
 }
 
 fn log_failure<R: Eprint + Clock + Copy>(rt: &R, error: &io::Error) {
     error!(Logfmt(*rt); "the service ended: {error}");
+}
+
+fn log_deposed<R: Eprint + Clock + Copy>(rt: &R) {
+    error!(Logfmt(*rt); "another instance leads, or may: the service ends, and whoever starts it again has it stand by");
 }
 
 /// The first line of the log: which program begins, and over what.
@@ -133,36 +147,55 @@ fn serve_by<R>(
     lost_lines: &Arc<AtomicU64>,
 ) -> Result<(), Fault>
 where
-    R: Wait
-        + Threads
-        + Clock
-        + Net<Listener = TcpListener, Stream = TcpStream>
-        + Files<File = File>
-        + RandomSource
-        + AllocGlobal
-        + Print
-        + Eprint
-        + Sync
-        + Send
-        + Copy
-        + Drop,
+    R: Runtime + Files<File = File> + Print + Eprint,
 {
     let document = read_document(rt, rt.alloc(), options.config)?;
-    match service_of(rt.alloc(), options.config, document.as_slice(), lost_lines) {
-        Ok(service) => serve_service(rt, machine, options, document.as_slice(), service),
-        Err(fault) => Err(fault),
+    let etcd = etcd_of(
+        rt.alloc(),
+        options.config,
+        document.as_slice(),
+        options.journal,
+    );
+    let is_in_etcd = matches!(&etcd, Ok(Some(_)));
+    match service_of(
+        rt.alloc(),
+        options.config,
+        document.as_slice(),
+        lost_lines,
+        is_in_etcd,
+    ) {
+        Ok(service) => match etcd {
+            Ok(etcd) => serve_service(
+                rt,
+                machine,
+                options,
+                document.as_slice(),
+                lost_lines,
+                service,
+                etcd,
+            ),
+            Err(fault) => {
+                drop(service);
+                Err(fault)
+            }
+        },
+        Err(fault) => {
+            drop(etcd);
+            Err(fault)
+        }
     }
 }
 
-/// The service of a document, with where the log counts what it loses.
+/// The service of a document, with where the log counts what it loses, over a journal in etcd or not.
 fn service_of(
     alloc: Global,
     path: &str,
     document: &[u8],
     lost_lines: &Arc<AtomicU64>,
+    is_in_etcd: bool,
 ) -> Result<Service, Fault> {
     let lost_lines = Arc::try_clone(lost_lines)?;
-    match service_in(alloc, path, document) {
+    match service_in(alloc, path, document, is_in_etcd) {
         Ok(service) => Ok(service.with_log(lost_lines).with_version(VERSION)),
         Err(fault) => Err(fault),
     }
@@ -174,36 +207,47 @@ fn serve_service<R>(
     machine: Machine<'_>,
     options: &ServeOptions<'_>,
     document: &[u8],
+    lost_lines: &Arc<AtomicU64>,
     service: Service,
+    etcd: Option<Settings>,
 ) -> Result<(), Fault>
 where
-    R: Wait
-        + Threads
-        + Clock
-        + Net<Listener = TcpListener, Stream = TcpStream>
-        + Files<File = File>
-        + RandomSource
-        + AllocGlobal
-        + Print
-        + Eprint
-        + Sync
-        + Send
-        + Copy
-        + Drop,
+    R: Runtime + Files<File = File> + Print + Eprint,
 {
     let mut service = service;
     match places_of(rt, options, &mut service) {
-        Ok(_) if options.check_config => {
-            let told = tell_valid(rt, options.config, document, service.jobs());
-            drop(service);
-            told
+        Ok((here, journal)) => {
+            let asked = Asked {
+                options,
+                document,
+                lost_lines,
+                here,
+            };
+            if options.check_config {
+                let told = tell_checked(rt, &asked, &etcd, service.jobs());
+                drop((service, etcd, journal));
+                return told;
+            }
+            serve_at(rt, machine, &asked, service, journal, etcd)
         }
-        Ok((here, journal)) => serve_at(rt, machine, options, document, service, here, journal),
         Err(fault) => {
-            drop(service);
+            drop((service, etcd));
             Err(fault)
         }
     }
+}
+
+/// Tells that a configuration is valid, also of a journal in etcd.
+fn tell_checked<R: Files<File = File> + Print + AllocGlobal>(
+    rt: &R,
+    asked: &Asked<'_>,
+    etcd: &Option<Settings>,
+    jobs: &[Job],
+) -> Result<(), Fault> {
+    if let Some(settings) = etcd {
+        check_instance(rt, asked, settings)?;
+    }
+    tell_valid(rt, asked.options.config, asked.document, jobs)
 }
 
 /// Where a service is to listen, with its doors there, and the path of its journal.
@@ -232,42 +276,48 @@ fn tell_valid<R: Print + AllocGlobal>(
     written(rt, valid.as_str())
 }
 
-/// Serves at an address.
+/// What a service was asked for.
+#[derive(Clone, Copy)]
+pub(crate) struct Asked<'a> {
+    pub(crate) options: &'a ServeOptions<'a>,
+    pub(crate) document: &'a [u8],
+    pub(crate) lost_lines: &'a Arc<AtomicU64>,
+    /// Where it is to listen.
+    pub(crate) here: SocketAddr,
+}
+
+/// Serves at an address, over a journal in etcd or not.
 fn serve_at<R>(
     rt: &R,
     machine: Machine<'_>,
-    options: &ServeOptions<'_>,
-    document: &[u8],
+    asked: &Asked<'_>,
     service: Service,
-    here: SocketAddr,
+    journal: Option<String>,
+    etcd: Option<Settings>,
+) -> Result<(), Fault>
+where
+    R: Runtime + Files<File = File> + Print + Eprint,
+{
+    log_begin(rt, asked.options.config, &journal, &service);
+    match etcd {
+        Some(settings) => serve_over_etcd(rt, machine, asked, service, journal, settings),
+        None => serve_over_files(rt, machine, asked, service, journal),
+    }
+}
+
+fn serve_over_files<R>(
+    rt: &R,
+    machine: Machine<'_>,
+    asked: &Asked<'_>,
+    service: Service,
     journal: Option<String>,
 ) -> Result<(), Fault>
 where
-    R: Wait
-        + Threads
-        + Clock
-        + Net<Listener = TcpListener, Stream = TcpStream>
-        + Files<File = File>
-        + RandomSource
-        + AllocGlobal
-        + Print
-        + Eprint
-        + Sync
-        + Send
-        + Copy
-        + Drop,
+    R: Runtime + Files<File = File> + Print + Eprint,
 {
-    log_begin(rt, options.config, &journal, &service);
     let mut service = service;
-    let (device, most) = match devices_of(rt, machine, options.config, &mut service) {
-        Ok(found) => found,
-        Err(fault) => {
-            drop((service, journal));
-            return Err(fault);
-        }
-    };
-    match opened(rt, machine.host, options, document, here, most) {
-        Ok((configuration, listener)) => {
+    match begin(rt, machine, asked, &mut service, false) {
+        Ok((device, configuration, listener)) => {
             serve_journal(
                 rt,
                 rt.alloc(),
@@ -279,7 +329,72 @@ where
             )
         }
         Err(fault) => {
-            drop((service, device, journal));
+            drop((service, journal));
+            Err(fault)
+        }
+    }
+}
+
+/// Serves over a journal in etcd.
+fn serve_over_etcd<R>(
+    rt: &R,
+    machine: Machine<'_>,
+    asked: &Asked<'_>,
+    service: Service,
+    journal: Option<String>,
+    settings: Settings,
+) -> Result<(), Fault>
+where
+    R: Runtime + Files<File = File> + Print + Eprint,
+{
+    let mut service = service;
+    match begin(rt, machine, asked, &mut service, true) {
+        Ok((device, configuration, listener)) => {
+            match Instance::of(rt, machine, asked, &service, journal, settings) {
+                Ok(instance) => {
+                    let begun = Begun {
+                        service,
+                        configuration,
+                        listener,
+                        device,
+                    };
+                    serve_in_etcd(rt, &instance, asked, begun)
+                }
+                Err(fault) => {
+                    drop((service, device, configuration, listener));
+                    Err(fault)
+                }
+            }
+        }
+        Err(fault) => {
+            drop((service, journal, settings));
+            Err(fault)
+        }
+    }
+}
+
+/// What the sources of a service are asked with, the file of its configuration, and its listener.
+fn begin<R>(
+    rt: &R,
+    machine: Machine<'_>,
+    asked: &Asked<'_>,
+    service: &mut Service,
+    is_in_etcd: bool,
+) -> Result<(Devices<R>, ConfigurationFile, TcpListener), Fault>
+where
+    R: Net<Listener = TcpListener, Stream = TcpStream>
+        + Files<File = File>
+        + Clock
+        + AllocGlobal
+        + Eprint
+        + Copy
+        + Drop,
+{
+    let (device, most) = devices_of(rt, machine, asked.options.config, service)?;
+    match opened(rt, machine.host, asked, most, is_in_etcd) {
+        Ok((configuration, listener)) => Ok((device, configuration, listener)),
+        Err(fault) => {
+            drop(device);
             Err(fault)
         }
     }
@@ -303,10 +418,9 @@ fn devices_of<R: Files<File = File> + Clock + AllocGlobal + Eprint + Copy + Drop
 fn opened<R>(
     rt: &R,
     host: HostRuntime,
-    options: &ServeOptions<'_>,
-    document: &[u8],
-    here: SocketAddr,
+    asked: &Asked<'_>,
     most: u32,
+    is_in_etcd: bool,
 ) -> Result<(ConfigurationFile, TcpListener), Fault>
 where
     R: Net<Listener = TcpListener, Stream = TcpStream>
@@ -316,8 +430,10 @@ where
         + Eprint
         + Copy,
 {
-    warn_of(rt, rt.alloc(), document)?;
-    let configuration = ConfigurationFile::new(host, rt.alloc(), options.config, here, most)?;
+    warn_of(rt, rt.alloc(), asked.document)?;
+    let alloc = rt.alloc();
+    let here = asked.here;
+    let configuration = ConfigurationFile::new(host, alloc, asked.options, here, most, is_in_etcd)?;
     let listener = listener_at(rt, here)?;
     Ok((configuration, listener))
 }

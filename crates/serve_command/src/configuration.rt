@@ -1,7 +1,9 @@
 //! The configuration file, as the service reads it again.
 use crate::documents::{read_document, service_in, service_of_parts};
 use crate::doors::admission_at;
+use crate::etcd_words::etcd_of;
 use crate::process::process_figures;
+use command_words::ServeOptions;
 use journal_files::Fault;
 use lists::Text;
 use service_state::ProcessFigures;
@@ -19,6 +21,10 @@ pub(crate) struct ConfigurationFile {
     here: SocketAddr,
     /// For how many connections there are descriptors.
     most: u32,
+    /// The journal that the command line names.
+    journal: Option<String>,
+    /// Whether the journal is in etcd.
+    is_in_etcd: bool,
     /// What was read last and asks for a service.
     document: Vec<u8>,
 }
@@ -27,30 +33,55 @@ impl ConfigurationFile {
     pub(crate) fn new(
         host: HostRuntime,
         alloc: Global,
-        path: &str,
+        options: &ServeOptions<'_>,
         here: SocketAddr,
         most: u32,
+        is_in_etcd: bool,
     ) -> Result<ConfigurationFile, AllocError> {
+        let path = String::from_str(alloc, options.config)?;
+        let journal = match options.journal {
+            Some(journal) => Some(String::from_str(alloc, journal)?),
+            None => None,
+        };
         Ok(ConfigurationFile {
             host,
             alloc,
-            path: String::from_str(alloc, path)?,
+            path,
             here,
             most,
+            journal,
+            is_in_etcd,
             document: Vec::new(alloc),
         })
+    }
+
+    /// The journal that the command line names.
+    fn journal(&self) -> Option<&str> {
+        match &self.journal {
+            Some(journal) => Some(journal.as_str()),
+            None => None,
+        }
+    }
+
+    /// Refuses a document that asks for what only a journal in etcd has, where the journal is a file, or the other way.
+    fn check_etcd(&self, document: &[u8]) -> Result<(), Fault> {
+        let path = self.path.as_str();
+        let etcd = etcd_of(self.alloc, path, document, self.journal())?;
+        drop(etcd);
+        Ok(())
     }
 
     /// The document of the file, which asks for a service.
     fn valid_document(&self) -> Result<Vec<u8>, Fault> {
         let path = self.path.as_str();
         let document = read_document(&self.host, self.alloc, path)?;
-        let service = service_in(self.alloc, path, document.as_slice())?;
+        let service = service_in(self.alloc, path, document.as_slice(), self.is_in_etcd)?;
         let doors = admission_at(&self.host, path, service.doors(), self.here);
         drop(service);
         match doors {
             Ok(doors) => {
                 drop(doors);
+                self.check_etcd(document.as_slice())?;
                 Ok(document)
             }
             Err(fault) => Err(fault),
@@ -72,6 +103,7 @@ impl ConfigurationFile {
                 format!(in self.alloc; "{line}\n")
             }
             Fault::Machine(error) => format!(in self.alloc; "{error}\n"),
+            Fault::Deposed => String::from_str(self.alloc, "another instance leads\n"),
         };
         Text::from_string(line.unwrap_or(String::new(self.alloc)))
     }
@@ -90,7 +122,8 @@ impl Configuration for ConfigurationFile {
 
     fn service(&self) -> Option<Service> {
         let path = self.path.as_str();
-        let mut service = service_of_parts(self.alloc, path, self.document.as_slice()).ok()?;
+        let document = self.document.as_slice();
+        let mut service = service_of_parts(self.alloc, path, document, self.is_in_etcd).ok()?;
         if self.set_doors(&mut service).is_err() {
             drop(service);
             return None;

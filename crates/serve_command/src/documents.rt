@@ -20,6 +20,9 @@ use std::rt::Files;
 /// The most bytes of a configuration: 64 MiB.
 const LONGEST_CONFIGURATION: u64 = 67_108_864;
 
+/// How long a service over a journal in etcd goes on once nothing is kept, in milliseconds.
+const AT_ONCE: u64 = 1;
+
 /// What stands in the rules of an operator's configuration for the number of the shard, of which there is one here.
 const SHARD: &str = "$(SHARD)";
 
@@ -43,11 +46,16 @@ pub(crate) fn read_document<R: Files<File = File>>(
     Ok(document)
 }
 
-/// The service that the document of a configuration file asks for. Where it is faulty its faults are told, a line each.
-pub(crate) fn service_in(alloc: Global, path: &str, document: &[u8]) -> Result<Service, Fault> {
+/// The service that the document of a configuration file asks for, over a journal in etcd or not. Where it is faulty its faults are told, a line each.
+pub(crate) fn service_in(
+    alloc: Global,
+    path: &str,
+    document: &[u8],
+    is_in_etcd: bool,
+) -> Result<Service, Fault> {
     match faults_of(alloc, path, document)? {
         Some(lines) => Err(Fault::Told(lines)),
-        None => service_of_parts(alloc, path, document),
+        None => service_of_parts(alloc, path, document, is_in_etcd),
     }
 }
 
@@ -56,9 +64,10 @@ pub(crate) fn service_of_parts(
     alloc: Global,
     path: &str,
     document: &[u8],
+    is_in_etcd: bool,
 ) -> Result<Service, Fault> {
     match shown_text(alloc, path, document) {
-        Ok(text) => service_of_shown(alloc, path, text.as_str().as_bytes()),
+        Ok(text) => service_of_shown(alloc, path, text.as_str().as_bytes(), is_in_etcd),
         Err(fault) => Err(fault),
     }
 }
@@ -92,9 +101,14 @@ fn text_with_sources(alloc: Global, value: &Value) -> Result<Text, AllocError> {
 }
 
 /// The service of a document without secrets.
-fn service_of_shown(alloc: Global, path: &str, document: &[u8]) -> Result<Service, Fault> {
+fn service_of_shown(
+    alloc: Global,
+    path: &str,
+    document: &[u8],
+    is_in_etcd: bool,
+) -> Result<Service, Fault> {
     let config = config_in(alloc, path, document)?;
-    match settings_in(alloc, path, document) {
+    match settings_for(alloc, path, document, is_in_etcd) {
         Ok(settings) => match line_for(alloc, path, document, &config, &settings) {
             Ok(line) => service_of(alloc, path, line, config, settings),
             Err(fault) => {
@@ -148,7 +162,21 @@ fn config_in(alloc: Global, path: &str, document: &[u8]) -> Result<Config, Fault
     }
 }
 
-fn settings_in(alloc: Global, path: &str, document: &[u8]) -> Result<Settings, Fault> {
+/// The settings of a document. Over a journal in etcd nothing is waited for once nothing is kept: another instance leads then.
+fn settings_for(
+    alloc: Global,
+    path: &str,
+    document: &[u8],
+    is_in_etcd: bool,
+) -> Result<Settings, Fault> {
+    let mut settings = settings_in(alloc, path, document)?;
+    if is_in_etcd {
+        settings.give_up = AT_ONCE;
+    }
+    Ok(settings)
+}
+
+pub(crate) fn settings_in(alloc: Global, path: &str, document: &[u8]) -> Result<Settings, Fault> {
     match read_settings(alloc, document) {
         Ok(settings) => Ok(settings),
         Err(SettingsError::Memory) => Err(AllocError.into()),

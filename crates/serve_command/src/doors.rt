@@ -2,20 +2,15 @@
 use admission::{Admission, Key, read_keys};
 use journal_files::Fault;
 use lists::{List, Plain, Text};
+use private_files::private_text;
 use service_settings::Doors;
 use std::alloc::{AllocError, AllocGlobal, Global};
 use std::fs::File;
-use std::io;
-use std::io::Read;
 use std::net::SocketAddr;
-use std::os::unix::fs::PermissionsExt;
 use std::rt::Files;
 
 /// The most bytes of a file of tokens: 1 MiB.
 const LONGEST_TOKENS: u64 = 1_048_576;
-
-/// The bits of a file's mode by which others than its owner may do something.
-const OTHERS: u32 = 0o077;
 
 /// Who may ask for what where a service listens at an address. The path is that of the configuration.
 pub(crate) fn admission_at<R: Files<File = File> + AllocGlobal>(
@@ -101,8 +96,8 @@ fn keys_at<R: Files<File = File> + AllocGlobal>(
         return Ok(None);
     };
     let file = file.as_str();
-    match text_at(rt, file) {
-        Ok(Some(text)) => match read_keys(rt.alloc(), text.as_str())? {
+    match private_text(rt, file, LONGEST_TOKENS)? {
+        Ok(text) => match read_keys(rt.alloc(), text.as_str())? {
             Some(keys) => Ok(Some(keys)),
             None => told(
                 rt.alloc(),
@@ -112,31 +107,10 @@ fn keys_at<R: Files<File = File> + AllocGlobal>(
                 "a line has a token, or the name of a collector, a space and a token; and at least one line",
             ),
         },
-        Ok(None) => told(
-            rt.alloc(),
-            path,
-            member,
-            file,
-            "others may read or write it: chmod 600 it",
-        ),
-        Err(error) => {
-            let why = format!(in rt.alloc(); "{error}")?;
-            told(rt.alloc(), path, member, file, why.as_str())
-        }
+        Err(why) => told(rt.alloc(), path, member, file, why.as_str()),
     }
 }
 
 fn told<T>(alloc: Global, path: &str, member: &str, file: &str, why: &str) -> Result<T, Fault> {
     Err(Fault::Told(format!(in alloc; "{path}: allocator.tokens.{member}: {file}: {why}")?))
-}
-
-/// The text of a file that nobody but its owner may read.
-fn text_at<R: Files<File = File> + AllocGlobal>(rt: &R, path: &str) -> io::Result<Option<String>> {
-    let file = File::open(rt, path)?;
-    if file.metadata()?.permissions().mode() & OTHERS != 0 {
-        return Ok(None);
-    }
-    let mut text = String::new(rt.alloc());
-    file.take(LONGEST_TOKENS).read_to_string(&mut text)?;
-    Ok(Some(text))
 }

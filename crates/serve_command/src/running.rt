@@ -2,6 +2,7 @@
 use crate::configuration::ConfigurationFile;
 use crate::devices::Devices;
 use allocation_core::Core;
+use event_loops::Runtime;
 use journal_files::{Disk, Fault, Journals, Opened, open_allocator};
 use kept_journal::JournalFile;
 use log::{error, info, warn};
@@ -10,11 +11,8 @@ use service_tasks::{Journal, Service};
 use std::alloc::{AllocError, AllocGlobal, Global};
 use std::fs::File;
 use std::io;
-use std::net::{Net, SocketAddr, TcpListener, TcpStream};
-use std::random::RandomSource;
+use std::net::{SocketAddr, TcpListener};
 use std::rt::Files;
-use std::sync::Wait;
-use std::thread::Threads;
 use std::time::Clock;
 
 /// Serves over the allocator that the journal at a path leads to, where there is a path.
@@ -28,19 +26,7 @@ pub(crate) fn serve_journal<R>(
     journal: Option<String>,
 ) -> Result<(), Fault>
 where
-    R: Wait
-        + Threads
-        + Clock
-        + Net<Listener = TcpListener, Stream = TcpStream>
-        + Files<File = File>
-        + RandomSource
-        + AllocGlobal
-        + Print
-        + Eprint
-        + Sync
-        + Send
-        + Copy
-        + Drop,
+    R: Runtime + Files<File = File> + Print + Eprint,
 {
     match open_journals(rt, alloc, &service, &journal) {
         Ok((opened, mut journals)) => {
@@ -74,7 +60,7 @@ where
     }
 }
 
-fn log_end<R: Clock + Eprint + Copy>(rt: &R, samples: u128) {
+pub(crate) fn log_end<R: Clock + Eprint + Copy>(rt: &R, samples: u128) {
     info!(Logfmt(*rt); samples:% = samples; "ended");
 }
 
@@ -86,7 +72,7 @@ fn tell_what_is_kept<R: Clock + Eprint + Copy>(rt: &R, journal: &Option<String>)
 }
 
 /// Tells where nobody notices that a collector is dead.
-fn tell_who_is_missed<R: Clock + Eprint + Copy>(rt: &R, service: &Service) {
+pub(crate) fn tell_who_is_missed<R: Clock + Eprint + Copy>(rt: &R, service: &Service) {
     if !service.notices_absence() {
         warn!(Logfmt(*rt); "collector_timeout is never: nobody notices a collector that is dead, and its targets stay with it");
     }
@@ -147,19 +133,7 @@ fn serve_opened<R>(
     opened: Opened<Disk>,
 ) -> io::Result<Core>
 where
-    R: Wait
-        + Threads
-        + Clock
-        + Net<Listener = TcpListener, Stream = TcpStream>
-        + Files<File = File>
-        + RandomSource
-        + AllocGlobal
-        + Print
-        + Eprint
-        + Sync
-        + Send
-        + Copy
-        + Drop,
+    R: Runtime + Files<File = File> + Print + Eprint,
 {
     let Opened {
         core,
@@ -186,6 +160,6 @@ where
     )
 }
 
-fn log_address<R: Clock + Eprint + Copy>(rt: &R, here: SocketAddr) {
+pub(crate) fn log_address<R: Clock + Eprint + Copy>(rt: &R, here: SocketAddr) {
     info!(Logfmt(*rt); address:% = here; "listening");
 }

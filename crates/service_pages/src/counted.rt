@@ -8,7 +8,7 @@ use crate::notes::SourceNote;
 use crate::standing::Standing;
 
 /// What may need attention, counted.
-#[derive(Clone, Copy, Debug)]
+#[derive(Clone, Copy)]
 pub struct Counted {
     /// The live targets of all jobs.
     pub live: u128,

@@ -2,7 +2,7 @@
 use lists::Text;
 
 /// What a desk shows of itself in numbers, from one state.
-#[derive(Debug, Drop)]
+#[derive(Drop)]
 pub struct Figures {
     pub jobs: Vec<JobFigures>,
     /// In order of number.
@@ -18,7 +18,7 @@ pub struct Figures {
     pub waited_for_left: u64,
 }
 
-#[derive(Debug, Drop)]
+#[derive(Drop)]
 pub struct JobFigures {
     pub name: Text,
     /// How many targets are live.
@@ -43,7 +43,7 @@ impl JobFigures {
     }
 }
 
-#[derive(Debug, Drop)]
+#[derive(Drop)]
 pub struct CollectorFigures {
     pub name: Text,
     /// Its number.
@@ -81,7 +81,7 @@ impl CollectorFigures {
 }
 
 /// A collector's share of a job.
-#[derive(Clone, Copy, Debug)]
+#[derive(Clone, Copy)]
 pub struct ShareFigures {
     /// How many live targets it has in the current allocation.
     pub held: u64,

@@ -42,7 +42,7 @@ pub struct ShownJob<'a> {
 }
 
 /// How many targets of a job a collector holds.
-#[derive(Debug, Drop)]
+#[derive(Drop)]
 pub struct JobShare {
     /// The collector's number.
     pub id: u32,
@@ -72,7 +72,7 @@ fn write_page(page: &mut Hypertext, shown: &ShownJob<'_>) -> Result<(), AllocErr
     write_counts(page, shown)?;
     write_collectors(page, shown.shares)?;
     write_sources_of(page, shown.name, shown.sources, shown.urls, shown.standing)?;
-    write_targets(page, shown.targets, Beside::Keeper)?;
+    write_targets(page, shown.targets, Beside::Coverage)?;
     end_page(page)
 }
 

@@ -38,4 +38,4 @@ pub use needs::{Need, count_needs};
 pub use notes::{AllocationNote, ListCounts, LoadNote, MoveNote, SourceNote, untold_moves};
 pub use page::{Shown, status_page};
 pub use standing::Standing;
-pub use targets::{Keeper, MOST_ROWS, Rows, TargetRow};
+pub use targets::{Coverage, MOST_ROWS, Rows, TargetRow};

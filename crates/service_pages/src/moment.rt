@@ -3,7 +3,7 @@ use hypertext::Hypertext;
 use std::alloc::AllocError;
 
 /// Of which moment a page is.
-#[derive(Clone, Copy, Debug)]
+#[derive(Clone, Copy)]
 pub struct Moment {
     /// The number of the current allocation, 0 before the first.
     pub allocation: u32,

@@ -6,7 +6,7 @@ ghost use Rattle.service_pages.specs.Needs.{is_needed, needs};
 use crate::counted::Counted;
 
 /// What may need attention, in the order in which the page tells it.
-#[derive(Clone, Copy, Debug, PartialEq, Eq)]
+#[derive(Clone, Copy, PartialEq, Eq)]
 pub enum Need {
     /// The journal is broken.
     Journal,

@@ -7,7 +7,7 @@ use lists::{List, Plain, Text};
 use std::alloc::{AllocError, Global};
 
 /// What is told of a discovery source.
-#[derive(Debug, Drop)]
+#[derive(Drop)]
 pub struct SourceNote {
     pub job: Text,
     /// The number of the source in its job, from 1.
@@ -25,7 +25,7 @@ pub struct SourceNote {
 }
 
 /// How many targets a source's list has, and how many are left out of it.
-#[derive(Clone, Copy, Debug, PartialEq, Eq)]
+#[derive(Clone, Copy, PartialEq, Eq)]
 pub struct ListCounts {
     pub targets: u64,
     /// How many a rule drops.
@@ -35,7 +35,7 @@ pub struct ListCounts {
 }
 
 /// What is told of a published allocation.
-#[derive(Debug, Drop)]
+#[derive(Drop)]
 pub struct AllocationNote {
     pub number: u32,
     /// When it was published, as a timestamp (RFC 3339).
@@ -55,7 +55,7 @@ pub struct AllocationNote {
 }
 
 /// Targets of a job that moved alike.
-#[derive(Debug, Drop)]
+#[derive(Drop)]
 pub struct MoveNote {
     pub job: Text,
     /// The collector that held them.
@@ -67,7 +67,7 @@ pub struct MoveNote {
 }
 
 /// How many targets a collector is to hold, where loads are made even.
-#[derive(Clone, Copy, Debug)]
+#[derive(Clone, Copy)]
 pub struct LoadNote {
     /// The collector's number.
     pub collector: u32,

@@ -11,14 +11,14 @@ use std::alloc::AllocError;
 pub const MOST_ROWS: usize = 1_000;
 
 /// What is told of a live target.
-#[derive(Debug, Drop)]
+#[derive(Drop)]
 pub struct TargetRow {
     pub number: u32,
     pub address: Text,
     pub job: Text,
     /// Its labels, without those whose names begin with two underscores.
     pub labels: Vec<(Text, Text)>,
-    pub keeper: Keeper,
+    pub coverage: Coverage,
     /// From which allocation on its collector has held it without a break.
     pub since: Option<u32>,
     /// The last round of which a report of it is booked, if one is.
@@ -26,8 +26,8 @@ pub struct TargetRow {
 }
 
 /// Who has a target.
-#[derive(Debug, Drop)]
-pub enum Keeper {
+#[derive(Drop)]
+pub enum Coverage {
     /// The collector of this number and name holds it.
     Holds(u32, Text),
     /// The same, and the collector's list leaves it out, since another list has it.
@@ -48,11 +48,11 @@ pub struct Rows<'a> {
 }
 
 /// What a table of targets tells of each beside its address and labels.
-#[derive(Clone, Copy, Debug, PartialEq, Eq)]
+#[derive(Clone, Copy, PartialEq, Eq)]
 pub(crate) enum Beside {
-    Keeper,
+    Coverage,
     Job,
-    /// Its number, its job and its keeper.
+    /// Its number, its job and who has it.
     All,
 }
 
@@ -78,7 +78,7 @@ pub(crate) fn write_targets(
 ) -> Result<(), AllocError> {
     page.markup(BEGIN)?;
     page.markup(match beside {
-        Beside::Keeper => "Collector",
+        Beside::Coverage => "Collector",
         Beside::Job => "Job",
         Beside::All => "Number</th><th scope=\"col\">Job</th><th scope=\"col\">Collector",
     })?;
@@ -95,7 +95,7 @@ fn write_row(page: &mut Hypertext, row: &TargetRow, beside: Beside) -> Result<()
     page.text(row.address.as_str())?;
     page.markup("</th>")?;
     match beside {
-        Beside::Keeper => write_keeper(page, &row.keeper)?,
+        Beside::Coverage => write_coverage(page, &row.coverage)?,
         Beside::Job => write_job(page, row)?,
         Beside::All => write_all(page, row)?,
     }
@@ -107,8 +107,8 @@ fn write_row(page: &mut Hypertext, row: &TargetRow, beside: Beside) -> Result<()
 
 /// Its job, and whether the list of its collector has it.
 fn write_job(page: &mut Hypertext, row: &TargetRow) -> Result<(), AllocError> {
-    match row.keeper {
-        Keeper::Awaits(_, _) => {
+    match row.coverage {
+        Coverage::Awaits(_, _) => {
             begin_bad_cell(page, "Job")?;
             page.text(row.job.as_str())?;
             page.markup(", once another list lets it go")?;
@@ -124,26 +124,26 @@ fn write_all(page: &mut Hypertext, row: &TargetRow) -> Result<(), AllocError> {
     page.markup("<td class=\"long\" data-h=\"Job\">")?;
     job_link(page, row.job.as_str())?;
     end_cell(page)?;
-    write_keeper(page, &row.keeper)
+    write_coverage(page, &row.coverage)
 }
 
 /// Who holds it, or why nobody does.
-fn write_keeper(page: &mut Hypertext, keeper: &Keeper) -> Result<(), AllocError> {
-    match keeper {
-        Keeper::Holds(id, name) => {
+fn write_coverage(page: &mut Hypertext, coverage: &Coverage) -> Result<(), AllocError> {
+    match coverage {
+        Coverage::Holds(id, name) => {
             begin_cell(page, "Collector")?;
             collector_link(page, *id, name.as_str())?;
         }
-        Keeper::Awaits(id, name) => {
+        Coverage::Awaits(id, name) => {
             begin_bad_cell(page, "Collector")?;
             collector_link(page, *id, name.as_str())?;
             page.markup(", once another list lets it go")?;
         }
-        Keeper::Full => {
+        Coverage::Full => {
             begin_bad_cell(page, "Collector")?;
             page.markup("none: who reaches it is full")?;
         }
-        Keeper::Unreached => {
+        Coverage::Unreached => {
             begin_bad_cell(page, "Collector")?;
             page.markup("none reaches it")?;
         }
@@ -186,7 +186,7 @@ fn write_left_out(page: &mut Hypertext, rows: Rows<'_>, beside: Beside) -> Resul
     page.markup("<p>And ")?;
     page.number(u128::from(left_out))?;
     page.markup(match beside {
-        Beside::Keeper | Beside::Job =>
+        Beside::Coverage | Beside::Job =>
             " more. <code>/targets?search=TEXT</code> finds those that have the text in their address or in the value of a label.</p>\n",
         Beside::All => " more. A longer text finds fewer.</p>\n",
     })

@@ -7,7 +7,7 @@ ghost use Rattle.service_settings.specs.Addresses.{has_leading_zero as has_leadi
 use crate::digits::{begins_with_digit, number_of, past_digits};
 
 /// An address of IPv4 with a port.
-#[derive(Clone, Copy, Debug, PartialEq, Eq)]
+#[derive(Clone, Copy, PartialEq, Eq)]
 pub struct Address {
     pub octets: [u8; 4],
     pub port: u16,

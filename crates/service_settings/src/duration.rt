@@ -9,7 +9,7 @@ use crate::digits::{begins_with_digit, number_of, past_digits, past_word, up_to,
 pub const LONGEST_DURATION: u64 = 9_223_372_036_854;
 
 /// A unit of time. A day has 24 hours, a week 7 days and a year 365.
-#[derive(Clone, Copy, Debug, PartialEq, Eq)]
+#[derive(Clone, Copy, PartialEq, Eq)]
 enum Unit {
     Year,
     Week,

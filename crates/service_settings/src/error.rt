@@ -6,7 +6,7 @@ use lists::Text;
 use std::alloc::{AllocError, Global};
 
 /// Why settings were not read.
-#[derive(Debug, Drop)]
+#[derive(Drop)]
 pub enum SettingsError {
     NotJson,
     /// The member is not what it has to be.

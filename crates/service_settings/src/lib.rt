@@ -14,10 +14,10 @@ mod settings;
 pub use address::{Address, address_of};
 pub use duration::{LONGEST_DURATION, duration_of};
 pub use error::{Member, SettingsError};
-pub use reading::{LEAST_CONNECTIONS, MOST_CONNECTIONS, MOST_REPORT_ROUNDS};
+pub use reading::{LEAST_CONNECTIONS, MOST_CONNECTIONS, MOST_REPORT_ROUNDS, member_of};
 pub use settings::{
     Collector, CollectorTimeout, DEFAULT_CONNECTIONS, DEFAULT_FETCH_TIMEOUT, DEFAULT_GIVE_UP,
     DEFAULT_INTERVAL, DEFAULT_KEEP, DEFAULT_LISTEN, DEFAULT_REPORT_ROUNDS, DEFAULT_SETTLE,
     DEFAULT_SLACK, Doors, Handover, JobSpread, JoiningPattern, LONGEST_PATTERN, Lifecycle,
-    MOST_SLACK, ReachChanges, ReleaseAfter, Settings, Spread, read_settings,
+    MOST_SLACK, ReachChanges, ReleaseAfter, Settings, Spread, is_host_and_port, read_settings,
 };

@@ -28,8 +28,8 @@ pub(crate) fn json_in(alloc: Global, bytes: &[u8]) -> Result<Value, SettingsErro
     parse(alloc, bytes)?.ok_or(SettingsError::NotJson)
 }
 
-/// The member of a name.
-pub(crate) fn member_of<'a>(found: Option<&'a Value>, name: &str) -> Option<&'a Value>
+/// The member of a name, where what it is a member of is there.
+pub fn member_of<'a>(found: Option<&'a Value>, name: &str) -> Option<&'a Value>
     ensures { option_map (λ v. view v.now) result ≡ member_at name.now (option_map (λ v. view v.now) found.entry) }
 {
     found?.get(name)

@@ -23,6 +23,7 @@ mod spread;
 use crate::address::Address;
 use crate::error::{Member, SettingsError};
 use crate::reading::json_in;
+pub use acknowledge::is_host_and_port;
 use allocator::{Collecting, Housekeeping, collecting_in, housekeeping_in};
 pub use collector_timeout::CollectorTimeout;
 pub use collectors::Collector;

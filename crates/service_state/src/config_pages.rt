@@ -12,7 +12,7 @@ use sd_routes::jobs_page;
 use std::alloc::{AllocError, Global};
 
 /// The pages of a configuration, and the names of its jobs in order.
-#[derive(Debug, Drop)]
+#[derive(Drop)]
 pub struct ConfigPages {
     /// The JSON of `/scrape_configs`: each scrape config as its collectors are to use it.
     pub scrape_configs: Text,

@@ -1,8 +1,8 @@
 //! What a service counts: requests by route and status, and how long they took, events by kind and answer.
-use crate::kinds::{DONE_COUNT, DoneKind, EventKind, KIND_COUNT, REFUSAL_COUNT, RefusalKind};
-use crate::routes::{ROUTE_COUNT, Route};
+use crate::kinds::{DONE_COUNT, DoneKind, EventKind, KIND_COUNT};
 use exposition::Durations;
-use fleet_events::Answer;
+use fleet_events::{Answer, REFUSAL_COUNT, RefusalKind};
+use sd_routes::{ROUTE_COUNT, Route};
 
 /// How many status codes are told apart.
 const STATUS_COUNT: usize = 16;
@@ -13,7 +13,7 @@ pub(crate) const STATUSES: [u16; STATUS_COUNT] = [
 ];
 
 /// What is counted of the requests of a route.
-#[derive(Clone, Copy, Debug)]
+#[derive(Clone, Copy)]
 pub(crate) struct RequestCounts {
     /// At the places of their statuses.
     statuses: [u64; STATUS_COUNT],
@@ -21,7 +21,7 @@ pub(crate) struct RequestCounts {
 }
 
 /// What is counted of the events of a kind.
-#[derive(Clone, Copy, Debug)]
+#[derive(Clone, Copy)]
 pub(crate) struct EventCounts {
     /// Of those that were done, by what they were answered.
     done: [u64; DONE_COUNT],
@@ -30,7 +30,7 @@ pub(crate) struct EventCounts {
 }
 
 /// Counts since the service began.
-#[derive(Clone, Copy, Debug)]
+#[derive(Clone, Copy)]
 pub(crate) struct Counts {
     /// Of requests that were answered, by their routes.
     requests: [RequestCounts; ROUTE_COUNT],

@@ -10,7 +10,7 @@ pub(crate) const MOST_WAITING: usize = 4_096;
 pub(crate) const MOST_GIVEN: usize = 8;
 
 /// A list of a collector: the allocation that it is of, in which epoch, and the place of its job.
-#[derive(Clone, Copy, Debug, PartialEq, Eq)]
+#[derive(Clone, Copy, PartialEq, Eq)]
 pub struct FollowedList {
     pub epoch: u64,
     pub allocation: AllocationNumber,
@@ -19,14 +19,14 @@ pub struct FollowedList {
 }
 
 /// The lists that are waited for.
-#[derive(Debug, Drop)]
+#[derive(Drop)]
 pub(crate) struct Followed {
     alloc: Global,
     waiting: Vec<Waiting>,
 }
 
 /// The lists of a collector and a job that may be acknowledged.
-#[derive(Debug, Drop)]
+#[derive(Drop)]
 struct Waiting {
     collector: CollectorId,
     place: usize,
@@ -37,7 +37,7 @@ struct Waiting {
 }
 
 /// Lists that are of the allocation of this number, or of later ones up to the next such lists, and have none of these targets.
-#[derive(Debug, Drop)]
+#[derive(Drop)]
 struct Given {
     allocation: AllocationNumber,
     without: Vec<TargetId>,

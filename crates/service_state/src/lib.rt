@@ -2,18 +2,15 @@
 //! for people shows, the pages of its configuration, how a request has it read its configuration again, and what was
 //! asked of its fleet.
 //!
-//! Contracts say what the pages of a configuration are, of which rounds is told what was booked, and which reports are counted. They say nothing of
-//! figures: these are what the threads of a service wrote, and what a desk showed.
+//! Contracts say what the pages of a configuration are. They say nothing of figures: these are what the threads of a service wrote, and what a
+//! desk showed.
 #![tactic(auto)]
 
-mod booked;
 mod changes;
 mod config_pages;
 mod counts;
 mod elapsed;
-mod figures;
 mod followed;
-mod handing_over;
 mod kinds;
 mod metrics;
 mod names;
@@ -22,24 +19,19 @@ mod open_round;
 mod process_figures;
 mod reloading;
 mod round_books;
-mod routes;
 mod service_state;
 mod takers;
 
-pub use booked::books_asked;
 pub use changes::{ChangeNote, Changes};
 pub use config_pages::ConfigPages;
-pub use figures::figures_of;
 pub use followed::FollowedList;
-pub use handing_over::{HandingOver, targets_handing_over};
 pub use kinds::EventKind;
 pub use metrics::metrics_page;
 pub use notes::Notes;
 pub use open_round::{RoundStart, RoundTimes};
 pub use process_figures::ProcessFigures;
 pub use reloading::{Reloading, unanswered};
-pub use round_books::{JobSums, RoundBooks, books_of_round};
-pub use routes::Route;
+pub use round_books::{JobSums, RoundBooks};
 pub use service_pages::{
     AllocationNote, Figures, ListCounts, LoadNote, MoveNote, SourceNote, untold_moves,
 };

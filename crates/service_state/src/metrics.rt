@@ -1,14 +1,14 @@
 //! The metrics of a service.
 use crate::counts::{Counts, EventCounts, RequestCounts, STATUSES};
-use crate::kinds::{DONE, KINDS, REFUSALS};
+use crate::kinds::{DONE, KINDS};
 use crate::notes::Notes;
 use crate::process_figures::ProcessFigures;
 use crate::round_books::RoundBooks;
-use crate::routes::ROUTES;
 use crate::service_state::ServiceState;
 use exposition::{Exposition, Kind};
-use fleet_events::CollectorId;
+use fleet_events::{CollectorId, REFUSALS};
 use lists::Text;
+use sd_routes::ROUTES;
 use service_pages::{CollectorFigures, Figures, JobFigures, ListCounts, LoadNote, SourceNote};
 use std::alloc::{AllocError, Global};
 
@@ -341,6 +341,9 @@ fn write_process(page: &mut Exposition, state: &ServiceState) -> Result<(), Allo
     let name = "allocd_build_info";
     page.family(name, Kind::Gauge, "The version of the program.")?;
     page.labelled_sample(name, "version", state.version(), 1)?;
+    if state.is_leading() {
+        write_gauge(page, "allocd_leading", "Whether this instance leads.", 1)?;
+    }
     write_gauge(
         page,
         "process_start_time_seconds",

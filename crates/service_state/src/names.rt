@@ -11,7 +11,7 @@ pub(crate) const MOST_NAMES: usize = 4_096;
 pub(crate) const MOST_ABSENT: usize = 64;
 
 /// The names under which lists were asked for.
-#[derive(Debug, Drop)]
+#[derive(Drop)]
 pub(crate) struct Names {
     alloc: Global,
     /// Those of collectors that are live or were.
@@ -21,7 +21,7 @@ pub(crate) struct Names {
 }
 
 /// A name, and under which numbers it was live.
-#[derive(Debug, Drop)]
+#[derive(Drop)]
 struct LiveName {
     name: Text,
     /// The last number.

@@ -12,7 +12,7 @@ use std::alloc::{AllocError, Global};
 pub(crate) const MOST_ALLOCATIONS: usize = 10;
 
 /// What a service notes while it runs.
-#[derive(Debug, Drop)]
+#[derive(Drop)]
 pub struct Notes {
     pub(crate) counts: Counts,
     pub sources: Vec<SourceNote>,

@@ -2,7 +2,7 @@
 use std::time::{Clock, Duration, Instant};
 
 /// When a round was opened, said by a later moment: how long it was open then. A monotonic clock that began later tells that too.
-#[derive(Clone, Copy, Debug)]
+#[derive(Clone, Copy)]
 pub struct RoundStart {
     at: Instant,
     /// For how long it was open by then.
@@ -23,14 +23,14 @@ impl RoundStart {
 }
 
 /// How long the open round is open, and how long it is to be, in milliseconds.
-#[derive(Clone, Copy, Debug, PartialEq, Eq)]
+#[derive(Clone, Copy, PartialEq, Eq)]
 pub struct RoundTimes {
     pub age: u64,
     pub length: u64,
 }
 
 /// The open round, as requests are told of it.
-#[derive(Debug, Drop)]
+#[derive(Drop)]
 pub(crate) struct OpenRound {
     /// When it was opened, where that is known.
     start: Option<RoundStart>,

@@ -1,7 +1,7 @@
 //! What the machine says of the process.
 
 /// What the machine says of this process. None where it does not say it.
-#[derive(Clone, Copy, Debug, PartialEq, Eq)]
+#[derive(Clone, Copy, PartialEq, Eq)]
 pub struct ProcessFigures {
     /// How many bytes of memory it has.
     pub resident_bytes: Option<u64>,

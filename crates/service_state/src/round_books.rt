@@ -1,13 +1,10 @@
 //! What was booked in a round that is over, job by job, as it is noted for the figures.
-use crate::booked::job_books;
-use allocation_core::Core;
-use fleet_events::Round;
 use lists::{Plain, Text};
 use sd_routes::{BookCounts, JobBooks};
 use std::alloc::{AllocError, Global};
 
 /// A job, and what was booked of it in a round.
-#[derive(Debug, Drop)]
+#[derive(Drop)]
 pub struct JobSums {
     pub name: Text,
     pub counts: BookCounts,
@@ -21,7 +18,7 @@ const NOTHING: BookCounts = BookCounts {
 };
 
 /// What was booked in a round, of each job in the order of the configuration. Nothing where none is over.
-#[derive(Debug, Drop)]
+#[derive(Drop)]
 pub struct RoundBooks {
     pub jobs: Vec<JobSums>,
 }
@@ -31,6 +28,18 @@ impl RoundBooks {
     pub(crate) fn none(alloc: Global) -> RoundBooks {
         RoundBooks {
             jobs: Vec::new(alloc),
+        }
+    }
+
+    /// Those of these jobs, in their order.
+    pub fn of_jobs(alloc: Global, booked: &[JobBooks]) -> Result<RoundBooks, AllocError> {
+        let mut jobs = Vec::with_capacity(alloc, booked.len())?;
+        match push_sums(&mut jobs, booked) {
+            Ok(()) => Ok(RoundBooks { jobs }),
+            Err(refused) => {
+                drop(jobs);
+                Err(refused)
+            }
         }
     }
 
@@ -58,25 +67,6 @@ impl RoundBooks {
             }
         }
         NOTHING
-    }
-}
-
-/// What is booked of a round that is over, where the next one is open since a moment ago.
-pub fn books_of_round(alloc: Global, core: &Core, round: Round) -> Result<RoundBooks, AllocError> {
-    let booked = job_books(alloc, core, round)?;
-    let sums = sums_of(alloc, booked.as_slice());
-    drop(booked);
-    sums
-}
-
-fn sums_of(alloc: Global, booked: &[JobBooks]) -> Result<RoundBooks, AllocError> {
-    let mut jobs = Vec::with_capacity(alloc, booked.len())?;
-    match push_sums(&mut jobs, booked) {
-        Ok(()) => Ok(RoundBooks { jobs }),
-        Err(refused) => {
-            drop(jobs);
-            Err(refused)
-        }
     }
 }
 

@@ -9,10 +9,10 @@ use crate::open_round::{OpenRound, RoundStart, RoundTimes};
 use crate::process_figures::ProcessFigures;
 use crate::reloading::Reloading;
 use crate::round_books::RoundBooks;
-use crate::routes::Route;
 use crate::takers::Takers;
 use fleet_events::{Answer, CollectorId, TargetId};
 use lists::Text;
+use sd_routes::Route;
 use service_pages::{AllocationNote, LoadNote, SourceNote, Standing};
 use service_settings::Lifecycle;
 use std::alloc::{AllocError, Global};
@@ -28,6 +28,8 @@ pub struct ServiceState {
     lifecycle: Lifecycle,
     /// The program's version. Empty where nobody told it.
     version: &'static str,
+    /// Whether it is that of an instance that leads others.
+    is_leading: bool,
     /// When it began, in seconds since 1970. 0 where nobody knows.
     started: u64,
     is_quitting: AtomicBool,
@@ -79,6 +81,7 @@ impl ServiceState {
         ServiceState {
             lifecycle,
             version: "",
+            is_leading: false,
             started: 0,
             is_quitting: AtomicBool::new(false),
             reloading: Reloading::new(alloc),
@@ -381,6 +384,15 @@ impl ServiceState {
 
     pub(crate) fn version(&self) -> &'static str {
         self.version
+    }
+
+    /// It is that of an instance that leads others.
+    pub fn set_leading(&mut self) {
+        self.is_leading = true;
+    }
+
+    pub(crate) fn is_leading(&self) -> bool {
+        self.is_leading
     }
 
     pub(crate) fn started(&self) -> u64 {

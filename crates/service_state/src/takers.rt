@@ -4,7 +4,7 @@ use std::alloc::{AllocError, Global};
 use std::mem;
 
 /// The live collectors that asked for a list, each once, since they were looked at.
-#[derive(Debug, Drop)]
+#[derive(Drop)]
 pub(crate) struct Takers {
     alloc: Global,
     takers: Vec<CollectorId>,

@@ -1,9 +1,9 @@
 //! Collectors that ask for nothing for long: their lists are let go, they are drained, and then they leave.
+use crate::last_seen::LastSeen;
 use crate::logging::{log_of_number, log_warning};
 use crate::patience::Patience;
 use crate::scheduling::Schedule;
 use crate::shared::Shared;
-use crate::sighting::Sighting;
 use alloc_desk::Pass;
 use allocation_core::Core;
 use fleet_events::{Answer, CollectorId, Event};
@@ -22,9 +22,9 @@ const MOST_LEFT: usize = 4_096;
 #[derive(Drop)]
 pub(crate) struct Attendance {
     /// Of the live ones, in order of their ids.
-    live: Vec<Sighting>,
+    live: Vec<LastSeen>,
     /// Of those that left: their lists may still have targets, and they may come back under another number.
-    left: Vec<Sighting>,
+    left: Vec<LastSeen>,
     /// Those that are drained since they were absent.
     drained: Vec<CollectorId>,
     /// Whether those were looked for that left before anybody looked.
@@ -33,9 +33,9 @@ pub(crate) struct Attendance {
 
 /// What a desk says of its collectors.
 #[derive(Drop)]
-struct Roll {
+struct Present {
     /// In order of their ids.
-    live: Vec<Member>,
+    live: Vec<LiveCollector>,
     /// Those that left before anybody looked, and whose lists still have targets.
     left: Vec<CollectorId>,
     /// The live ones that were not seen yet, with their names.
@@ -44,7 +44,7 @@ struct Roll {
 
 /// A live collector.
 #[derive(Clone, Copy, Drop)]
-struct Member {
+struct LiveCollector {
     collector: CollectorId,
     draining: bool,
 }
@@ -65,14 +65,14 @@ impl Attendance {
     fn note(
         &mut self,
         alloc: Global,
-        roll: &Roll,
+        present: &Present,
         heirs: &[(CollectorId, CollectorId)],
         takers: &[CollectorId],
         now: Instant,
     ) -> Result<(), AllocError> {
         self.see_all(takers, now);
-        let live = self.live_now(alloc, roll, heirs, now)?;
-        self.note_left(roll, now);
+        let live = self.live_now(alloc, present, heirs, now)?;
+        self.note_left(present, now);
         self.live = live;
         self.is_begun = true;
         self.see_all(takers, now);
@@ -82,53 +82,53 @@ impl Attendance {
     fn live_now(
         &self,
         alloc: Global,
-        roll: &Roll,
+        present: &Present,
         heirs: &[(CollectorId, CollectorId)],
         now: Instant,
-    ) -> Result<Vec<Sighting>, AllocError> {
-        let mut live = Vec::with_capacity(alloc, roll.live.len())?;
-        for member in roll.live.iter() {
+    ) -> Result<Vec<LastSeen>, AllocError> {
+        let mut live = Vec::with_capacity(alloc, present.live.len())?;
+        for member in present.live.iter() {
             live.push(self.sighting_now(member.collector, heirs, now))?;
         }
         Ok(live)
     }
 
-    /// A live collector's sighting, which may be its first one.
+    /// When a live collector was last seen, which may be for the first time.
     fn sighting_now(
         &self,
         collector: CollectorId,
         heirs: &[(CollectorId, CollectorId)],
         now: Instant,
-    ) -> Sighting {
-        if let Some(seen) = self.sighting(collector) {
+    ) -> LastSeen {
+        if let Some(seen) = self.last_seen(collector) {
             return seen;
         }
         match self.sighting_before(collector, heirs) {
             Some(seen) => seen.of_heir(collector, now),
-            None => Sighting::first(collector, now),
+            None => LastSeen::first(collector, now),
         }
     }
 
-    /// The sighting of the number that a collector had before.
+    /// When the number was last seen that a collector had before.
     fn sighting_before(
         &self,
         collector: CollectorId,
         heirs: &[(CollectorId, CollectorId)],
-    ) -> Option<Sighting> {
+    ) -> Option<LastSeen> {
         let (_, before) = heirs.iter().find(|(heir, _)| *heir == collector)?;
         let mut seen = self.live.iter().chain(self.left.iter());
-        Some(*seen.find(|sighting| sighting.collector == *before)?)
+        Some(*seen.find(|last_seen| last_seen.collector == *before)?)
     }
 
     /// Waits for those that are live no more.
-    fn note_left(&mut self, roll: &Roll, now: Instant) {
-        for sighting in self.live.iter() {
-            if !is_member(roll.live.as_slice(), sighting.collector) {
-                let _ = self.left.push(*sighting);
+    fn note_left(&mut self, present: &Present, now: Instant) {
+        for last_seen in self.live.iter() {
+            if !is_member(present.live.as_slice(), last_seen.collector) {
+                let _ = self.left.push(*last_seen);
             }
         }
-        for collector in roll.left.iter() {
-            let _ = self.left.push(Sighting::first(*collector, now));
+        for collector in present.left.iter() {
+            let _ = self.left.push(LastSeen::first(*collector, now));
         }
         for _ in 0..self.left.len().saturating_sub(MOST_LEFT) {
             self.forget_first();
@@ -151,14 +151,14 @@ impl Attendance {
     fn see(&mut self, collector: CollectorId, now: Instant) {
         match self.place_of(collector) {
             Some(place) => {
-                if let Some(sighting) = self.live.get_mut(place) {
-                    sighting.see(now);
+                if let Some(last_seen) = self.live.get_mut(place) {
+                    last_seen.see(now);
                 }
             }
             None => {
-                for sighting in &mut self.left {
-                    if sighting.collector == collector {
-                        sighting.see(now);
+                for last_seen in &mut self.left {
+                    if last_seen.collector == collector {
+                        last_seen.see(now);
                     }
                 }
             }
@@ -178,41 +178,41 @@ impl Attendance {
         self.drained.len() < before
     }
 
-    fn sighting(&self, collector: CollectorId) -> Option<Sighting> {
+    fn last_seen(&self, collector: CollectorId) -> Option<LastSeen> {
         let place = self.place_of(collector)?;
         Some(*self.live.get(place)?)
     }
 
     fn place_of(&self, collector: CollectorId) -> Option<usize> {
         self.live
-            .binary_search_by_key(&collector, |sighting| sighting.collector)
+            .binary_search_by_key(&collector, |last_seen| last_seen.collector)
             .ok()
     }
 }
 
-fn is_member(members: &[Member], collector: CollectorId) -> bool {
+fn is_member(members: &[LiveCollector], collector: CollectorId) -> bool {
     members
         .binary_search_by_key(&collector, |member| member.collector)
         .is_ok()
 }
 
 /// What a desk says of its collectors. Those that left are looked for once.
-fn roll_of(alloc: Global, core: &Core, attendance: &Attendance) -> Result<Roll, AllocError> {
+fn roll_of(alloc: Global, core: &Core, attendance: &Attendance) -> Result<Present, AllocError> {
     let live = live_of(alloc, core)?;
     let left = left_of(alloc, core, attendance)?;
     let newcomers = newcomers_of(alloc, core, attendance)?;
-    Ok(Roll {
+    Ok(Present {
         live,
         left,
         newcomers,
     })
 }
 
-fn live_of(alloc: Global, core: &Core) -> Result<Vec<Member>, AllocError> {
+fn live_of(alloc: Global, core: &Core) -> Result<Vec<LiveCollector>, AllocError> {
     let collectors = core.fleet().collectors();
     let mut live = Vec::with_capacity(alloc, collectors.len())?;
     for collector in collectors {
-        live.push(Member {
+        live.push(LiveCollector {
             collector: collector.id,
             draining: collector.draining,
         })?;
@@ -241,7 +241,7 @@ fn newcomers_of(
 ) -> Result<Vec<(CollectorId, Text)>, AllocError> {
     let mut newcomers = Vec::new(alloc);
     for collector in core.fleet().collectors() {
-        if attendance.sighting(collector.id).is_none() {
+        if attendance.last_seen(collector.id).is_none() {
             let name = Text::from_str(alloc, collector.name.as_str())?;
             newcomers.push((collector.id, name))?;
         }
@@ -260,7 +260,7 @@ fn add_left(left: &mut Vec<CollectorId>, core: &Core) -> Result<(), AllocError> 
 }
 
 /// What is entered of a collector that asked for nothing for so long.
-fn due(member: Member, absent: Duration, limit: Duration) -> Option<Event> {
+fn due(member: LiveCollector, absent: Duration, limit: Duration) -> Option<Event> {
     if absent >= limit.saturating_mul(2) {
         return Some(Event::Leave(member.collector));
     }
@@ -271,9 +271,9 @@ fn due(member: Member, absent: Duration, limit: Duration) -> Option<Event> {
 }
 
 /// Whether the lists of a collector are to be let go.
-fn is_to_let_go(patience: Patience, sighting: &Sighting, now: Instant) -> bool {
-    match patience.release(sighting.gap) {
-        Some(limit) => !sighting.is_let_go && sighting.absence(now) >= limit,
+fn is_to_let_go(patience: Patience, last_seen: &LastSeen, now: Instant) -> bool {
+    match patience.release(last_seen.gap) {
+        Some(limit) => !last_seen.is_let_go && last_seen.absence(now) >= limit,
         None => false,
     }
 }
@@ -301,28 +301,34 @@ impl<R: Wait + Clock + Eprint + Copy, L: Ledger, B: Ledger, N: JournalName> Shar
     ) -> Result<(), AllocError> {
         let alloc = self.alloc;
         let seen = &*attendance;
-        let roll = self.desk.read(&self.rt, pass, |record| roll_of(alloc, record.core(), seen))?;
-        let noted = self.note_roll(attendance, &roll, now);
+        let present = self.desk.read(&self.rt, pass, |record| roll_of(alloc, record.core(), seen))?;
+        let noted = self.note_roll(attendance, &present, now);
         if noted.is_ok() {
             self.let_go_of_absent(pass, attendance, now);
             self.tell_short_timeouts(attendance);
-            for member in roll.live.iter() {
+            for member in present.live.iter() {
                 self.follow_member(pass, attendance, *member, now);
             }
         }
-        drop(roll);
+        drop(present);
         noted
     }
 
     fn note_roll(
         &self,
         attendance: &mut Attendance,
-        roll: &Roll,
+        present: &Present,
         now: Instant,
     ) -> Result<(), AllocError> {
-        let heirs = self.heirs_of(roll.newcomers.as_slice())?;
+        let heirs = self.heirs_of(present.newcomers.as_slice())?;
         let takers = self.state.take_takers(&self.rt);
-        attendance.note(self.alloc, roll, heirs.as_slice(), takers.as_slice(), now)
+        attendance.note(
+            self.alloc,
+            present,
+            heirs.as_slice(),
+            takers.as_slice(),
+            now,
+        )
     }
 
     fn let_go_of_absent(
@@ -331,14 +337,14 @@ impl<R: Wait + Clock + Eprint + Copy, L: Ledger, B: Ledger, N: JournalName> Shar
         attendance: &mut Attendance,
         now: Instant,
     ) {
-        for sighting in &mut attendance.live {
-            if is_to_let_go(self.patience, sighting, now) {
-                self.let_go(pass, sighting);
+        for last_seen in &mut attendance.live {
+            if is_to_let_go(self.patience, last_seen, now) {
+                self.let_go(pass, last_seen);
             }
         }
-        for sighting in &mut attendance.left {
-            if is_to_let_go(self.patience, sighting, now) {
-                self.let_go(pass, sighting);
+        for last_seen in &mut attendance.left {
+            if is_to_let_go(self.patience, last_seen, now) {
+                self.let_go(pass, last_seen);
             }
         }
     }
@@ -359,9 +365,9 @@ impl<R: Wait + Clock + Eprint + Copy, L: Ledger, B: Ledger, N: JournalName> Shar
     }
 
     /// Lets the lists of an absent collector go, where they have targets.
-    fn let_go(&self, pass: &mut Pass<L, B, N>, sighting: &mut Sighting) {
-        let collector = sighting.collector;
-        sighting.is_let_go = true;
+    fn let_go(&self, pass: &mut Pass<L, B, N>, last_seen: &mut LastSeen) {
+        let collector = last_seen.collector;
+        last_seen.is_let_go = true;
         let has_targets = self.desk.read(
             &self.rt,
             pass,
@@ -384,12 +390,12 @@ impl<R: Wait + Clock + Eprint + Copy, L: Ledger, B: Ledger, N: JournalName> Shar
 
     /// Warns of collectors whose timeout is shorter than two of their gaps between lists, once of each.
     fn tell_short_timeouts(&self, attendance: &mut Attendance) {
-        for sighting in &mut attendance.live {
-            if !sighting.is_told && self.patience.is_short(sighting.gap) {
-                sighting.is_told = true;
+        for last_seen in &mut attendance.live {
+            if !last_seen.is_told && self.patience.is_short(last_seen.gap) {
+                last_seen.is_told = true;
                 let line =
                     "collector_timeout is shorter than two refreshes of a collector: one that comes late is drained";
-                log_of_number(&self.rt, Level::Warn, sighting.collector, line);
+                log_of_number(&self.rt, Level::Warn, last_seen.collector, line);
             }
         }
     }
@@ -399,16 +405,16 @@ impl<R: Wait + Clock + Eprint + Copy, L: Ledger, B: Ledger, N: JournalName> Shar
         &self,
         pass: &mut Pass<L, B, N>,
         attendance: &mut Attendance,
-        member: Member,
+        member: LiveCollector,
         now: Instant,
     ) {
-        let Some(sighting) = attendance.sighting(member.collector) else {
+        let Some(last_seen) = attendance.last_seen(member.collector) else {
             return;
         };
-        let Some(limit) = self.patience.timeout(sighting.gap) else {
+        let Some(limit) = self.patience.timeout(last_seen.gap) else {
             return;
         };
-        let absent = sighting.absence(now);
+        let absent = last_seen.absence(now);
         match due(member, absent, limit) {
             Some(event) => self.enter_dismissal(pass, attendance, member.collector, event),
             None if absent < limit && attendance.forget_drained(member.collector) => {

@@ -1,6 +1,6 @@
 //! What a service enters before it serves.
-use crate::office::Office;
 use crate::service::Service;
+use crate::service_context::ServiceContext;
 use crate::shared::Shared;
 use crate::told_source::ToldSource;
 use alloc_desk::Pass;
@@ -25,9 +25,9 @@ impl<R: Wait + Clock + Eprint + Copy, L: Ledger, B: Ledger, N: JournalName> Shar
         &self,
         pass: &mut Pass<L, B, N>,
         service: &Service,
-        office: &mut Office<S, F, C>,
+        context: &mut ServiceContext<S, F, C>,
     ) -> Result<(), AllocError> {
-        self.note_round(&office.schedule);
+        self.note_round(&context.schedule);
         let was_ordered = self.state.is_ordered();
         let is_ordered = service.settings.handover == Handover::Ordered;
         self.state.set_ordered(is_ordered);
@@ -35,17 +35,17 @@ impl<R: Wait + Clock + Eprint + Copy, L: Ledger, B: Ledger, N: JournalName> Shar
             self.state.break_down();
             return Ok(());
         }
-        if !is_ordered && (was_ordered || office.is_new) {
+        if !is_ordered && (was_ordered || context.is_new) {
             self.let_all_go(pass)?;
         }
-        if office.is_new {
+        if context.is_new {
             self.state.forget_sources(&self.rt);
             self.note_sources(service)?;
             self.enter_static_groups(pass, service.jobs())?;
-            let schedule = &mut office.schedule;
+            let schedule = &mut context.schedule;
             self.follow_collectors(pass, &service.settings, &mut schedule.roster)?;
             schedule.jobs = Arc::try_clone(&service.job_texts)?;
-            office.is_new = false;
+            context.is_new = false;
         }
         Ok(())
     }

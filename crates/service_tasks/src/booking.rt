@@ -2,9 +2,12 @@
 use crate::logging::log_warning;
 use crate::shared::Shared;
 use alloc_desk::Pass;
+use allocation_core::Core;
 use fleet_events::Round;
 use kept_journal::JournalName;
-use service_state::books_of_round;
+use page_rows::job_books;
+use service_state::RoundBooks;
+use std::alloc::{AllocError, Global};
 use std::sync::Wait;
 use std::sync::ledger::Ledger;
 use std::time::Clock;
@@ -20,4 +23,12 @@ impl<R: Wait + Clock + Eprint + Copy, L: Ledger, B: Ledger, N: JournalName> Shar
             Err(_) => log_warning(&self.rt, "no memory to note what was booked"),
         }
     }
+}
+
+/// What is booked of a round that is over, where the next one is open since a moment ago.
+fn books_of_round(alloc: Global, core: &Core, round: Round) -> Result<RoundBooks, AllocError> {
+    let booked = job_books(alloc, core, round)?;
+    let books = RoundBooks::of_jobs(alloc, booked.as_slice());
+    drop(booked);
+    books
 }

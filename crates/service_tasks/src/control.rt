@@ -3,7 +3,7 @@ use std::sync::{Condvar, Mutex, Wait};
 use std::time::{Clock, Duration};
 
 /// Why a desk is to be closed.
-#[derive(Clone, Copy, Debug, PartialEq, Eq)]
+#[derive(Clone, Copy, PartialEq, Eq)]
 pub enum Ending {
     /// Its journal or its list of targets is nearly full: another desk is opened over its allocator, which is renewed.
     Full,

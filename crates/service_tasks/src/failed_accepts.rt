@@ -12,7 +12,7 @@ use std::time::{Clock, Duration, Instant};
 const SILENCE: u64 = 10_000;
 
 /// What the log told of connections that could not be taken.
-#[derive(Clone, Copy, Debug)]
+#[derive(Clone, Copy)]
 pub(crate) struct FailedAccepts {
     /// Of how many.
     told: u64,

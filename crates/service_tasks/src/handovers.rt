@@ -5,7 +5,7 @@ use crate::shared::Shared;
 use alloc_desk::{Pass, Record};
 use fleet_events::TargetId;
 use kept_journal::JournalName;
-use service_state::{HandingOver, targets_handing_over};
+use page_rows::{HandingOver, targets_handing_over};
 use std::alloc::{AllocError, Global};
 use std::sync::Wait;
 use std::sync::ledger::Ledger;

@@ -1,5 +1,5 @@
 //! The journal of a service, and the epoch that it is of.
-ghost use Rattle.std.specs.Prelude.{◌≡◌, None, IfOk};
+ghost use Rattle.std.specs.Prelude.{◌≡◌, None, IfOk, IsSome};
 ghost use Rattle.kept_journal.specs.Keeping.{IsOfService, MeansKeptWhere};
 
 use alloc_desk::{Closed, Front};
@@ -25,7 +25,8 @@ impl<F: Device + Drop> Journal<F> {
     pub fn of_desk<N: JournalName>(&mut self, front: Front<N>) -> Option<DeskJournal<F, N>>
         requires file { IsOfService F.tells F.contents N.opening self.old.file }
         requires means { MeansKeptWhere F.tells F.kept N.opening self.old.file N.keeps }
-        ensures { self.new.file ≡ None }
+        ensures taken { self.new.file ≡ None }
+        ensures stays { IsSome self.old.file → IsSome result }
     {
         match self.file.take() {
             Some(file) => Some(DeskJournal::new(file, front)),
@@ -42,7 +43,8 @@ impl<F: Device + Drop> Journal<F> {
         journal: Option<DeskJournal<F, N>>,
         closed: &Closed<N>,
     )
-        ensures { IsOfService F.tells F.contents closed.now.state self.new.file }
+        ensures file { IsOfService F.tells F.contents closed.now.state self.new.file }
+        ensures stays { IsSome journal → IsSome self.new.file }
     {
         let file = match journal {
             Some(journal) => Some(journal.end(closed)),

@@ -39,7 +39,8 @@ impl<R: Wait + Clock + Eprint + Copy, L: Ledger, B: Ledger, N: JournalName> Shar
         }
     }
 
-    /// Writes what is new in the journal, until all others have ended or the device fails. What finds no memory is tried again.
+    /// Writes what is new in the journal, until all others have ended or the device fails. What finds no memory is tried again. A device in which nothing would be
+    /// found is noticed though nothing is new: what is told would be of a journal that nobody goes on with.
     fn keep_journal<F: Device>(
         &self,
         pass: &mut Pass<L, B, N>,
@@ -54,6 +55,9 @@ impl<R: Wait + Clock + Eprint + Copy, L: Ledger, B: Ledger, N: JournalName> Shar
                 Ok(Turn::Wrote(0)) if is_last => return,
                 Ok(Turn::Wrote(0)) => {
                     is_begun = true;
+                    if let Err(error) = journal.check() {
+                        return self.give_up(journal, kept, error);
+                    }
                     kept.wait_for_wish(&self.rt, Duration::from_millis(LOOK));
                 }
                 Ok(Turn::Wrote(_)) => is_begun = true,

@@ -1,4 +1,4 @@
-//! What a service does beside its server: it refreshes its sources, opens rounds, reallocates, dismisses collectors that are absent, and
+//! What a service does beside its server: it refreshes its sources, opens rounds, reallocates, has collectors leave that are absent, and
 //! keeps its journal, on threads that share a desk; and what it goes on with from one desk to the next.
 //!
 //! Contracts say that the allocator to go on with is one that events and renewals of the machine lead to; of time and order they say nothing.
@@ -11,7 +11,7 @@ mod booking;
 mod changing;
 mod configuration;
 mod control;
-mod crew;
+mod desk_passes;
 mod differences;
 mod entering;
 mod evenings;
@@ -21,10 +21,10 @@ mod handovers;
 mod journal;
 mod journal_device;
 mod keeping;
+mod last_seen;
 mod letting_go;
 mod logging;
 mod moves;
-mod office;
 mod patience;
 mod process;
 mod publishing;
@@ -36,8 +36,8 @@ mod renewing;
 mod roster;
 mod scheduling;
 mod service;
+mod service_context;
 mod shared;
-mod sighting;
 mod source;
 mod sources;
 mod told_source;
@@ -45,11 +45,11 @@ mod told_source;
 pub use beginning::found_in_static_groups;
 pub use configuration::Configuration;
 pub use control::Ending;
-pub use crew::Crew;
+pub use desk_passes::DeskPasses;
 pub use journal::{Journal, kept_of};
-pub use office::Office;
 pub use refreshing::Watch;
 pub use renewing::continued;
 pub use scheduling::Schedule;
 pub use service::{Service, ServiceError};
+pub use service_context::ServiceContext;
 pub use shared::Shared;

@@ -10,7 +10,7 @@ use std::cmp::Ordering;
 const MOST_MOVES: usize = 32;
 
 /// Targets of a job that moved alike.
-#[derive(Clone, Copy, Debug)]
+#[derive(Clone, Copy)]
 struct Moves {
     /// The place of the job in the configuration.
     job: usize,

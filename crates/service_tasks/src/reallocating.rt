@@ -11,7 +11,7 @@ use std::sync::ledger::Ledger;
 const TRIES: u32 = 4;
 
 /// Why a search did not end.
-#[derive(Clone, Copy, Debug, PartialEq, Eq)]
+#[derive(Clone, Copy, PartialEq, Eq)]
 pub(crate) enum NotReallocated {
     /// The journal has its most entries.
     JournalFull,

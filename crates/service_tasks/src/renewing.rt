@@ -1,5 +1,5 @@
 //! What comes between one desk and the next: what nobody needs is forgotten, another journal begins, another configuration is followed.
-ghost use Rattle.std.specs.Prelude.{◌≡◌, IfOk, IfSome, OnOk, Some, true};
+ghost use Rattle.std.specs.Prelude.{◌≡◌, IfOk, IfSome, IsSome, OnOk, Some, true};
 ghost use Rattle.durable_journal.specs.Beginnings.{Opens};
 ghost use Rattle.kept_journal.specs.Keeping.{IsOf, IsOfService};
 ghost use Rattle.service_tasks.specs.Later.{IsLater, IsRenewed};
@@ -7,8 +7,8 @@ ghost use Rattle.service_tasks.specs.Later.{IsLater, IsRenewed};
 use crate::configuration::Configuration;
 use crate::journal::Journal;
 use crate::logging::{log_error, log_error_of, log_info, log_warning, log_warning_of};
-use crate::office::{Office, sources_of};
 use crate::service::Service;
+use crate::service_context::{ServiceContext, sources_of};
 use crate::source::Source;
 use allocation_core::{Core, JobSpec, NotRenewed, ReportRounds};
 use durable_journal::{Archive, Device, FirstLine, with_epoch};
@@ -28,7 +28,7 @@ pub fn continued<R: Clock + Eprint + Copy, S, F, A, C>(
     rt: &R,
     alloc: Global,
     service: &mut Service,
-    office: &mut Office<S, F, C>,
+    context: &mut ServiceContext<S, F, C>,
     archive: &mut A,
     core: Core,
 ) -> io::Result<Core>
@@ -37,24 +37,25 @@ where
     F: Device + Drop,
     A: Archive<F>,
     C: Configuration + Drop,
-    requires { IsOfService F.tells F.contents core office.old.journal.file }
+    requires { IsOfService F.tells F.contents core context.old.journal.file }
     ensures later { IfOk result (IsLater core) }
-    ensures file { IfOk result (λ c. IsOfService F.tells F.contents c office.new.journal.file) }
+    ensures file { IfOk result (λ c. IsOfService F.tells F.contents c context.new.journal.file) }
+    ensures stays { IsSome context.old.journal.file → IsSome context.new.journal.file }
 {
-    if office.is_broken() {
-        office.stay(rt);
+    if context.is_broken() {
+        context.stay(rt);
         return Ok(core);
     }
-    let epoch = office.next_epoch(rt);
-    if !office.schedule.is_read {
-        let journal = &mut office.journal;
+    let epoch = context.next_epoch(rt);
+    if !context.schedule.is_read {
+        let journal = &mut context.journal;
         return renewed(rt, alloc, service, archive, journal, epoch, core);
     }
-    office.schedule.is_read = false;
-    match office.schedule.configuration.service() {
-        Some(next) => reloaded(rt, alloc, service, office, archive, next, epoch, core),
+    context.schedule.is_read = false;
+    match context.schedule.configuration.service() {
+        Some(next) => reloaded(rt, alloc, service, context, archive, next, epoch, core),
         None => {
-            office.refuse(rt);
+            context.refuse(rt);
             Ok(core)
         }
     }
@@ -67,7 +68,7 @@ fn reloaded<R: Clock + Eprint + Copy, S, F, A, C>(
     rt: &R,
     alloc: Global,
     service: &mut Service,
-    office: &mut Office<S, F, C>,
+    context: &mut ServiceContext<S, F, C>,
     archive: &mut A,
     next: Service,
     epoch: u64,
@@ -78,16 +79,17 @@ where
     F: Device + Drop,
     A: Archive<F>,
     C: Configuration + Drop,
-    requires { IsOfService F.tells F.contents core office.old.journal.file }
+    requires { IsOfService F.tells F.contents core context.old.journal.file }
     ensures later { IfOk result (IsLater core) }
-    ensures file { IfOk result (λ c. IsOfService F.tells F.contents c office.new.journal.file) }
+    ensures file { IfOk result (λ c. IsOfService F.tells F.contents c context.new.journal.file) }
+    ensures stays { IsSome context.old.journal.file → IsSome context.new.journal.file }
 {
     let Ok((jobs, report_rounds, sources)) = parts_of(alloc, &next) else {
         drop(next);
-        office.refuse(rt);
+        context.refuse(rt);
         return Ok(core);
     };
-    let journal = &mut office.journal;
+    let journal = &mut context.journal;
     match under(
         rt,
         alloc,
@@ -99,7 +101,7 @@ where
         epoch,
         core,
     ) {
-        Ok((core, true)) => match followed(service, office, next, sources) {
+        Ok((core, true)) => match followed(service, context, next, sources) {
             Ok(()) => Ok(core),
             Err(error) => {
                 drop(core);
@@ -108,7 +110,7 @@ where
         },
         Ok((core, false)) => {
             drop((next, sources));
-            office.state.set_not_reloaded();
+            context.state.set_not_reloaded();
             Ok(core)
         }
         Err(error) => {
@@ -121,7 +123,7 @@ where
 /// Another service is followed from now on, with these sources.
 fn followed<S, F, C>(
     service: &mut Service,
-    office: &mut Office<S, F, C>,
+    context: &mut ServiceContext<S, F, C>,
     next: Service,
     sources: Vec<Source>,
 ) -> io::Result<()>
@@ -129,9 +131,9 @@ where
     S: FetchSeveral + Drop,
     F: Drop,
     C: Configuration + Drop,
-    ensures { office.new.journal ≡ office.old.journal }
+    ensures { context.new.journal ≡ context.old.journal }
 {
-    match office.follow(&next, sources) {
+    match context.follow(&next, sources) {
         Ok(()) => {
             drop(std::mem::replace(service, next));
             Ok(())
@@ -196,6 +198,7 @@ fn under<R: Clock + Eprint + Copy, F: Device + Drop, A: Archive<F>>(
     requires { IsOfService F.tells F.contents core journal.old.file }
     ensures later { IfOk result (λ r. IsLater core r.0) }
     ensures file { IfOk result (λ r. IsOfService F.tells F.contents r.0 journal.new.file) }
+    ensures stays { IsSome journal.old.file → IsSome journal.new.file }
 {
     let is_same = core.report_rounds().count() == report_rounds.count();
     if is_same && are_jobs_of(core.fleet().jobs(), service.jobs()) {
@@ -229,6 +232,7 @@ fn renewed<R: Clock + Eprint + Copy, F: Device + Drop, A: Archive<F>>(
     requires { IsOfService F.tells F.contents core journal.old.file }
     ensures later { IfOk result (IsLater core) }
     ensures file { IfOk result (λ c. IsOfService F.tells F.contents c journal.new.file) }
+    ensures stays { IsSome journal.old.file → IsSome journal.new.file }
 {
     let Ok(jobs) = copied_jobs(alloc, &core) else {
         log_warning(rt, "no memory to renew the allocator");
@@ -266,6 +270,7 @@ fn renewed_under<R: Clock + Eprint + Copy, F: Device + Drop, A: Archive<F>>(
     requires { IsOfService F.tells F.contents core journal.old.file }
     ensures later { IfOk result (λ r. IsLater core r.0) }
     ensures file { IfOk result (λ r. IsOfService F.tells F.contents r.0 journal.new.file) }
+    ensures stays { IsSome journal.old.file → IsSome journal.new.file }
 {
     // (its pairs ascend)
     let _pairs = core.allocation().len();
@@ -297,7 +302,8 @@ fn begin_journal<R: Clock + Eprint + Copy, F: Device + Drop, A: Archive<F>>(
     core: &Core,
 ) -> io::Result<()>
     requires { IsRenewed core.now }
-    ensures { OnOk result (IsOfService F.tells F.contents core.now journal.new.file) }
+    ensures file { OnOk result (IsOfService F.tells F.contents core.now journal.new.file) }
+    ensures stays { IsSome journal.old.file → IsSome journal.new.file }
 {
     let Some(file) = &mut journal.file else {
         return Ok(());

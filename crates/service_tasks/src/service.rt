@@ -27,6 +27,8 @@ pub struct Service {
     pub(crate) settings: Settings,
     /// The program's version. Empty where nobody told it.
     pub(crate) version: &'static str,
+    /// Whether it is that of an instance that leads others.
+    pub(crate) is_leading: bool,
     /// Where the log counts the lines that it loses, if it may lose some.
     pub(crate) lost_lines: Option<Arc<AtomicU64>>,
     /// How many connections there may be at once.
@@ -45,7 +47,7 @@ pub(crate) struct JobText {
 
 /// A discovery source: entry `number - 1` of the `http_sd_configs` of the job at a place in the configuration, behind which its
 /// `file_sd_configs` stand.
-#[derive(Clone, Copy, Debug, PartialEq, Eq)]
+#[derive(Clone, Copy, PartialEq, Eq)]
 pub(crate) struct SourceSettings {
     pub(crate) job: usize,
     pub(crate) number: u32,
@@ -54,7 +56,7 @@ pub(crate) struct SourceSettings {
 }
 
 /// Why there is no service of a configuration.
-#[derive(Debug, Drop)]
+#[derive(Drop)]
 pub enum ServiceError {
     /// A rule of the job at this place is refused.
     Rules { job: usize, error: RulesError },
@@ -104,6 +106,7 @@ impl Service {
                     doors: parts.doors,
                     settings,
                     version: "",
+                    is_leading: false,
                     lost_lines: None,
                     connections,
                     sources: parts.sources,
@@ -143,6 +146,13 @@ impl Service {
     pub fn with_version(self, version: &'static str) -> Service {
         let mut service = self;
         service.version = version;
+        service
+    }
+
+    /// The service of an instance that leads others.
+    pub fn with_leading(self) -> Service {
+        let mut service = self;
+        service.is_leading = true;
         service
     }
 

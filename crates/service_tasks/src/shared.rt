@@ -1,9 +1,9 @@
 //! What the threads of a desk share.
 use crate::control::{Control, Ending};
 use crate::evenings::evenings_of;
-use crate::office::Office;
 use crate::patience::Patience;
 use crate::service::Service;
+use crate::service_context::ServiceContext;
 use alloc_desk::{Desk, JobEvening};
 use kept_journal::{JournalName, Kept};
 use service_settings::{JobSpread, Spread};
@@ -50,12 +50,12 @@ impl<R: Wait + Copy, L: Ledger, B: Ledger, N: JournalName> Shared<R, L, B, N> {
         rt: &R,
         alloc: Global,
         service: &Service,
-        office: &Office<S, F, C>,
+        context: &ServiceContext<S, F, C>,
         desk: Arc<Desk<L, B, N>>,
         kept: Option<Arc<Kept<N>>>,
     ) -> Result<Shared<R, L, B, N>, AllocError> {
         let settings = &service.settings;
-        match parts_of(alloc, settings.spreads.as_slice(), &office.state) {
+        match parts_of(alloc, settings.spreads.as_slice(), &context.state) {
             Ok((by_job, state)) => Ok(Shared {
                 rt: *rt,
                 alloc,
@@ -70,7 +70,7 @@ impl<R: Wait + Copy, L: Ledger, B: Ledger, N: JournalName> Shared<R, L, B, N> {
                 control: Control::new(),
                 state,
                 listed: AtomicU64::new(0),
-                is_long: AtomicBool::new(office.is_long()),
+                is_long: AtomicBool::new(context.is_long()),
                 kept,
             }),
             Err(error) => {

@@ -1,7 +1,7 @@
 //! A source, as log lines name it.
 
 /// A source of a job.
-#[derive(Clone, Copy, Debug)]
+#[derive(Clone, Copy)]
 pub(crate) struct ToldSource<'a> {
     pub(crate) job: &'a str,
     /// Its number in the job, from 1. The job's static groups have 0.

@@ -10,7 +10,7 @@ use serde_json::Value;
 use std::alloc::{AllocError, Global};
 
 /// What is answered to a request for one path.
-#[derive(Debug, Drop)]
+#[derive(Drop)]
 pub struct Page {
     pub path: Text,
     /// The status code, from 100 to 999.

@@ -5,7 +5,7 @@ ghost use Rattle.session.specs.Lines.{no_sums, sums_from, with_turn};
 use collector_pool::Turn;
 
 /// The sums over turns.
-#[derive(Clone, Copy, Debug, PartialEq, Eq)]
+#[derive(Clone, Copy, PartialEq, Eq)]
 pub struct Sums {
     /// How many reports were booked.
     pub booked: u128,

@@ -29,7 +29,7 @@ pub enum Fault {
 }
 
 /// Why a session does not go on.
-#[derive(Debug, Drop)]
+#[derive(Drop)]
 pub(crate) enum Halt {
     Stopped(SessionStop),
     /// A socket failed.

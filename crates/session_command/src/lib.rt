@@ -14,7 +14,7 @@ mod opening;
 mod page_server;
 mod paging;
 mod running;
-mod staff;
+mod session_tasks;
 
 pub use asking::add_answer;
 pub use ended::{Ended, Fault};

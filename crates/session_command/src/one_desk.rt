@@ -1,19 +1,23 @@
 //! A session over its desk.
 ghost use Rattle.std.specs.Prelude.{◌≡◌, ◌<◌, ◌≤◌, IfOk, OnOk};
+ghost use Rattle.std.specs.Arc.{arc_value};
 ghost use Rattle.alloc_desk.specs.declared.limits.TheConstants.{MOST_PASSES};
+ghost use Rattle.sd_server.specs.Named.{AreNamed};
 ghost use Rattle.session_command.specs.Totals.{IsEnded, IsReached};
 
 use crate::asking::ask_all;
 use crate::ended::Halt;
-use crate::staff::{Staff, device};
+use crate::session_tasks::{SessionTasks, device};
 use admission::Admission;
-use alloc_desk::{Desk, DeskName, Log, Pass};
+use alloc_desk::{Desk, DeskName, Log, Pass, shared_desk};
 use allocation_core::Core;
 use collector_pool::Open;
+use event_loops::Runtime;
+use fleet::JobSpec;
 use kept_journal::JournalName;
 use lists::Text;
 use sd_documents::scrape_configs_text;
-use sd_server::{Handler, ListTexts, serve_one_by_one};
+use sd_server::{Handler, ListTexts, are_named, serve_one_by_one};
 use service_state::{ConfigPages, Lifecycle, ServiceState};
 use session::{Session, total_line};
 use session_rounds::{begin, run_rounds};
@@ -23,7 +27,6 @@ use std::random::RandomSource;
 use std::sync::atomic::{AtomicBool, Ordering};
 use std::sync::ledger::{Blank, Ledger};
 use std::sync::{Arc, Mutex, Wait};
-use std::thread::Threads;
 use std::time::Clock;
 use std::{io, thread};
 use tokio::runtime::LocalRuntime;
@@ -44,16 +47,7 @@ pub(crate) fn run_over_desk<R, L, B, N>(
     text: &mut Vec<u8>,
 ) -> Result<(), Halt>
 where
-    R: Wait
-        + Threads
-        + Clock
-        + Net<Listener = TcpListener, Stream = TcpStream>
-        + RandomSource
-        + AllocGlobal
-        + Sync
-        + Send
-        + Copy
-        + Drop,
+    R: Runtime,
     L: Ledger + Send + Sync,
     B: Ledger + Send + Sync,
     N: JournalName + Send + Sync,
@@ -63,10 +57,46 @@ where
     requires samples { (samples.name ≡ B.name) × (samples.parts ≡ B.parts) × (B.parts ≡ seats) }
     requires log { log ≡ N.book }
 {
-    match Desk::<L, B, N>::open(alloc, core, seats, calls, samples, log) {
-        Ok((desk, passes)) => run_open(rt, alloc, session, desk, passes, text),
-        Err(core) => {
+    match Shown::of(alloc, session, core.fleet().jobs()) {
+        Ok(shown) => run_shown::<R, L, B, N>(
+            rt, alloc, session, shown, core, seats, calls, samples, log, text,
+        ),
+        Err(AllocError) => {
             drop(core);
+            Err(AllocError.into())
+        }
+    }
+}
+
+/// Runs a session over a desk of an allocator whose jobs are those of what is shown.
+fn run_shown<R, L, B, N>(
+    rt: &R,
+    alloc: Global,
+    session: &Session,
+    shown: Shown<N>,
+    core: Core,
+    seats: u32,
+    calls: Blank,
+    samples: Blank,
+    log: Log,
+    text: &mut Vec<u8>,
+) -> Result<(), Halt>
+where
+    R: Runtime,
+    L: Ledger + Send + Sync,
+    B: Ledger + Send + Sync,
+    N: JournalName + Send + Sync,
+    requires core { (core ≡ N.opening) × (N.seats ≡ seats) }
+    requires seats { (0 < seats) × (seats ≤ MOST_PASSES) }
+    requires calls { (calls.name ≡ L.name) × (calls.parts ≡ L.parts) × (L.parts ≡ seats) }
+    requires samples { (samples.name ≡ B.name) × (samples.parts ≡ B.parts) × (B.parts ≡ seats) }
+    requires log { log ≡ N.book }
+    requires named { AreNamed (arc_value shown.pages).names N.opening.fleet.jobs }
+{
+    match Desk::<L, B, N>::open(alloc, core, seats, calls, samples, log) {
+        Ok((desk, passes)) => run_open(rt, alloc, session, shown, desk, passes, text),
+        Err(core) => {
+            drop((shown, core));
             Err(AllocError.into())
         }
     }
@@ -77,44 +107,37 @@ fn run_open<R, L, B, N>(
     rt: &R,
     alloc: Global,
     session: &Session,
+    shown: Shown<N>,
     desk: Desk<L, B, N>,
     mut passes: Vec<Pass<L, B, N>>,
     text: &mut Vec<u8>,
 ) -> Result<(), Halt>
 where
-    R: Wait
-        + Threads
-        + Clock
-        + Net<Listener = TcpListener, Stream = TcpStream>
-        + RandomSource
-        + AllocGlobal
-        + Sync
-        + Send
-        + Copy
-        + Drop,
+    R: Runtime,
     L: Ledger + Send + Sync,
     B: Ledger + Send + Sync,
     N: JournalName + Send + Sync,
+    requires { AreNamed (arc_value shown.pages).names N.opening.fleet.jobs }
 {
     let Some(asked) = passes.pop() else {
-        drop((desk, passes));
+        drop((shown, desk, passes));
         return Err(AllocError.into());
     };
     let Some(own) = passes.pop() else {
-        drop((desk, asked, passes));
+        drop((shown, desk, asked, passes));
         return Err(AllocError.into());
     };
-    let staff = match Staff::muster(rt, alloc, own, passes) {
-        Ok(staff) => staff,
+    let session_tasks = match SessionTasks::of(rt, alloc, own, passes) {
+        Ok(session_tasks) => session_tasks,
         Err(AllocError) => {
-            drop((desk, asked));
+            drop((shown, desk, asked));
             return Err(AllocError.into());
         }
     };
-    match handler_of(rt, alloc, session, desk, asked) {
-        Ok(handler) => run_by(rt, alloc, session, handler, staff, text),
+    match handler_of(rt, alloc, shown, desk, asked) {
+        Ok(handler) => run_by(rt, alloc, session, handler, session_tasks, text),
         Err(AllocError) => {
-            drop(staff);
+            drop(session_tasks);
             Err(AllocError.into())
         }
     }
@@ -126,28 +149,19 @@ fn run_by<R, L, B, N>(
     alloc: Global,
     session: &Session,
     handler: Handler<R, L, B, N>,
-    mut staff: Staff<R, L, B, N>,
+    mut session_tasks: SessionTasks<R, L, B, N>,
     text: &mut Vec<u8>,
 ) -> Result<(), Halt>
 where
-    R: Wait
-        + Threads
-        + Clock
-        + Net<Listener = TcpListener, Stream = TcpStream>
-        + RandomSource
-        + AllocGlobal
-        + Sync
-        + Send
-        + Copy
-        + Drop,
+    R: Runtime,
     L: Ledger + Send + Sync,
     B: Ledger + Send + Sync,
     N: JournalName + Send + Sync,
 {
-    match run(rt, alloc, session, &handler, &mut staff, text) {
-        Ok(answers) => end(alloc, handler, staff, answers.as_slice(), text),
+    match run(rt, alloc, session, &handler, &mut session_tasks, text) {
+        Ok(answers) => end(alloc, handler, session_tasks, answers.as_slice(), text),
         Err(halt) => {
-            drop((handler, staff));
+            drop((handler, session_tasks));
             Err(halt)
         }
     }
@@ -157,18 +171,13 @@ where
 fn handler_of<R: Copy, L: Ledger, B: Ledger, N: JournalName>(
     rt: &R,
     alloc: Global,
-    session: &Session,
+    shown: Shown<N>,
     desk: Desk<L, B, N>,
     pass: Pass<L, B, N>,
-) -> Result<Handler<R, L, B, N>, AllocError> {
-    let shown = match Shown::of(alloc, session) {
-        Ok(shown) => shown,
-        Err(error) => {
-            drop((desk, pass));
-            return Err(error);
-        }
-    };
-    match seated(alloc, desk, pass) {
+) -> Result<Handler<R, L, B, N>, AllocError>
+    requires { AreNamed (arc_value shown.pages).names N.opening.fleet.jobs }
+{
+    match shared_desk(alloc, desk, pass) {
         Ok((desk, pass)) => Ok(Handler {
             rt: *rt,
             alloc,
@@ -193,49 +202,62 @@ fn handler_of<R: Copy, L: Ledger, B: Ledger, N: JournalName>(
 
 /// What a handler shows beside its desk.
 #[derive(Drop)]
-struct Shown<N: DeskName> {
+struct Shown<N: JournalName> {
     pages: Arc<ConfigPages>,
     state: Arc<ServiceState>,
     texts: Arc<ListTexts<N>>,
     doors: Arc<Admission>,
 }
 
-impl<N: DeskName> Shown<N> {
-    fn of(alloc: Global, session: &Session) -> Result<Shown<N>, AllocError> {
-        let pages = pages_of(alloc, session)?;
-        let lifecycle = Lifecycle {
-            reload: false,
-            quit: false,
-        };
-        let state = shared(alloc, ServiceState::new(alloc, lifecycle, 0))?;
-        let texts = shared(alloc, ListTexts::new(alloc))?;
-        let doors = shared(alloc, Admission::open())?;
-        Ok(Shown {
-            pages,
-            state,
-            texts,
-            doors,
-        })
+impl<N: JournalName> Shown<N> {
+    /// What is shown of a session over an allocator with these jobs, which are those of its configuration.
+    fn of(alloc: Global, session: &Session, jobs: &[JobSpec]) -> Result<Shown<N>, AllocError>
+        ensures { IfOk result (λ s. AreNamed (arc_value s.pages).names jobs.now) }
+    {
+        let pages = named_pages(alloc, session, jobs)?;
+        match parts(alloc) {
+            Ok((state, texts, doors)) => Ok(Shown {
+                pages,
+                state,
+                texts,
+                doors,
+            }),
+            Err(error) => {
+                drop(pages);
+                Err(error)
+            }
+        }
     }
 }
 
-/// A desk and the pass of its server, as threads share them.
-fn seated<L: Ledger, B: Ledger, N: DeskName>(
+/// What is shown of any session: a state without a lifecycle, no texts yet, and doors that are open to all.
+fn parts<N: JournalName>(
     alloc: Global,
-    desk: Desk<L, B, N>,
-    pass: Pass<L, B, N>,
-) -> Result<(Arc<Desk<L, B, N>>, Arc<Mutex<Pass<L, B, N>>>), AllocError> {
-    match shared(alloc, desk) {
-        Ok(desk) => match shared(alloc, Mutex::new(pass)) {
-            Ok(pass) => Ok((desk, pass)),
-            Err(error) => {
-                drop(desk);
-                Err(error)
-            }
-        },
-        Err(error) => {
-            drop(pass);
-            Err(error)
+) -> Result<(Arc<ServiceState>, Arc<ListTexts<N>>, Arc<Admission>), AllocError> {
+    let lifecycle = Lifecycle {
+        reload: false,
+        quit: false,
+    };
+    let state = shared(alloc, ServiceState::new(alloc, lifecycle, 0))?;
+    let texts = shared(alloc, ListTexts::new(alloc))?;
+    let doors = shared(alloc, Admission::open())?;
+    Ok((state, texts, doors))
+}
+
+/// The pages of a session's configuration, under which an allocator with these jobs was opened.
+fn named_pages(
+    alloc: Global,
+    session: &Session,
+    jobs: &[JobSpec],
+) -> Result<Arc<ConfigPages>, AllocError>
+    ensures { IfOk result (λ p. AreNamed (arc_value p).names jobs.now) }
+{
+    let pages = pages_of(alloc, session)?;
+    match are_named(alloc, &pages, jobs) {
+        Ok(true) => Ok(pages),
+        Ok(false) | Err(AllocError) => {
+            drop(pages);
+            Err(AllocError)
         }
     }
 }
@@ -256,25 +278,16 @@ fn run<R, L, B, N>(
     alloc: Global,
     session: &Session,
     handler: &Handler<R, L, B, N>,
-    staff: &mut Staff<R, L, B, N>,
+    session_tasks: &mut SessionTasks<R, L, B, N>,
     text: &mut Vec<u8>,
 ) -> Result<Vec<u8>, Halt>
 where
-    R: Wait
-        + Threads
-        + Clock
-        + Net<Listener = TcpListener, Stream = TcpStream>
-        + RandomSource
-        + AllocGlobal
-        + Sync
-        + Send
-        + Copy
-        + Drop,
+    R: Runtime,
     L: Ledger + Send + Sync,
     B: Ledger + Send + Sync,
     N: JournalName + Send + Sync,
 {
-    let Staff { refresher, workers } = staff;
+    let SessionTasks { refresher, workers } = session_tasks;
     begin(&handler.desk, rt, alloc, session, refresher, text)?;
     run_rounds(
         &handler.desk,
@@ -298,16 +311,7 @@ fn ask<R, L, B, N>(
     paths: &[Text],
 ) -> Result<Vec<u8>, Halt>
 where
-    R: Wait
-        + Threads
-        + Clock
-        + Net<Listener = TcpListener, Stream = TcpStream>
-        + RandomSource
-        + AllocGlobal
-        + Sync
-        + Send
-        + Copy
-        + Drop,
+    R: Runtime,
     L: Ledger + Send + Sync,
     B: Ledger + Send + Sync,
     N: JournalName + Send + Sync,
@@ -333,16 +337,7 @@ fn ask_over<R, L, B, N>(
     paths: &[Text],
 ) -> Result<Vec<u8>, Halt>
 where
-    R: Wait
-        + Threads
-        + Clock
-        + Net<Listener = TcpListener, Stream = TcpStream>
-        + RandomSource
-        + AllocGlobal
-        + Sync
-        + Send
-        + Copy
-        + Drop,
+    R: Runtime,
     L: Ledger + Send + Sync,
     B: Ledger + Send + Sync,
     N: JournalName + Send + Sync,
@@ -399,11 +394,11 @@ where
 fn end<R: Copy + Drop, L: Ledger, B: Ledger, N: JournalName>(
     alloc: Global,
     handler: Handler<R, L, B, N>,
-    staff: Staff<R, L, B, N>,
+    session_tasks: SessionTasks<R, L, B, N>,
     answers: &[u8],
     text: &mut Vec<u8>,
 ) -> Result<(), Halt> {
-    match staff.dismiss(alloc) {
+    match session_tasks.into_passes(alloc) {
         Ok(passes) => write_end(alloc, handler, passes, answers, text),
         Err(AllocError) => {
             drop(handler);

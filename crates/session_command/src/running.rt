@@ -10,19 +10,16 @@ use crate::opening::core_of;
 use crate::page_server::serve_pages;
 use alloc_desk::Log;
 use allocation_core::Core;
+use event_loops::Runtime;
 use fleet::MOST_COLLECTORS;
 use lists::List;
 use session::{Session, read_session};
-use std::alloc::{AllocError, AllocGlobal, Global};
+use std::alloc::Global;
 use std::marker::Brand;
-use std::net::{Ipv4Addr, Net, SocketAddr, TcpListener, TcpStream};
-use std::random::RandomSource;
-use std::sync::Wait;
+use std::net::{Ipv4Addr, SocketAddr, TcpListener, TcpStream};
 use std::sync::atomic::{AtomicBool, Ordering};
 use std::sync::ledger::Blank;
-use std::thread::Threads;
-use std::time::Clock;
-use std::{io, mem, thread};
+use std::{mem, thread};
 
 /// Runs the session of a document, and writes its lines. Where it has no end, the lines so far are written.
 pub fn session<R>(
@@ -32,16 +29,7 @@ pub fn session<R>(
     text: &mut Vec<u8>,
 ) -> Result<Ended, Fault>
 where
-    R: Wait
-        + Threads
-        + Clock
-        + Net<Listener = TcpListener, Stream = TcpStream>
-        + RandomSource
-        + AllocGlobal
-        + Sync
-        + Send
-        + Copy
-        + Drop,
+    R: Runtime,
 {
     let listener = TcpListener::bind(rt, SocketAddr::from((Ipv4Addr::LOCALHOST, 0)))?;
     let here = listener.local_addr()?;
@@ -84,16 +72,7 @@ fn serve_session<R>(
     text: &mut Vec<u8>,
 ) -> Result<(), Halt>
 where
-    R: Wait
-        + Threads
-        + Clock
-        + Net<Listener = TcpListener, Stream = TcpStream>
-        + RandomSource
-        + AllocGlobal
-        + Sync
-        + Send
-        + Copy
-        + Drop,
+    R: Runtime,
 {
     let mut pages = mem::replace(&mut session.pages, List::new(alloc)).into_vec();
     let stop = AtomicBool::new(false);
@@ -116,16 +95,7 @@ fn run_then_stop<R>(
     text: &mut Vec<u8>,
 ) -> Result<(), Halt>
 where
-    R: Wait
-        + Threads
-        + Clock
-        + Net<Listener = TcpListener, Stream = TcpStream>
-        + RandomSource
-        + AllocGlobal
-        + Sync
-        + Send
-        + Copy
-        + Drop,
+    R: Runtime,
 {
     let halted = run(rt, alloc, session, text);
     stop.store(true, Ordering::SeqCst);
@@ -135,16 +105,7 @@ where
 
 fn run<R>(rt: &R, alloc: Global, session: &Session, text: &mut Vec<u8>) -> Result<(), Halt>
 where
-    R: Wait
-        + Threads
-        + Clock
-        + Net<Listener = TcpListener, Stream = TcpStream>
-        + RandomSource
-        + AllocGlobal
-        + Sync
-        + Send
-        + Copy
-        + Drop,
+    R: Runtime,
 {
     let core = core_of(alloc, session.config.jobs.as_slice())?;
     run_over(rt, alloc, session, core, seats_of(session), text)
@@ -167,16 +128,7 @@ fn run_over<R>(
     text: &mut Vec<u8>,
 ) -> Result<(), Halt>
 where
-    R: Wait
-        + Threads
-        + Clock
-        + Net<Listener = TcpListener, Stream = TcpStream>
-        + RandomSource
-        + AllocGlobal
-        + Sync
-        + Send
-        + Copy
-        + Drop,
+    R: Runtime,
     requires { (0 < seats) × (seats ≤ MOST_PASSES) }
 {
     let parts = u64::from(seats);

@@ -9,7 +9,7 @@ use relabel::{RuleError, RulesError};
 use std::alloc::AllocError;
 
 /// Why a session ends before its last round.
-#[derive(Debug, Drop)]
+#[derive(Drop)]
 pub enum SessionStop {
     /// A Join or a Discover was refused before the rounds.
     Refused(Answer),

@@ -20,6 +20,7 @@ use json_values::parse;
 use price_certificate::{DocumentError, Instance, instance_of};
 use reading::certificate_of;
 pub(crate) use reading::optional;
+pub use reading::spread_of;
 use serde_json::Value;
 use std::alloc::{AllocError, Global};
 use writing::value_of;

@@ -1,16 +1,14 @@
 //! Each fault of levels that are to show how even a plan is, looked for through the whole.
-ghost use Rattle.std.specs.Prelude.{◌≡◌, ◌*◌, ◌<◌, ◌≤◌, ℕ, Some, IfOk, length, sum, slice_index};
-ghost use Rattle.price_certificate.specs.Problem.{items_of, bins_of, capacity_of};
-ghost use Rattle.price_certificate.specs.Assignment.{left};
-ghost use Rattle.price_certificate.specs.Certificate.{sum_below};
+ghost use Rattle.std.specs.Prelude.{◌≡◌, ◌<◌, ◌≤◌, IfOk, length};
+ghost use Rattle.price_certificate.specs.Problem.{items_of, bins_of};
 ghost use Rattle.price_certificate.specs.declared.shape.TheConstants.{MOST_ITEMS};
-ghost use Rattle.spread_certificate.specs.EvenFaults.{AreLoads, AreRooms, shape_fault, level_fault, row_fault, price_fault, value_in, worth_in, sum_fault, load_fault, room_fault, levels_fault};
+ghost use Rattle.spread_certificate.specs.EvenFaults.{AreLoads, AreRooms, shape_fault, level_fault, row_fault, price_fault, worth_in, sum_fault, load_fault, room_fault, levels_fault};
 
 use crate::even::{Even, MOST_SLACK};
 use crate::groups::{count_loads, level_worth, number_at, owners, sum_caps, with_slack};
 use crate::verdict::EvenFault;
 use lists::List;
-use price_certificate::{Instance, MOST_ITEMS};
+use price_certificate::{Instance, MOST_ITEMS, value_of_bins, value_of_items};
 use std::alloc::{AllocError, Global};
 
 /// A number that is out of its range, or lists that are too short or too long.
@@ -142,32 +140,6 @@ fn find_different_sums(instance: &Instance, even: &Even, pairs: &[(u32, u32)]) -
     } else {
         Some(EvenFault::SumsDiffer(value, worth))
     }
-}
-
-/// The sum of the items' prices.
-fn value_of_items(prices: &[u32]) -> u64
-    requires { length prices.now ≤ MOST_ITEMS }
-    ensures sum { result ≡ sum prices.now }
-    ensures most { result ≤ 70368744161280 }
-{
-    let mut value = 0u64;
-    for price in prices {
-        value += u64::from(*price);
-    }
-    value
-}
-
-/// The sum of the bins' prices, each as often as the bin's capacity.
-fn value_of_bins(instance: &Instance, prices: &[u32]) -> u64
-    requires { length prices.now ≡ bins_of instance.now }
-    ensures sum { result ≡ sum_below (λ bin. capacity_of instance.now bin * slice_index prices.now bin) (bins_of instance.now) }
-    ensures most { result ≤ 1152921504338411520 }
-{
-    let mut value = 0u64;
-    for bin in 0..instance.bins() {
-        value += instance.capacity(bin) as u64 * prices[bin] as u64;
-    }
-    value
 }
 
 /// What the pairs are worth at the levels.

@@ -14,7 +14,7 @@ mod verdict;
 
 pub use certificate::Certificate;
 pub use document::{
-    one_certificate, plan_documents_stay, read_spread_document, write_spread_document,
+    one_certificate, plan_documents_stay, read_spread_document, spread_of, write_spread_document,
 };
 pub use even::{Even, MOST_SLACK};
 pub use judge::{check_even, check_spread, judge_spread};

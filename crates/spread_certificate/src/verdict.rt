@@ -6,7 +6,7 @@ use price_certificate::Fault;
 use std::alloc::{AllocError, Global};
 
 /// What the judge says of a spread.
-#[derive(Clone, Copy, Debug, PartialEq, Eq)]
+#[derive(Clone, Copy, PartialEq, Eq)]
 pub enum SpreadVerdict {
     /// The plan is the best within its caps, and they cost no coverage: how many items it covers, how many of them it leaves at
     /// draining bins, how many pairs of the preceding assignment it loses, and within which slack it is even, if it tells that.

@@ -4,7 +4,7 @@ use price_certificate::Instance;
 use std::alloc::{AllocError, Global};
 
 /// How the items of a job are evened out.
-#[derive(Clone, Copy, Debug, PartialEq, Eq)]
+#[derive(Clone, Copy, PartialEq, Eq)]
 pub enum JobEvening {
     /// With those of the other jobs of which this is said.
     Together,

@@ -4,7 +4,7 @@ use lists::List;
 use reach_rules::CollectorName;
 
 /// What a live collector holds of one job in the current allocation, in order of number.
-#[derive(Debug, Drop)]
+#[derive(Drop)]
 pub struct Share {
     pub collector: CollectorName,
     pub targets: List<NumberedTarget>,

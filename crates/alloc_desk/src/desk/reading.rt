@@ -37,9 +37,9 @@ impl<L: Ledger, B: Ledger, N: DeskName> Desk<L, B, N> {
         ensures read { Reached N.opening pass.old (λ h. FnOnceReturnsAt F.FnOnce reader h result) }
         ensures same { pass.new ≡ pass.old }
     {
-        let mut shelf = self.shelf.lock(rt);
-        shelf.confirm(pass);
-        reader(shelf.record())
+        let mut locked = self.locked.lock(rt);
+        locked.confirm(pass);
+        reader(locked.record())
     }
 
     /// What the desk shows.

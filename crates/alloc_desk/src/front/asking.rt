@@ -50,9 +50,9 @@ impl<N: DeskName> Front<N> {
         ensures full { result ≡ Err EnterError.JournalFull → length self.new ≡ MOST_ENTRIES }
         ensures err { OnErr result (pass.new ≡ pass.old) }
     {
-        let mut shelf = desk.shelf_past(rt, self);
-        let result = shelf.submit(rt, pass, event);
-        *self = shelf.front().again();
+        let mut locked = desk.locked_past(rt, self);
+        let result = locked.submit(rt, pass, event);
+        *self = locked.front().again();
         result
     }
 
@@ -70,10 +70,10 @@ impl<N: DeskName> Front<N> {
         ensures done { HasDone N.opening pass.old self.new }
         ensures same { pass.new ≡ pass.old }
     {
-        let mut shelf = desk.shelf_past(rt, self);
-        shelf.confirm(pass);
-        *self = shelf.front().again();
-        reader(shelf.record())
+        let mut locked = desk.locked_past(rt, self);
+        locked.confirm(pass);
+        *self = locked.front().again();
+        reader(locked.record())
     }
 
     /// What the desk shows.

@@ -28,7 +28,7 @@ pub(crate) fn acknowledge_in(
 }
 
 /// Whether it is the name or the address of a host, a colon and a port.
-fn is_host_and_port(text: &str) -> bool
+pub fn is_host_and_port(text: &str) -> bool
     ensures { result ≡ is_host_and_port_text text.now }
 {
     match parts_of(text) {

@@ -1,16 +1,62 @@
 //! The members that an object may have.
-ghost use Rattle.std.specs.Prelude.{◌≡◌, option_map};
-ghost use Rattle.serde_json.specs.View.{view, members_view};
+ghost use Rattle.std.specs.Prelude.{◌≡◌, map, option_map};
+ghost use Rattle.serde_json.specs.View.{view};
 ghost use Rattle.service_settings.specs.Reading.{Gives};
-ghost use Rattle.service_settings.specs.Members.{has_member as has_member_of, unknown_in as unknown_in_data, members_said, known_said};
+ghost use Rattle.service_settings.specs.Members.{known_said, members_said, names_of};
 
 use crate::error::{Member, SettingsError};
+use config_members::unknown_member;
 use lists::Text;
-use serde_json::{Map, Value};
+use serde_json::Value;
 use std::alloc::Global;
 
+/// Of `allocator`, those of a journal in etcd with them, which another reads.
+pub(crate) static ALLOCATOR: [&str; 26] = [
+    "listen",
+    "lifecycle",
+    "journal",
+    "advertise",
+    "lease",
+    "etcd_user",
+    "etcd_password_file",
+    "keep",
+    "settle",
+    "give_up",
+    "connections",
+    "report_rounds",
+    "hosts",
+    "tokens",
+    "open_to_all",
+    "allow_no_jobs",
+    "collectors",
+    "join_by_asking",
+    "reach_changes",
+    "rejoin",
+    "collector_timeout",
+    "handover",
+    "acknowledge",
+    "release_after",
+    "spread",
+    "fetch_timeout",
+];
+
+/// Of `allocator.lifecycle`.
+pub(crate) static LIFECYCLE: [&str; 2] = ["reload", "quit"];
+
+/// Of `allocator.tokens`.
+pub(crate) static TOKENS: [&str; 2] = ["admin", "collectors"];
+
+/// Of a collector of `allocator.collectors`.
+pub(crate) static COLLECTOR: [&str; 3] = ["name", "reach", "limits"];
+
+/// Of an entry of `allocator.join_by_asking`.
+pub(crate) static JOINING_PATTERN: [&str; 3] = ["pattern", "reach", "limits"];
+
+/// Of `allocator.spread`, or of a job's.
+pub(crate) static SPREAD: [&str; 2] = ["slack", "most_moves"];
+
 /// An object whose members are all known.
-#[derive(Clone, Copy, Debug, PartialEq, Eq)]
+#[derive(Clone, Copy, PartialEq, Eq)]
 pub(crate) enum Kind {
     Allocator,
     Lifecycle,
@@ -18,6 +64,22 @@ pub(crate) enum Kind {
     Collector,
     JoiningPattern,
     Spread,
+}
+
+impl Kind {
+    /// The names of the members.
+    fn names(self) -> &'static [&'static str]
+        ensures { map (λ s. s.now) result.now ≡ names_of self }
+    {
+        match self {
+            Kind::Allocator => ALLOCATOR.as_slice(),
+            Kind::Lifecycle => LIFECYCLE.as_slice(),
+            Kind::Tokens => TOKENS.as_slice(),
+            Kind::Collector => COLLECTOR.as_slice(),
+            Kind::JoiningPattern => JOINING_PATTERN.as_slice(),
+            Kind::Spread => SPREAD.as_slice(),
+        }
+    }
 }
 
 /// An object of this kind without a member that is not known, or nothing.
@@ -36,6 +98,7 @@ pub(crate) fn known_or_none<'a>(
 }
 
 /// Whether the value is an object of this kind, and has no member that is not known.
+#[tactic(auto, unfolding(crate::specs::Members::members_said))]
 pub(crate) fn check_members(
     alloc: Global,
     kind: Kind,
@@ -45,73 +108,9 @@ pub(crate) fn check_members(
     ensures { Gives (λ _. view value.now) result (members_said kind member (view value.now)) }
 {
     let members = value.as_object().ok_or(SettingsError::Shape(member))?;
-    if let Some(name) = unknown_in(kind, members) {
+    if let Some(name) = unknown_member(kind.names(), members) {
         let name = Text::from_str(alloc, name)?;
         return Err(SettingsError::Unknown(member, name));
     }
     Ok(())
-}
-
-/// The first member that is not known.
-fn unknown_in(kind: Kind, members: &Map<String, Value>) -> Option<&str>
-    ensures { option_map (λ s. s.now) result ≡ unknown_in_data kind (members_view members.now.entries) }
-{
-    for (name, _value) in members.iter() {
-        if !has_member(kind, name.as_str()) {
-            return Some(name.as_str());
-        }
-    }
-    None
-}
-
-fn has_member(kind: Kind, name: &str) -> bool
-    ensures { result ≡ has_member_of kind name.now }
-{
-    match kind {
-        Kind::Allocator => match name {
-            "listen"
-            | "lifecycle"
-            | "journal"
-            | "keep"
-            | "settle"
-            | "give_up"
-            | "connections"
-            | "report_rounds"
-            | "hosts"
-            | "tokens"
-            | "open_to_all"
-            | "allow_no_jobs"
-            | "collectors"
-            | "join_by_asking"
-            | "reach_changes"
-            | "rejoin"
-            | "collector_timeout"
-            | "handover"
-            | "acknowledge"
-            | "release_after"
-            | "spread"
-            | "fetch_timeout" => true,
-            _ => false,
-        },
-        Kind::Lifecycle => match name {
-            "reload" | "quit" => true,
-            _ => false,
-        },
-        Kind::Tokens => match name {
-            "admin" | "collectors" => true,
-            _ => false,
-        },
-        Kind::Collector => match name {
-            "name" | "reach" | "limits" => true,
-            _ => false,
-        },
-        Kind::JoiningPattern => match name {
-            "pattern" | "reach" | "limits" => true,
-            _ => false,
-        },
-        Kind::Spread => match name {
-            "slack" | "most_moves" => true,
-            _ => false,
-        },
-    }
 }

@@ -32,9 +32,9 @@ pub(crate) fn certificate_of(
     }
 }
 
-/// The spread of a plan.
+/// The spread of a plan: what an object says beside it, if it says that.
 #[tactic(auto, unfolding(crate::specs::Document::spread_in))]
-fn spread_of(alloc: Global, plan: Plan, value: &Value) -> Result<Option<Spread>, AllocError>
+pub fn spread_of(alloc: Global, plan: Plan, value: &Value) -> Result<Option<Spread>, AllocError>
     ensures { IfOk result (λ o. o ≡ spread_in plan (view value.now)) }
 {
     let Some(caps) = member(alloc, value, "caps")? else {

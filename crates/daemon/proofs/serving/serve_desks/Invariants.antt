@@ -5,5 +5,5 @@ use Rattle.daemon.proofs.serving.serve_desks.Given as goal
 abbrev pub invariant-loop-turn : goal.invariant-loop-turn
 invariant-loop-turn g l = record {
   later : IsLater l.fn.core l.core;
-  file : IsOfService g.F.Device.tells g.F.Write.contents l.core l.office.journal.file;
+  file : IsOfService g.F.Device.tells g.F.Write.contents l.core l.context.journal.file;
 }

@@ -13,4 +13,4 @@ ghosts-serve_desk-N-DeskName g a = record { «opening» = a.core; seats = 4; boo
 
 -- of its journal the device of the file keeps a beginning, where there is a file
 abbrev pub ghosts-serve_desk-N-JournalName : goal.ghosts-serve_desk-N-JournalName
-ghosts-serve_desk-N-JournalName g a = record { keeps = keeps_where g.F.Device.tells g.F.Device.kept a.core a.office.now.journal.file }
+ghosts-serve_desk-N-JournalName g a = record { keeps = keeps_where g.F.Device.tells g.F.Device.kept a.core a.context.now.journal.file }

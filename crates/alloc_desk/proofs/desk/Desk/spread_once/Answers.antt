@@ -3,8 +3,7 @@ use Rattle.price_certificate.specs.Problem.{Problem}
 use Rattle.fleet_events.specs.declared.event.Event.TheVariants.{Spread}
 use Rattle.alloc_desk.specs.Counts.{Counts}
 use Rattle.alloc_desk.specs.Reallocating.{EndsIn}
-use Rattle.alloc_desk.proofs.AttemptLemmas.{ends_in}
-use Rattle.alloc_desk.proofs.SpreadAttemptLemmas.{came_to_spread}
+use Rattle.alloc_desk.proofs.AttemptLemmas.{ends_in, came_to_spread}
 use Rattle.alloc_desk.proofs.desk.Desk.spread_once.Goals as goal
 
 pub spread_attempted-requires : goal.spread_attempted-requires

@@ -1,6 +1,6 @@
 use Rattle.std.proofs.Common.{sym, true, false}
 use Rattle.allocation_core.specs.State.{State}
-use Rattle.allocation_core.proofs.Admission.{in_open_round}
+use Rattle.allocation_core.proofs.AnswerLemmas.{in_open_round}
 use Rattle.allocation_core.proofs.machine.Core.round_refusal.Goals as goal
 
 pub returns-then-is_booked : goal.returns-then-is_booked

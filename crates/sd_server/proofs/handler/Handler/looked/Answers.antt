@@ -10,13 +10,13 @@ pub returns-in-Some-clause-says : goal.returns-in-Some-clause-says
 unfolding SaysHeld
 returns-in-Some-clause-says g c =
     let P : History → Type 0 = λ h. id_named h.state.fleet.collectors c.args.name.now ≡ Some c.in-Some.id in
-    inr (c.in-Some.id, some_then c.args.seen.now c.named.new.seen c.look.new.seen P c.named.ensures.moves c.look.ensures.moves (sym c.in-Some.ensures.read), inr (inr c.look.ensures.says))
+    inr (c.in-Some.id, some_then c.args.seen.now c.named.new.seen c.look.new.seen P c.named.ensures.moves c.look.ensures.moves (sym c.in-Some.ensures.read), c.look.ensures.says)
 
 pub returns-in-None-clause-says : goal.returns-in-None-clause-says
 unfolding SaysHeld
 returns-in-None-clause-says g c =
     let P : History → Type 0 = λ h. id_named h.state.fleet.collectors c.args.name.now ≡ None in
-    inl (some_now c.args.seen.now c.named.new.seen P c.named.ensures.moves (sym c.in-None.ensures.read), inr (inl c.nothing.ensures))
+    inl (some_now c.args.seen.now c.named.new.seen P c.named.ensures.moves (sym c.in-None.ensures.read), inr (inl refl))
 
 pub returns-in-None-2-clause-says : goal.returns-in-None-2-clause-says
 unfolding SaysHeld

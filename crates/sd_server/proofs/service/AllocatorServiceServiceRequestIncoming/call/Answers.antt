@@ -21,9 +21,9 @@ pub returns-in-Ok-clause-called : goal.returns-in-Ok-clause-called
 returns-in-Ok-clause-called g c =
     let handler = c.args.self.now.handler in
     let began = rw c.into_parts-head.ensures at c.in-Reads.ensures.begins in
-    let reads = rw c.in-Ok.ensures.0 at c.to.ensures.stage in (
+    let reads = rw c.in-Ok.ensures.same.0 at c.to.ensures.stage in (
       ap (λ (s : Span). s.opening) c.to.ensures.seen ∙ (c.begin.ensures.moves.opening ∙ c.seen-seen.ensures.opening),
-      reads_to g.N.JournalName.keeps handler.kept c.in-Ok.handler.kept (arc_value handler.pages) c.in-Reads.ask _ c.to.result.seen c.to.result.stage c.in-Ok.ensures.1 began.0 began.1 reads,
+      reads_to g.N.JournalName.keeps handler.kept c.in-Ok.handler.kept (arc_value handler.pages) c.in-Reads.ask _ c.to.result.seen c.to.result.stage c.in-Ok.ensures.same.1 began.0 began.1 reads,
     )
 
 pub returns-in-Err-clause-called : goal.returns-in-Err-clause-called

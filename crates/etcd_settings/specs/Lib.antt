@@ -1,0 +1,6 @@
+pub mod Lines
+pub mod Reading
+pub mod Urls
+pub mod Places
+pub mod Members
+pub mod Settings

@@ -1,0 +1,6 @@
+use Rattle.std.proofs.Common.{◌≡◌, map, take}
+use Rattle.page_rows.specs.Allocations.{move_row}
+use Rattle.page_rows.proofs.allocation_rows.move_rows.Given as goal
+
+abbrev pub invariant-loop-note : goal.invariant-loop-note
+invariant-loop-note l = l.rows ≡ map move_row (take l.note-index l.notes)

@@ -1,0 +1,3 @@
+pub mod Allocations
+pub mod Booked
+pub mod Meant

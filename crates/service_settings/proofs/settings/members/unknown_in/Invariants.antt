@@ -1,7 +1,0 @@
-use Rattle.std.proofs.Common.{◌≡◌}
-use Rattle.serde_json.specs.View.{members_view}
-use Rattle.service_settings.specs.Members.{unknown_in}
-use Rattle.service_settings.proofs.settings.members.unknown_in.Given as goal
-
-abbrev pub invariant-loop-name : goal.invariant-loop-name
-invariant-loop-name l = unknown_in l.kind (members_view l.name-iterator) ≡ unknown_in l.kind (members_view l.members.entries)
