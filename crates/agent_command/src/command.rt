@@ -1,31 +1,22 @@
 //! The command: what its configuration asks for, and what it tells of it.
-use crate::fault::Fault;
 use crate::places::{Places, places_at};
 use crate::running::run;
 use crate::state_file::memory_at;
 use agent_core::Memory;
+use command_faults::{Fault, status_of, tell};
 use event_loops::Runtime;
 use log::error;
 use log_queue::LogQueue;
 use logfmt::Logfmt;
 use scrape_client::Lookups;
 use service_settings::Address;
-use std::alloc::AllocGlobal;
 use std::fs::File;
 use std::io;
-use std::net::{Ipv4Addr, Net, SocketAddr, TcpListener, TcpStream};
+use std::net::{Ipv4Addr, SocketAddr, TcpListener};
 use std::process::ExitCode;
-use std::random::RandomSource;
 use std::rt::Files;
 use std::sync::Wait;
-use std::thread::Threads;
 use std::time::{Clock, Duration};
-
-/// The status where the agent is not told what to do.
-const UNREADABLE: u8 = 2;
-
-/// The status where the machine failed.
-const MACHINE: u8 = 3;
 
 /// How long the end waits for the last lines to be read, in milliseconds.
 const LAST_LINES: u64 = 1_000;
@@ -42,18 +33,7 @@ pub fn agent<R, Q>(
 ) -> ExitCode
 where
     R: Wait + Clock + Eprint + Copy,
-    Q: Wait
-        + Threads
-        + Clock
-        + Net<Listener = TcpListener, Stream = TcpStream>
-        + Files<File = File>
-        + RandomSource
-        + AllocGlobal
-        + Eprint
-        + Sync
-        + Send
-        + Copy
-        + Drop,
+    Q: Runtime + Files<File = File> + Eprint,
 {
     let ended = run_at(queued, lookups, config);
     let is_read = queue.close(rt, Duration::from_millis(LAST_LINES));
@@ -61,33 +41,11 @@ where
         Ok(()) => ExitCode::from(0),
         Err(fault) => {
             if is_read {
-                tell(rt, &fault);
+                tell(rt, "agent", &fault);
             }
             status_of(&fault)
         }
     }
-}
-
-/// Tells a fault on standard error.
-fn tell<R: Eprint + Clock + Copy>(rt: &R, fault: &Fault) {
-    match fault {
-        Fault::Told(line) => {
-            // Nobody can be told that a line was not written.
-            let _ = rt.eprintln(line.as_str());
-        }
-        Fault::Machine(error) => log_failure(rt, error),
-    }
-}
-
-fn status_of(fault: &Fault) -> ExitCode {
-    match fault {
-        Fault::Told(_) => ExitCode::from(UNREADABLE),
-        Fault::Machine(_) => ExitCode::from(MACHINE),
-    }
-}
-
-fn log_failure<R: Eprint + Clock + Copy>(rt: &R, error: &io::Error) {
-    error!(Logfmt(*rt); "the agent ended: {error}");
 }
 
 /// Runs the agent of a configuration.
@@ -110,17 +68,12 @@ where
 /// The listener, and what the state file says.
 fn begun<R>(rt: &R, places: &Places) -> Result<(TcpListener, Memory), Fault>
 where
-    R: Net<Listener = TcpListener, Stream = TcpStream>
-        + Files<File = File>
-        + Clock
-        + AllocGlobal
-        + Eprint
-        + Copy,
+    R: Runtime + Files<File = File> + Eprint,
 {
-    let here = socket_of(places.listen);
+    let here = socket_of(places.settings.listen);
     match TcpListener::bind(rt, here) {
         Ok(listener) => {
-            let memory = memory_at(rt, places.state.as_str())?;
+            let memory = memory_at(rt, places.settings.state.as_str())?;
             Ok((listener, memory))
         }
         Err(error) => {

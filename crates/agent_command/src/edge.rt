@@ -92,7 +92,11 @@ impl<R: Wait> Edge<'_, R> {
 
     /// Puts the lists into the store, up to the end of the lease that begins at a time.
     fn put(&self, agent: &Agent, at: u64) {
-        let until = self.places.lease.map(|lease| at.saturating_add(lease));
+        let until = self
+            .places
+            .settings
+            .lease
+            .map(|lease| at.saturating_add(lease));
         if let Ok(lists) = self.lists_of(agent) {
             self.store.put(&self.rt, until, lists);
         }
@@ -155,11 +159,11 @@ where
     }
 
     fn write(&mut self, text: &str) -> bool {
-        match write_state(&self.rt, self.places.state.as_str(), text) {
+        match write_state(&self.rt, self.places.settings.state.as_str(), text) {
             Ok(()) => true,
             Err(error) => {
                 count(&self.store.counts.state_failures, 1);
-                log_failure(&self.rt, self.places.state.as_str(), &error);
+                log_failure(&self.rt, self.places.settings.state.as_str(), &error);
                 false
             }
         }

@@ -172,7 +172,7 @@ where
 
     fn list_answer(&self, takes: bool, link: &JobLink) -> Option<Answer> {
         let base = self.places.allocator.base.as_str();
-        let name = self.places.name.as_str();
+        let name = self.places.settings.name.as_str();
         let path = list_path(self.alloc, base, link.link.as_str(), name, takes).ok()?;
         self.ask_allocator(&self.places.keys.allocator, Method::Get, path.as_str(), b"")
     }

@@ -5,7 +5,6 @@
 mod asking;
 mod command;
 mod edge;
-mod fault;
 mod hearing;
 mod jobs;
 mod places;

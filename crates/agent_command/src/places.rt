@@ -1,10 +1,9 @@
 //! What an agent was told, as it uses it.
-use crate::fault::Fault;
 use crate::tokens::{Keys, keys_at};
 use agent_settings::{Settings, SettingsError, join_text, read_settings};
+use command_faults::Fault;
 use http_get::{address_of, get_of_url, name_of};
 use lists::{Plain, Text};
-use service_settings::Address;
 use std::alloc::{AllocError, AllocGlobal, Global};
 use std::fs::File;
 use std::io;
@@ -26,12 +25,9 @@ pub(crate) struct Server {
 /// What an agent was told.
 #[derive(Drop)]
 pub(crate) struct Places {
-    pub(crate) name: Text,
+    pub(crate) settings: Settings,
     pub(crate) allocator: Server,
     pub(crate) prometheus: Server,
-    pub(crate) listen: Address,
-    pub(crate) state: Text,
-    pub(crate) lease: Option<u64>,
     pub(crate) keys: Keys,
     /// The body with which its collector joins, where it joins by itself.
     pub(crate) join: Option<Text>,
@@ -118,25 +114,13 @@ fn places_of(
     join: Option<Text>,
 ) -> Result<Places, Fault> {
     match servers_of(alloc, path, &settings) {
-        Ok((allocator, prometheus)) => {
-            let Settings {
-                name,
-                listen,
-                state,
-                lease,
-                ..
-            } = settings;
-            Ok(Places {
-                name,
-                allocator,
-                prometheus,
-                listen,
-                state,
-                lease,
-                keys,
-                join,
-            })
-        }
+        Ok((allocator, prometheus)) => Ok(Places {
+            settings,
+            allocator,
+            prometheus,
+            keys,
+            join,
+        }),
         Err(fault) => {
             drop((settings, keys, join));
             Err(fault)

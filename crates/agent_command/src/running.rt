@@ -4,7 +4,7 @@ use crate::places::Places;
 use agent_core::{Agent, Memory};
 use agent_lists::{ListStore, serve_lists};
 use agent_turns::turn;
-use event_loops::{Gate, Runtime, Times};
+use event_loops::{Gate, LoopRuntime, Runtime, Times};
 use log::{error, info};
 use logfmt::Logfmt;
 use scrape_client::Lookups;
@@ -48,7 +48,7 @@ where
         }
     };
     let is_over = AtomicBool::new(false);
-    let mut agent = Agent::new(rt.alloc(), memory, places.lease);
+    let mut agent = Agent::new(rt.alloc(), memory, places.settings.lease);
     log_address(rt, listener);
     let (served, ()) = thread::join(
         rt,
@@ -68,13 +68,7 @@ fn serve_then_stop<R>(
     is_over: &AtomicBool,
 ) -> io::Result<()>
 where
-    R: Wait
-        + Clock
-        + Net<Listener = TcpListener, Stream = TcpStream>
-        + RandomSource
-        + AllocGlobal
-        + Copy
-        + Drop,
+    R: LoopRuntime,
 {
     let served = serve_lists(rt, gate, listener, store);
     is_over.store(true, Ordering::SeqCst);

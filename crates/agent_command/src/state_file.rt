@@ -1,7 +1,7 @@
 //! The file in which is written down what was told.
-use crate::fault::Fault;
 use agent_core::Memory;
 use agent_documents::{DocumentError, read_memory};
+use command_faults::Fault;
 use std::alloc::{AllocError, AllocGlobal, Global};
 use std::fs::{File, OpenOptions};
 use std::io::{Read, Write};

@@ -1,6 +1,6 @@
 //! The tokens that an agent shows.
-use crate::fault::Fault;
 use agent_settings::Tokens;
+use command_faults::Fault;
 use lists::Text;
 use private_files::private_text;
 use std::alloc::{AllocError, AllocGlobal};

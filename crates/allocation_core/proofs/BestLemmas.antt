@@ -6,16 +6,14 @@ use Rattle.std.proofs.lemmas.List.{append-nil}
 use Rattle.std.proofs.lemmas.List.Elements.{All-nil, All-push}
 use Rattle.std.proofs.lemmas.Bool.{cases_lt}
 use Rattle.price_certificate.specs.Assignment.{IsOptimal}
-use Rattle.price_certificate.specs.Certificate.{IsCertified}
-use Rattle.price_certificate.specs.Faults.{NoFaultIsCertified}
-use Rattle.price_certificate.specs.Problem.{IsProblem, Problem}
 use Rattle.spread_certificate.specs.Within.{IsBestWithin as IsBestPlanWithin}
 use Rattle.spread_certificate.specs.declared.spread.Spread.{Spread as SpreadPlan}
 use Rattle.spread_certificate.proofs.JudgeLemmas.{even_spread, spread_fine}
 use Rattle.handover.specs.Handover.{last_of}
 use Rattle.fleet.specs.declared.job.JobSpec.{JobSpec}
-use Rattle.fleet_assignment.specs.Best.{AllocationsAreOnce, FeasibleAreCarriedOver, InstancesAreProblems, IsBest, IsOnce, OptimalIsBest, left_by, moved_by}
-use Rattle.fleet_assignment.specs.Within.{BestCoverMost, BestWithinIsCarriedOver, IsBestWithin}
+use Rattle.fleet_assignment.specs.Best.{IsBest, IsOnce, left_by, moved_by}
+use Rattle.fleet_assignment.specs.Laws.{PlanLaws}
+use Rattle.fleet_assignment.specs.Within.{BestCoverMost, IsBestWithin}
 use Rattle.fleet_events.specs.declared.answer.Answer.TheVariants.{Published}
 use Rattle.fleet_events.specs.declared.event.Event.{Event}
 use Rattle.fleet_events.specs.declared.event.Event.TheVariants.{Install, Spread}
@@ -26,16 +24,6 @@ use Rattle.allocation_core.specs.Kept.{IsKept}
 use Rattle.allocation_core.specs.Best.{AllBest, AlwaysBest, AlwaysMost, InstalledAreBest, PublishedCoverMost, WasBest, WasBestWithin, WasPublished, is_spread}
 use Rattle.allocation_core.proofs.StepLemmas.{step_kept, start_kept, publishes, IsFineInstall, IsFineSpread, Publishes}
 use Rattle.allocation_core.proofs.RunLemmas.{state_of_append}
-
--- what is known of certificates, instances and allocations
-pub record Laws : Type 0 where
-  pub optimal : (p : Problem) (pairs : List (ℕ × ℕ)) (item_prices bin_prices : List ℕ) → IsProblem p → IsCertified p pairs item_prices bin_prices → IsOptimal p pairs
-  pub faultless : NoFaultIsCertified
-  pub problems : InstancesAreProblems
-  pub carried : FeasibleAreCarriedOver
-  pub best : OptimalIsBest
-  pub within : BestWithinIsCarriedOver
-  pub once : AllocationsAreOnce
 
 -- what is published stays
 pub record Grows (old new : List (List (ℕ × ℕ))) : Type 0 where
@@ -67,7 +55,7 @@ get_or-last (y ∷ xs) x zero e = absurd (omega arith)
 get_or-last (y ∷ xs) x (suc k) e = get_or-last xs x k (omega arith)
 
 -- no target stands twice in what is published
-pub step_once : Laws → (m : State) (e : Event) → All IsOnce m.published → All IsOnce (state_after m e).published
+pub step_once : PlanLaws → (m : State) (e : Event) → All IsOnce m.published → All IsOnce (state_after m e).published
 step_once laws m e once = elim (publishes m e) [
   | inl same ↦ subst (λ (ps : List (List (ℕ × ℕ))). All IsOnce ps) (sym same) once
   | inr p ↦ subst (λ (ps : List (List (ℕ × ℕ))). All IsOnce ps) (sym p.grown) (All-push IsOnce m.published (allocation_at m p.pairs) once (laws.once m.fleet p.pairs))
@@ -103,7 +91,7 @@ is_here m e es k low high p =
 
 -- an Install published it
 install_best :
-    Laws → (m : State) (e : Event) (es : List Event) (k : ℕ) (plan pairs : List (ℕ × ℕ)) → IsKept m → All IsOnce m.published → IsHere m e k plan pairs → IsFineInstall m e plan → WasBest m (e ∷ es) k pairs
+    PlanLaws → (m : State) (e : Event) (es : List Event) (k : ℕ) (plan pairs : List (ℕ × ℕ)) → IsKept m → All IsOnce m.published → IsHere m e k plan pairs → IsFineInstall m e plan → WasBest m (e ∷ es) k pairs
 install_best laws m e es k plan pairs kept once here p =
     let problem = laws.problems m.fleet (current_pairs m) kept.fleet in
     let optimal_plan : IsOptimal (instance_at m) p.plan.pairs =
@@ -129,7 +117,7 @@ install_best laws m e es k plan pairs kept once here p =
 
 -- a Spread published it
 spread_best :
-    Laws → (m : State) (e : Event) (es : List Event) (k : ℕ) (plan pairs : List (ℕ × ℕ)) → IsKept m → All IsOnce m.published → IsHere m e k plan pairs → IsFineSpread m e plan → WasBestWithin m (e ∷ es) k pairs
+    PlanLaws → (m : State) (e : Event) (es : List Event) (k : ℕ) (plan pairs : List (ℕ × ℕ)) → IsKept m → All IsOnce m.published → IsHere m e k plan pairs → IsFineSpread m e plan → WasBestWithin m (e ∷ es) k pairs
 spread_best laws m e es k plan pairs kept once here p =
     let problem = laws.problems m.fleet (current_pairs m) kept.fleet in
     let caps : List ℕ = p.spread.caps in
@@ -155,7 +143,7 @@ spread_best laws m e es k plan pairs kept once here p =
     }
 
 here_best :
-    Laws → (m : State) (e : Event) (es : List Event) (k : ℕ) → IsKept m → All IsOnce m.published → length m.published ≤ k → k < length (state_after m e).published → Publishes m e → WasPublished m (e ∷ es) k (get_or (state_of (state_after m e) es).published k [])
+    PlanLaws → (m : State) (e : Event) (es : List Event) (k : ℕ) → IsKept m → All IsOnce m.published → length m.published ≤ k → k < length (state_after m e).published → Publishes m e → WasPublished m (e ∷ es) k (get_or (state_of (state_after m e) es).published k [])
 here_best laws m e es k kept once low high p =
     let pairs : List (ℕ × ℕ) = get_or (state_of (state_after m e) es).published k [] in
     let here : IsHere m e k p.pairs pairs = is_here m e es k low high p in
@@ -200,7 +188,7 @@ after_one m e es k pairs (inr was) =
       moves = was.moves;
     })
 
-pub run_best : Laws → (m : State) (es : List Event) (k : ℕ) → IsKept m → All IsOnce m.published → length m.published ≤ k → k < length (state_of m es).published → WasPublished m es k (get_or (state_of m es).published k [])
+pub run_best : PlanLaws → (m : State) (es : List Event) (k : ℕ) → IsKept m → All IsOnce m.published → length m.published ≤ k → k < length (state_of m es).published → WasPublished m es k (get_or (state_of m es).published k [])
 run_best laws m [] k kept once low high = absurd (omega arith)
 run_best laws m (e ∷ es) k kept once low high = elim (cases_lt k (length (state_after m e).published)) [
   | inl l ↦ elim (publishes m e) [
@@ -210,7 +198,7 @@ run_best laws m (e ∷ es) k kept once low high = elim (cases_lt k (length (stat
   | inr g ↦ after_one m e es k (get_or (state_of (state_after m e) es).published k []) (run_best laws (state_after m e) es k (step_kept m e kept) (step_once laws m e once) g high)
 ]
 
-pub always_best : Laws → AlwaysBest
+pub always_best : PlanLaws → AlwaysBest
 always_best laws jobs report_rounds events place less = run_best laws (first_state jobs report_rounds) events place (start_kept jobs report_rounds) (All-nil IsOnce) (omega arith) less
 
 -- with more events behind

@@ -9,11 +9,8 @@ ghost use Rattle.allocation_core.specs.Kept.{AlwaysKept};
 ghost use Rattle.allocation_core.specs.Lists.{AlwaysDisjoint, AlwaysWhole};
 ghost use Rattle.fleet_events.specs.declared.event.Event.{Event};
 
-use fleet_assignment::{
-    allocations_are_once, best_cover_most, best_within_is_carried_over, feasible_are_carried_over,
-    instances_are_problems, optimal_is_best,
-};
-use price_certificate::{certified_is_optimal, no_fault_is_certified};
+use fleet_assignment::{best_cover_most, instances_are_problems, plan_laws};
+use price_certificate::no_fault_is_certified;
 use spread_certificate::no_best_fault_is_certified;
 
 /// Over every list of events, each published allocation is the best of the moment just before its Install, or the best of the
@@ -25,13 +22,7 @@ use spread_certificate::no_best_fault_is_certified;
 pub fn published_are_best()
     ensures { AlwaysBest }
 {
-    instances_are_problems();
-    feasible_are_carried_over();
-    optimal_is_best();
-    best_within_is_carried_over();
-    allocations_are_once();
-    certified_is_optimal();
-    no_fault_is_certified();
+    plan_laws();
 }
 
 /// Over every list of events without a Spread, each published allocation is the best of the moment just before its Install.

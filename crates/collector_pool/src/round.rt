@@ -17,12 +17,12 @@ use std::thread::Threads;
 /// One turn of each worker, each on a thread of its own, or one after the other where no thread can be started. It takes no
 /// memory of its own.
 pub fn run_round<
+    R: Threads + Wait + Sync,
     L: Ledger + Send + Sync,
     B: Ledger + Send + Sync,
     N: DeskName + Send + Sync,
     S: Scrape + Send,
     G: Gate + Sync,
-    R: Threads + Wait + Sync,
 >(
     desk: &Desk<L, B, N>,
     rt: &R,

@@ -1,7 +1,7 @@
 //! What is wrong with the reach rules that a collector joins with.
 use crate::collectors::Entry;
 use crate::rules::is_label;
-use json_values::Spelled;
+use json_values::FromJson;
 use reach_rules::ReachRule;
 use serde_json::Value;
 use std::alloc::{AllocError, Global};
@@ -28,7 +28,7 @@ pub(crate) fn reach_fault(
 }
 
 fn is_rule(alloc: Global, rule: &Value) -> Result<bool, AllocError> {
-    let read: Option<ReachRule> = Spelled::read(alloc, rule)?;
+    let read: Option<ReachRule> = FromJson::read(alloc, rule)?;
     Ok(read.is_some())
 }
 

@@ -23,7 +23,7 @@ use Rattle.served_lists.specs.Served.{slot_of, tabulated}
 use Rattle.allocation_core.specs.State.{State, current_pairs, restored}
 use Rattle.core_history.specs.Parts.{fleet_data, fleet_parts_in, parts_of}
 use Rattle.core_history.specs.declared.error.HistoryError.{HistoryError}
-use Rattle.core_history.specs.declared.error.HistoryError.TheVariants.{Shape, BadJobs, BadTargets, BadLists, BadCollectors, RepeatedTarget, BadAllocation, BadRound, BadServed, Memory}
+use Rattle.core_history.specs.declared.error.HistoryError.TheVariants.{Shape, Fleet, BadAllocation, BadRound, BadServed, Memory}
 use Rattle.core_history.specs.declared.history.Certificate.{Certificate}
 use Rattle.core_history.specs.declared.history.History.{History}
 
@@ -53,11 +53,11 @@ parts_in d =
 -- ---- the state
 
 abbrev pub fleet_error : PartsError → HistoryError
-fleet_error fleet.BadJobs = BadJobs
-fleet_error fleet.BadTargets = BadTargets
-fleet_error fleet.BadLists = BadLists
-fleet_error fleet.BadCollectors = BadCollectors
-fleet_error fleet.RepeatedTarget = RepeatedTarget
+fleet_error fleet.BadJobs = Fleet fleet.BadJobs
+fleet_error fleet.BadTargets = Fleet fleet.BadTargets
+fleet_error fleet.BadLists = Fleet fleet.BadLists
+fleet_error fleet.BadCollectors = Fleet fleet.BadCollectors
+fleet_error fleet.RepeatedTarget = Fleet fleet.RepeatedTarget
 fleet_error fleet.Memory = Memory
 
 -- the fleet's first fault has this name

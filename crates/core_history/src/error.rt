@@ -9,21 +9,9 @@ pub enum HistoryError {
     /// It is no JSON of a history's shape.
     #[error("no JSON of a history's shape")]
     Shape,
-    /// A job's name is repeated or empty, or there are more than 1,024 jobs.
-    #[error("a job's name is repeated or empty, or there are more than 1,024 jobs")]
-    BadJobs,
-    /// There are more than 65,535 targets, or one is of no job.
-    #[error("there are more than 65,535 targets, or one is of no job")]
-    BadTargets,
-    /// A job has not a list for each source, a list does not ascend or names another job's target, or more than 16,384 are live.
-    #[error("the lists are not those of the jobs")]
-    BadLists,
-    /// There are too many collectors, a name is repeated, or numbers do not ascend or were not given.
-    #[error("the collectors are none of a fleet")]
-    BadCollectors,
-    /// A target is there twice.
-    #[error("a target is there twice")]
-    RepeatedTarget,
+    /// The fleet's parts make none.
+    #[error("{0}")]
+    Fleet(PartsError),
     /// The allocation's targets do not ascend, or it names a target that is not known or a collector that is not live.
     #[error("the allocation is none of the fleet")]
     BadAllocation,
@@ -56,11 +44,11 @@ impl From<PartsError> for HistoryError {
 
     fn from(fault: PartsError) -> HistoryError {
         match fault {
-            PartsError::BadJobs => HistoryError::BadJobs,
-            PartsError::BadTargets => HistoryError::BadTargets,
-            PartsError::BadLists => HistoryError::BadLists,
-            PartsError::BadCollectors => HistoryError::BadCollectors,
-            PartsError::RepeatedTarget => HistoryError::RepeatedTarget,
+            PartsError::BadJobs
+            | PartsError::BadTargets
+            | PartsError::BadLists
+            | PartsError::BadCollectors
+            | PartsError::RepeatedTarget => HistoryError::Fleet(fault),
             PartsError::Memory => HistoryError::Memory,
         }
     }

@@ -13,7 +13,7 @@ use crate::history::{Certificate, History};
 use crate::restoring::restored;
 use allocation_core::Core;
 use fleet::FleetParts;
-use json_values::{Spelled, member, parse};
+use json_values::{FromJson, member, parse};
 use lists::List;
 use price_certificate::{Plan, instance_of};
 use serde_json::Value;
@@ -101,7 +101,7 @@ fn served_or_none(alloc: Global, value: &Value) -> Result<Option<Option<List<u32
     let Some(slots) = value.get("served") else {
         return Ok(Some(None));
     };
-    match Spelled::read(alloc, slots)? {
+    match FromJson::read(alloc, slots)? {
         Some(slots) => Ok(Some(Some(slots))),
         None => Ok(None),
     }

@@ -4,7 +4,7 @@ ghost use Rattle.serde_json.specs.View.{view};
 ghost use Rattle.core_history.specs.Rounds.{report_rounds_in as rounds_said};
 
 use allocation_core::ReportRounds;
-use json_values::Spelled;
+use json_values::FromJson;
 use serde_json::Value;
 use std::alloc::{AllocError, Global};
 
@@ -18,7 +18,7 @@ pub fn read_report_rounds(
     let Some(said) = document.get("report_rounds") else {
         return Ok(Some(ReportRounds::least()));
     };
-    match Spelled::read(alloc, said)? {
+    match FromJson::read(alloc, said)? {
         Some(count) => Ok(ReportRounds::read(count)),
         None => Ok(None),
     }

@@ -7,14 +7,14 @@ ghost use Rattle.sd_server.specs.Named.{AreNamed};
 ghost use Rattle.service_tasks.specs.Later.{IsLater};
 
 use crate::running::Served;
-use alloc_desk::{Closed, Desk, Log, Pass, shared_desk};
+use alloc_desk::{Closed, Desk, Log, Pass};
 use allocation_core::Core;
 use durable_journal::Device;
 use event_loops::{Gate, Runtime, Times};
 use file_configs::ReadFiles;
 use http_get::FetchSeveral;
 use kept_journal::{DeskJournal, JournalName, Kept};
-use sd_server::{Handler, ListTexts, are_named};
+use sd_server::{Handler, HandlerParts, ListTexts, are_named};
 use service_state::{ConfigPages, ServiceState};
 use service_tasks::{
     Configuration, DeskPasses, Ending, Journal, Service, ServiceContext, Shared, kept_of,
@@ -200,8 +200,8 @@ fn handler_of<R: Wait + Copy, L: Ledger, B: Ledger, N: JournalName, S, F: Device
     requires { AreNamed (arc_value context.now.pages).names N.opening.fleet.jobs }
     ensures { IfOk result (λ h. h.kept ≡ None → journal.now ≡ None) }
 {
-    match Shown::of(rt, alloc, context, journal) {
-        Ok(shown) => handler_with(rt, alloc, context, shown, desk, asked),
+    match parts_of(rt, alloc, context, journal) {
+        Ok(parts) => Handler::over(*rt, alloc, parts, desk, asked),
         Err(error) => {
             drop((desk, asked));
             Err(error)
@@ -209,77 +209,28 @@ fn handler_of<R: Wait + Copy, L: Ledger, B: Ledger, N: JournalName, S, F: Device
     }
 }
 
-/// What a handler shows beside its desk.
-#[derive(Drop)]
-struct Shown<N: JournalName> {
-    kept: Option<Arc<Kept<N>>>,
-    texts: Arc<ListTexts<N>>,
-    pages: Arc<ConfigPages>,
-    state: Arc<ServiceState>,
-}
-
-impl<N: JournalName> Shown<N> {
-    fn of<R: Wait, S, F: Device, C>(
-        rt: &R,
-        alloc: Global,
-        context: &ServiceContext<S, F, C>,
-        journal: &Option<DeskJournal<F, N>>,
-    ) -> Result<Shown<N>, AllocError>
-        ensures kept { IfOk result (λ s. s.kept ≡ None → journal.now ≡ None) }
-        ensures pages { IfOk result (λ s. arc_value s.pages ≡ arc_value context.now.pages) }
-    {
-        let kept = kept_of(rt, alloc, journal)?;
-        let texts = shared(alloc, ListTexts::new(alloc))?;
-        let pages = Arc::try_clone(&context.pages)?;
-        let state = Arc::try_clone(&context.state)?;
-        Ok(Shown {
-            kept,
-            texts,
-            pages,
-            state,
-        })
-    }
-}
-
-fn handler_with<R: Copy, L: Ledger, B: Ledger, N: JournalName, S, F, C>(
+fn parts_of<R: Wait, S, F: Device, C, N: JournalName>(
     rt: &R,
     alloc: Global,
     context: &ServiceContext<S, F, C>,
-    shown: Shown<N>,
-    desk: Desk<L, B, N>,
-    asked: Pass<L, B, N>,
-) -> Result<Handler<R, L, B, N>, AllocError>
-    requires { AreNamed (arc_value shown.pages).names N.opening.fleet.jobs }
-    ensures { IfOk result (λ h. h.kept ≡ shown.kept) }
+    journal: &Option<DeskJournal<F, N>>,
+) -> Result<HandlerParts<N>, AllocError>
+    ensures kept { IfOk result (λ p. p.kept ≡ None → journal.now ≡ None) }
+    ensures pages { IfOk result (λ p. arc_value p.pages ≡ arc_value context.now.pages) }
 {
-    let doors = match Arc::try_clone(&context.doors) {
-        Ok(doors) => doors,
-        Err(error) => {
-            drop((shown, desk, asked));
-            return Err(error);
-        }
-    };
-    match shared_desk(alloc, desk, asked) {
-        Ok((desk, pass)) => Ok(Handler {
-            rt: *rt,
-            alloc,
-            desk,
-            pass,
-            pages: shown.pages,
-            state: shown.state,
-            kept: shown.kept,
-            texts: shown.texts,
-            doors,
-            epoch: context.journal.epoch,
-            peer: None,
-            time: None,
-            gate: None,
-        }),
-        Err(error) => {
-            drop((shown, doors));
-            Err(error)
-        }
-    }
+    let kept = kept_of(rt, alloc, journal)?;
+    let texts = shared(alloc, ListTexts::new(alloc))?;
+    let pages = Arc::try_clone(&context.pages)?;
+    let state = Arc::try_clone(&context.state)?;
+    let doors = Arc::try_clone(&context.doors)?;
+    Ok(HandlerParts {
+        pages,
+        state,
+        kept,
+        epoch: context.journal.epoch,
+        texts,
+        doors,
+    })
 }
 
 /// The gate of a server with as many connections as the service may have.

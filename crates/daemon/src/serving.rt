@@ -88,7 +88,7 @@ where
             return Ok(later);
         }
         context.remember_names(rt, alloc);
-        core = continued(rt, alloc, service, context, archive, later)?;
+        core = continued(rt, alloc, later, service, context, archive)?;
     }
     unreachable!()
 }

@@ -1,5 +1,5 @@
 //! Values that are read, and written again.
-use json_values::{Spelled, array_of, member, parse, text_of};
+use json_values::{FromJson, Spelled, array_of, member, parse, text_of};
 use lists::{List, Text};
 use serde_json::Value;
 use std::alloc::{AllocError, Global};
@@ -39,7 +39,7 @@ pub(crate) fn texts(alloc: Global, text: &str) -> Result<String, AllocError> {
 }
 
 fn written_texts(alloc: Global, value: &Value) -> Result<String, AllocError> {
-    let found: Option<List<Text>> = Spelled::read(alloc, value)?;
+    let found: Option<List<Text>> = FromJson::read(alloc, value)?;
     let line = written(alloc, &found);
     drop(found);
     line

@@ -6,8 +6,7 @@ ghost use Rattle.etcd_answers.specs.Verdicts.{found_at, found_by};
 
 use crate::found::Found;
 use crate::response::Response;
-use crate::told::list_of;
-use json_values::parse;
+use json_values::{list_of, parse};
 use lists::List;
 use serde_json::Value;
 use std::alloc::{AllocError, Global};

@@ -4,9 +4,9 @@ ghost use Rattle.serde_json.specs.View.{view};
 ghost use Rattle.etcd_answers.specs.Answers.{base64_said, bytes_in, bytes_of, found_in, found_since};
 
 use crate::numbers::long_in;
-use crate::told::Tells;
 use base64::DecodeAllocError;
 use base64::engine::general_purpose::STANDARD;
+use json_values::FromJson;
 use lists::List;
 use serde_json::Value;
 use std::alloc::{AllocError, Global};
@@ -20,8 +20,8 @@ pub struct Found {
     pub value: List<u8>,
 }
 
-impl Tells for Found {
-    ghost told = { found_in };
+impl FromJson for Found {
+    ghost spelled = { found_in };
 
     fn read(alloc: Global, value: &Value) -> Result<Option<Found>, AllocError> {
         found_in(alloc, value)

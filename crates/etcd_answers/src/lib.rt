@@ -10,7 +10,6 @@ mod laws;
 mod leases;
 mod numbers;
 mod response;
-mod told;
 mod verdict;
 
 pub use answer::{Answer, Told, read_answer};

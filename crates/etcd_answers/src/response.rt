@@ -4,7 +4,7 @@ ghost use Rattle.serde_json.specs.View.{view};
 ghost use Rattle.etcd_answers.specs.Answers.{found_of, range_in, response_in};
 
 use crate::found::Found;
-use crate::told::{Tells, list_of};
+use json_values::{FromJson, list_of};
 use lists::List;
 use serde_json::Value;
 use std::alloc::{AllocError, Global};
@@ -15,8 +15,8 @@ pub struct Response {
     pub found: List<Found>,
 }
 
-impl Tells for Response {
-    ghost told = { response_in };
+impl FromJson for Response {
+    ghost spelled = { response_in };
 
     fn read(alloc: Global, value: &Value) -> Result<Option<Response>, AllocError> {
         response_in(alloc, value)

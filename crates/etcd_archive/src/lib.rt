@@ -7,4 +7,4 @@ mod opening;
 
 pub use archive::EtcdArchive;
 pub use device::EtcdDevice;
-pub use opening::{Began, open_allocator};
+pub use opening::{Began, NotOpened, open_allocator};

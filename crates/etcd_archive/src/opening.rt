@@ -6,14 +6,14 @@ ghost use Rattle.etcd_archive.specs.Opening.{IsOpenedFrom};
 
 use crate::archive::EtcdArchive;
 use crate::device::EtcdDevice;
-use allocation_core::Core;
-use durable_journal::{Archive, Begun, Device, FirstLine};
+use command_faults::Fault;
+use durable_journal::{Archive, Device, FirstLine};
 use etcd_journal::EtcdJournal;
 use etcd_turns::Etcd;
-use journal_files::{Fault, Journal, Next, Opened, Past, Start, Wanted, read_journal};
-use log::info;
-use logfmt::Logfmt;
-use sealed_lines::Chain;
+use journal_files::{
+    Journal, Next, Opened, Start, Wanted, Written, log_read, log_replaced, opened_with,
+    read_journal,
+};
 use std::alloc::{AllocError, Global};
 use std::io;
 use std::io::Write;
@@ -27,12 +27,12 @@ pub struct Began<R, E> {
     pub archive: EtcdArchive<R, E>,
 }
 
-/// What is written from now on.
+/// Why there is no allocator.
 #[derive(Drop)]
-struct Written<F> {
-    file: F,
-    bytes: u64,
-    chain: Option<Chain>,
+pub enum NotOpened {
+    /// Another instance leads, or may.
+    Deposed,
+    Fault(Fault),
 }
 
 /// The allocator that a journal which was opened in etcd leads to, under what is wanted. Where it has other jobs than those it is renewed under these, and another
@@ -43,7 +43,7 @@ pub fn open_allocator<R, E>(
     name: &str,
     stood: etcd_journal::Opened<E>,
     wanted: Wanted<'_>,
-) -> Result<Began<R, E>, Fault>
+) -> Result<Began<R, E>, NotOpened>
 where
     R: Wait + Clock + Eprint + Copy + Drop,
     E: Etcd + Drop,
@@ -60,7 +60,7 @@ where
             lines.as_slice(),
             wanted,
         ),
-        Err(error) => Err(error.into()),
+        Err(error) => Err(NotOpened::Fault(error.into())),
     }
 }
 
@@ -90,7 +90,7 @@ fn open_in<R, E>(
     device: EtcdDevice<R, E>,
     lines: &[u8],
     wanted: Wanted<'_>,
-) -> Result<Began<R, E>, Fault>
+) -> Result<Began<R, E>, NotOpened>
 where
     R: Wait + Clock + Eprint + Copy + Drop,
     E: Etcd + Drop,
@@ -102,15 +102,18 @@ where
         Err(fault) => {
             let is_over = archive.is_over();
             drop(archive);
-            Err(if is_over { deposed(fault) } else { fault })
+            Err(not_opened(is_over, fault))
         }
     }
 }
 
-/// What ended an instance that leads no more.
-fn deposed(fault: Fault) -> Fault {
-    drop(fault);
-    Fault::Deposed
+/// What ended an instance that leads no more is of no account.
+fn not_opened(is_over: bool, fault: Fault) -> NotOpened {
+    if is_over {
+        drop(fault);
+        return NotOpened::Deposed;
+    }
+    NotOpened::Fault(fault)
 }
 
 /// The allocator that the lines of a journal lead to, whose file this is, and whose next one is begun in this archive.
@@ -151,26 +154,7 @@ fn begin<R: Clock + Eprint + Copy, F: Device + Drop, A: Archive<F>>(
     } = start;
     let written = next_file(rt, archive, file, &journal);
     drop(journal);
-    match written {
-        Ok(written) => Ok(opened_with(core, past, written)),
-        Err(error) => {
-            drop((core, past));
-            Err(Fault::Machine(error))
-        }
-    }
-}
-
-fn opened_with<F>(core: Core, past: Past, written: Written<F>) -> Opened<F>
-    ensures { result ≡ record { core = core; epoch = past.epoch; names = past.names; file = Some written.file; bytes = written.bytes; chain = written.chain } }
-{
-    Opened {
-        core,
-        epoch: past.epoch,
-        names: past.names,
-        file: Some(written.file),
-        bytes: written.bytes,
-        chain: written.chain,
-    }
+    opened_with(core, past, written)
 }
 
 /// The file that is written from now on, of a journal that was read.
@@ -207,29 +191,10 @@ fn begun<F: Device + Drop, A: Archive<F>>(
 ) -> io::Result<Written<F>>
     ensures { IfOk result (λ w. IsBegunWith F.tells F.contents first.now w.file w.bytes w.chain) }
 {
-    let begun = archive.begin(first);
+    let next = archive.begin(first);
     drop(file);
-    match begun {
-        Ok(begun) => Ok(begun_file(begun)),
+    match next {
+        Ok(next) => Ok(Written::begun(next)),
         Err(error) => Err(error),
     }
-}
-
-/// What is written from now on of a journal that has just begun.
-fn begun_file<F>(begun: Begun<F>) -> Written<F>
-    ensures { result ≡ record { file = begun.file; bytes = begun.bytes; chain = Some begun.chain } }
-{
-    Written {
-        file: begun.file,
-        bytes: begun.bytes,
-        chain: Some(begun.chain),
-    }
-}
-
-fn log_read<R: Clock + Eprint + Copy>(rt: &R, events: u64) {
-    info!(Logfmt(*rt); events; "the journal is read");
-}
-
-fn log_replaced<R: Clock + Eprint + Copy>(rt: &R) {
-    info!(Logfmt(*rt); "the configuration has other jobs or report_rounds than the journal: the allocator is renewed");
 }

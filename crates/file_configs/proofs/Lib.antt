@@ -1,5 +1,4 @@
 mod Behind
 mod Folders
 mod InOrder
-mod Others
 mod Prefixing

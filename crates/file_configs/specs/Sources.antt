@@ -4,6 +4,7 @@
 use Rattle.std.specs.Prelude.{ℕ, List, [], ◌∷◌, ◌++◌, Bool, Option, option_and_then, unwrap_or, codes, if◌then◌else◌}
 use Rattle.std.specs.Option.{option_map_or}
 use Rattle.std.specs.Str.{bytes_eq}
+use Rattle.json_values.specs.Members.{members_but}
 use Rattle.serde_json.specs.Data.{Data, string, array, object, Items, no_items, item, Members, no_members, member, put}
 use Rattle.serde_json.specs.Find.{get, as_str, as_array, as_object}
 
@@ -38,12 +39,7 @@ abbrev pub is_files : List ℕ → Bool
 is_files name = bytes_eq name (codes "file_sd_configs")
 
 abbrev pub others_of : Members → Members
-others_of no_members = no_members
-others_of (member name d ms) = if is_files name then others_of ms else member name d (others_of ms)
-
--- the members, with this one at its name unless it is that of the files
-abbrev pub with_other : List ℕ → Data → Members → Members
-with_other name d ms = if is_files name then ms else put name d ms
+others_of = members_but is_files
 
 abbrev pub members_with : Data → Items → Members → Members
 members_with d entries ms =

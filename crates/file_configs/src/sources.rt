@@ -4,8 +4,9 @@ ghost use Rattle.std.specs.Option.{option_map_or};
 ghost use Rattle.serde_json.specs.Find.{get, as_str};
 ghost use Rattle.serde_json.specs.Data.{string};
 ghost use Rattle.serde_json.specs.View.{view, items_view, members_view};
-ghost use Rattle.file_configs.specs.Sources.{items_in as items_in_data, lines_from, url_of as url_of_data, source_of as source_of_data, with_entries as with_entries_data, others_of as others_of_data, with_other, members_with as members_with_data, with_entries_of, job_with as job_with_data, jobs_with as jobs_with_data, with_jobs as with_jobs_data, put_jobs as put_jobs_data, document_with};
+ghost use Rattle.file_configs.specs.Sources.{items_in as items_in_data, lines_from, url_of as url_of_data, source_of as source_of_data, with_entries as with_entries_data, is_files, others_of as others_of_data, members_with as members_with_data, with_entries_of, job_with as job_with_data, jobs_with as jobs_with_data, with_jobs as with_jobs_data, put_jobs as put_jobs_data, document_with};
 
+use json_values::{LeftOut, members_but};
 use serde_json::{Map, Value, put};
 use std::alloc::{AllocError, Global};
 
@@ -98,30 +99,22 @@ fn items_in(found: Option<&Value>) -> &[Value]
     }
 }
 
+/// The member of the files.
+struct FileConfigs;
+
+impl LeftOut for FileConfigs {
+    ghost is_left_out = { is_files };
+
+    fn is_left_out(name: &str) -> bool {
+        name == "file_sd_configs"
+    }
+}
+
 /// All members but that of the files.
 fn others_of(alloc: Global, members: &Map<String, Value>) -> Result<Map<String, Value>, AllocError>
     ensures { IfOk result (λ m. members_view m.entries ≡ others_of_data (members_view members.now.entries)) }
 {
-    let mut others = Map::new(alloc);
-    for (name, member) in members.iter() {
-        keep(alloc, &mut others, name.as_str(), member)?;
-    }
-    Ok(others)
-}
-
-fn keep(
-    alloc: Global,
-    others: &mut Map<String, Value>,
-    name: &str,
-    member: &Value,
-) -> Result<(), AllocError>
-    ensures { OnOk result (members_view others.new.entries ≡ with_other name.now (view member.now) (members_view others.old.entries)) }
-{
-    if name == "file_sd_configs" {
-        return Ok(());
-    }
-    let copy = member.clone()?;
-    put(others, alloc, name, copy)
+    members_but::<FileConfigs>(alloc, members)
 }
 
 /// The sources that are listed, and those of the entries behind them.

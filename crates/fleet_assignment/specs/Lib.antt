@@ -2,5 +2,6 @@ pub mod Allocation
 pub mod Beside
 pub mod Best
 pub mod Instance
+pub mod Laws
 pub mod Tables
 pub mod Within

@@ -1,6 +1,9 @@
 //! What a plan and its allocation have to do with one another.
 ghost use Rattle.fleet_assignment.specs.Best.{InstancesAreProblems, FeasibleAreCarriedOver, OptimalIsBest, AllocationsAreOnce};
+ghost use Rattle.fleet_assignment.specs.Laws.{PlanLaws};
 ghost use Rattle.fleet_assignment.specs.Within.{BestCoverMost, BestWithinIsCarriedOver};
+
+use price_certificate::{certified_is_optimal, no_fault_is_certified};
 
 /// The instance of a fleet and a preceding allocation is one.
 pub fn instances_are_problems()
@@ -33,3 +36,16 @@ pub fn best_cover_most()
 pub fn allocations_are_once()
     ensures { AllocationsAreOnce }
 {}
+
+/// What is known of certificates, instances and allocations: all that a publication rests on.
+pub fn plan_laws()
+    ensures { PlanLaws }
+{
+    certified_is_optimal();
+    no_fault_is_certified();
+    instances_are_problems();
+    feasible_are_carried_over();
+    optimal_is_best();
+    best_within_is_carried_over();
+    allocations_are_once();
+}

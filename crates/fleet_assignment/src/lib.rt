@@ -14,5 +14,5 @@ pub use allocation::build_allocation;
 pub use instance::build_instance;
 pub use laws::{
     allocations_are_once, best_cover_most, best_within_is_carried_over, feasible_are_carried_over,
-    instances_are_problems, optimal_is_best,
+    instances_are_problems, optimal_is_best, plan_laws,
 };

@@ -9,7 +9,7 @@ use crate::event::Event;
 use crate::report::Report;
 use crate::spreads::read_spread;
 use crate::target::read_targets;
-use json_values::{Spelled, member, number, parse};
+use json_values::{FromJson, member, number, parse};
 use label_sets::Target;
 use lists::{List, Text};
 use price_certificate::Plan;
@@ -113,7 +113,7 @@ fn read_limits_or_none(alloc: Global, value: &Value) -> Result<Option<OwnLimits>
     ensures { IfOk result (λ o. o ≡ limits_or_none (get (codes "limits") (view value.now))) }
 {
     match value.get("limits") {
-        Some(limits) => Spelled::read(alloc, limits),
+        Some(limits) => FromJson::read(alloc, limits),
         None => Ok(Some(OwnLimits::none(alloc))),
     }
 }

@@ -8,7 +8,7 @@ ghost use Rattle.fleet_events.specs.Writing.{spread_event_data};
 
 use crate::event::Event;
 use crate::members::put_event;
-use json_values::{Spelled, put_written};
+use json_values::{FromJson, put_written};
 use price_certificate::Plan;
 use serde_json::{Map, Value};
 use spread_certificate::{Spread, spread_of};

@@ -3,11 +3,7 @@ ghost use Rattle.history_laws.specs.Journals.{ConsistentAreHistories};
 ghost use Rattle.history_laws.specs.Promises.{OpenedAreGood};
 
 use allocation_core::published_cover_most;
-use fleet_assignment::{
-    allocations_are_once, best_within_is_carried_over, feasible_are_carried_over,
-    instances_are_problems, optimal_is_best,
-};
-use price_certificate::{certified_is_optimal, no_fault_is_certified};
+use fleet_assignment::plan_laws;
 
 /// Over every list of events from whatever state a first line opens, be it the first of its jobs or that of a history: each allocation
 /// that they publish is the best of its moment, or the best within caps that cost nothing, and covers the most; each report is booked
@@ -15,13 +11,7 @@ use price_certificate::{certified_is_optimal, no_fault_is_certified};
 pub fn opened_are_good()
     ensures { OpenedAreGood }
 {
-    instances_are_problems();
-    feasible_are_carried_over();
-    optimal_is_best();
-    best_within_is_carried_over();
-    allocations_are_once();
-    certified_is_optimal();
-    no_fault_is_certified();
+    plan_laws();
     published_cover_most();
 }
 

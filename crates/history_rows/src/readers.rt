@@ -1,5 +1,6 @@
 //! Readers of events, histories and journals.
 use core_history::{HistoryError, read_history};
+use fleet::PartsError;
 use fleet_events::read_event;
 use lists::Text;
 use replay_lines::{Ended, replay, resume};
@@ -59,15 +60,15 @@ pub(crate) fn history(alloc: Global, bytes: &[u8]) -> Result<String, AllocError>
 pub(crate) fn fault(alloc: Global, error: HistoryError) -> Result<String, AllocError> {
     let name = match error {
         HistoryError::Shape => "Shape",
-        HistoryError::BadJobs => "BadJobs",
-        HistoryError::BadTargets => "BadTargets",
-        HistoryError::BadLists => "BadLists",
-        HistoryError::BadCollectors => "BadCollectors",
-        HistoryError::RepeatedTarget => "RepeatedTarget",
+        HistoryError::Fleet(PartsError::BadJobs) => "BadJobs",
+        HistoryError::Fleet(PartsError::BadTargets) => "BadTargets",
+        HistoryError::Fleet(PartsError::BadLists) => "BadLists",
+        HistoryError::Fleet(PartsError::BadCollectors) => "BadCollectors",
+        HistoryError::Fleet(PartsError::RepeatedTarget) => "RepeatedTarget",
         HistoryError::BadAllocation => "BadAllocation",
         HistoryError::BadRound => "BadRound",
         HistoryError::BadServed => "BadServed",
-        HistoryError::Memory => return Err(AllocError),
+        HistoryError::Fleet(PartsError::Memory) | HistoryError::Memory => return Err(AllocError),
     };
     String::from_str(alloc, name)
 }

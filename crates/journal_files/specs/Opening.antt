@@ -1,5 +1,6 @@
 -- The file that is written from the beginning of a service on.
-use Rattle.std.specs.Prelude.{◌≡◌, ℕ, List, Bool, Option, None, Some}
+use Rattle.std.specs.Prelude.{◌≡◌, ℕ, List, Bool, Option, None, Some, Result, Ok}
+use Rattle.allocation_core.specs.State.{State}
 use Rattle.durable_journal.specs.Beginnings.{IsBegunAnew}
 use Rattle.durable_journal.specs.declared.beginning.Begun.{Begun}
 use Rattle.durable_journal.specs.declared.beginning.FirstLine.{FirstLine}
@@ -10,7 +11,9 @@ use Rattle.journal_files.specs.declared.opening.Opened.{Opened}
 use Rattle.journal_files.specs.declared.reading.Journal.{Journal}
 use Rattle.journal_files.specs.declared.reading.Next.{Next}
 use Rattle.journal_files.specs.declared.reading.Next.TheVariants.{Begins, GoesOn, IsReplaced}
+use Rattle.journal_files.specs.declared.reading.Past.{Past}
 use Rattle.journal_files.specs.declared.reading.Start.{Start}
+use Rattle.journal_files.specs.declared.written.Written.{Written}
 
 -- it has just begun with the line
 pub record IsBegunWith {D : Type 0} (tells : Bool) (contents : D → Option (List ℕ)) (first : FirstLine) (file : D) (bytes : ℕ) (chain : Option Chain) : Type 0 where
@@ -30,6 +33,12 @@ abbrev pub IsNextOf : {D : Type 0} → Bool → (D → Option (List ℕ)) → Jo
 IsNextOf tells contents journal (Begins first) file bytes chain = IsBegunWith tells contents first file bytes chain
 IsNextOf tells contents journal (GoesOn events) file bytes chain = IsGoneOn journal bytes chain
 IsNextOf tells contents journal (IsReplaced first) file bytes chain = IsBegunWith tells contents first file bytes chain
+
+-- the allocator, with what was told of its journal and the file that is written of it
+pub record IsOpenedWith {D : Type 0} {E : Type 0} (core : State) (past : Past) (written : Result (Written D) E) (opened : Opened D) : Type 0 where
+  pub file : Written D
+  pub is_written : written ≡ Ok file
+  pub is_opened : opened ≡ record { core = core; epoch = past.epoch; names = past.names; file = Some file.file; bytes = file.bytes; chain = file.chain }
 
 -- the allocator of a start, with the file that its journal asks for
 pub record IsBegunAs {D : Type 0} (tells : Bool) (contents : D → Option (List ℕ)) (start : Start) (opened : Opened D) : Type 0 where

@@ -1,5 +1,5 @@
 //! What a path has to name before a journal is written there.
-use crate::fault::Fault;
+use command_faults::Fault;
 use durable_journal::{Recovered, recover};
 use std::alloc::{AllocError, AllocGlobal, Global};
 use std::fs::{File, Metadata};

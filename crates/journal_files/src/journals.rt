@@ -7,8 +7,8 @@ ghost use Rattle.std.specs.Prelude.{◌≡◌, IfOk, IsSome};
 ghost use Rattle.durable_journal.specs.Beginnings.{IsBegunAnew};
 
 use crate::disk::Disk;
-use crate::fault::Fault;
 use crate::guarding::{check_file, goal_of};
+use command_faults::Fault;
 use durable_journal::{Archive, Begun, Device, FirstLine};
 use std::alloc::{AllocError, AllocGlobal, Global};
 use std::fs::{DirEntry, File, OpenOptions};

@@ -3,7 +3,6 @@
 #![tactic(auto)]
 
 mod disk;
-mod fault;
 mod guarding;
 mod journals;
 mod laws;
@@ -11,9 +10,9 @@ mod names;
 mod opening;
 mod reading;
 mod rounds;
+mod written;
 
 pub use disk::Disk;
-pub use fault::Fault;
 pub use guarding::is_same_file;
 pub use journals::Journals;
 pub use laws::found_lead;
@@ -21,3 +20,4 @@ pub use names::{NamedCollector, with_names};
 pub use opening::{Opened, open_allocator};
 pub use reading::{Journal, Next, Past, Start, Wanted, read_journal};
 pub use rounds::round_age;
+pub use written::{Written, log_read, log_replaced, opened_with};

@@ -6,13 +6,14 @@ ghost use Rattle.journal_files.specs.Opening.{AllocatorOf, IsBegunAs, IsBegunWit
 ghost use Rattle.journal_files.specs.Starting.{asked_by};
 
 use crate::disk::Disk;
-use crate::fault::Fault;
 use crate::journals::{Journals, end_renewal, lock_file, open_journal, sync_folder};
 use crate::names::NamedCollector;
-use crate::reading::{Journal, Next, Past, Start, Wanted, configured, read_journal};
+use crate::reading::{Journal, Next, Start, Wanted, configured, read_journal};
+use crate::written::{Written, log_read, log_replaced, opened_with};
 use allocation_core::Core;
-use durable_journal::{Begun, Device, FirstLine, next_epoch};
-use log::{info, warn};
+use command_faults::Fault;
+use durable_journal::{Device, FirstLine, next_epoch};
+use log::warn;
 use logfmt::Logfmt;
 use sd_documents::Job;
 use sealed_lines::Chain;
@@ -36,14 +37,6 @@ pub struct Opened<D> {
     pub bytes: u64,
     /// The digest of the journal's last line, where its lines have digests.
     pub chain: Option<Chain>,
-}
-
-/// The file of a journal that is written from now on.
-#[derive(Drop)]
-struct Written {
-    file: Disk,
-    bytes: u64,
-    chain: Option<Chain>,
 }
 
 /// The allocator that the last of the journals leads to, under these jobs of a configuration. Where it has other jobs it is renewed under
@@ -135,26 +128,7 @@ fn begin<R: Files<File = File> + AllocGlobal + Clock + Eprint + Copy + Drop>(
     } = start;
     let written = next_file(journals, path, file, &journal);
     drop(journal);
-    match written {
-        Ok(written) => Ok(opened_with(core, past, written)),
-        Err(error) => {
-            drop((core, past));
-            Err(Fault::Machine(error))
-        }
-    }
-}
-
-fn opened_with(core: Core, past: Past, written: Written) -> Opened<Disk>
-    ensures { result ≡ record { core = core; epoch = past.epoch; names = past.names; file = Some written.file; bytes = written.bytes; chain = written.chain } }
-{
-    Opened {
-        core,
-        epoch: past.epoch,
-        names: past.names,
-        file: Some(written.file),
-        bytes: written.bytes,
-        chain: written.chain,
-    }
+    opened_with(core, past, written)
 }
 
 /// The file that is written from now on. The one that was read stays locked until then.
@@ -163,7 +137,7 @@ fn next_file<R: Files<File = File> + AllocGlobal + Clock + Eprint + Copy + Drop>
     path: &str,
     file: File,
     journal: &Journal,
-) -> io::Result<Written>
+) -> io::Result<Written<Disk>>
     ensures { IfOk result (λ w. IsNextOf ⟦<Disk as Device>⟧.tells ⟦<Disk as Write>⟧.contents journal.now journal.now.next w.file w.bytes w.chain) }
 {
     cut(&journals.rt, &file, journal)?;
@@ -181,36 +155,17 @@ fn next_file<R: Files<File = File> + AllocGlobal + Clock + Eprint + Copy + Drop>
     }
 }
 
-fn log_read<R: Clock + Eprint + Copy>(rt: &R, events: u64) {
-    info!(Logfmt(*rt); events; "the journal is read");
-}
-
 /// The file of a journal that takes the place of the last one and begins with this line.
 fn replaced<R: Files<File = File> + AllocGlobal + Clock + Eprint + Copy + Drop>(
     journals: &Journals<R>,
     path: &str,
     first: &FirstLine,
-) -> io::Result<Written>
+) -> io::Result<Written<Disk>>
     ensures { IfOk result (λ w. IsBegunWith ⟦<Disk as Device>⟧.tells ⟦<Disk as Write>⟧.contents first.now w.file w.bytes w.chain) }
 {
     let begun = journals.change(path, first)?;
     log_replaced(&journals.rt);
-    Ok(begun_file(begun))
-}
-
-/// What is written from now on of a journal that has just begun.
-fn begun_file(begun: Begun<Disk>) -> Written
-    ensures { result ≡ record { file = begun.file; bytes = begun.bytes; chain = Some begun.chain } }
-{
-    Written {
-        file: begun.file,
-        bytes: begun.bytes,
-        chain: Some(begun.chain),
-    }
-}
-
-fn log_replaced<R: Clock + Eprint + Copy>(rt: &R) {
-    info!(Logfmt(*rt); "the configuration has other jobs or report_rounds than the journal: the allocator is renewed");
+    Ok(Written::begun(begun))
 }
 
 /// The file of a journal that begins with this line.
@@ -219,12 +174,12 @@ fn begun<R: Files<File = File>>(
     path: &str,
     file: File,
     first: &FirstLine,
-) -> io::Result<Written>
+) -> io::Result<Written<Disk>>
     ensures { IfOk result (λ w. IsBegunWith ⟦<Disk as Device>⟧.tells ⟦<Disk as Write>⟧.contents first.now w.file w.bytes w.chain) }
 {
     let begun = first.begin(journals.alloc, Disk::new(file))?;
     match sync_folder(&journals.rt, path) {
-        Ok(()) => Ok(begun_file(begun)),
+        Ok(()) => Ok(Written::begun(begun)),
         Err(error) => Err(error),
     }
 }

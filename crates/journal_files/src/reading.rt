@@ -7,11 +7,11 @@ ghost use Rattle.sd_documents.specs.Config.{job_data};
 ghost use Rattle.journal_files.specs.declared.reading.Next.TheVariants.{Begins};
 ghost use Rattle.journal_files.specs.Starting.{BeginsAnew, GoesBehind, IsConfigured, IsLaterEpoch, IsLedOn, IsMachine, IsRenewed, RenewsUnder, ReplacesWith, Starts, StartsIn, asked_by, epoch_at, has_these};
 
-use crate::fault::Fault;
 use crate::guarding::{altered, no_journal, too_long};
 use crate::names::{NamedCollector, names_in, with_names};
 use crate::rounds::round_age;
 use allocation_core::{Core, JobSpec, NotRenewed, RenewalError, ReportRounds};
+use command_faults::Fault;
 use durable_journal::{FirstLine, Recovered, epoch_of, recover, with_epoch};
 use lists::copies;
 use replay_lines::{Damage, Resumption, are_jobs_of, resume};

@@ -1,3 +1,4 @@
+pub mod InOrder
 pub mod Texts
 pub mod Lists
 pub mod OneLine

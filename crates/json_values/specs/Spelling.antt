@@ -1,5 +1,5 @@
 -- What JSON values spell: whole numbers, texts, pairs of numbers, lists, and members of objects.
-use Rattle.std.specs.Prelude.{◌≡◌, ◌^◌, ℕ, List, [], ◌∷◌, Option, Some, None, option_map, option_and_then, nat_lt, if◌then◌else◌}
+use Rattle.std.specs.Prelude.{◌^◌, ℕ, List, [], ◌∷◌, Option, Some, None, option_map, option_and_then, nat_lt, if◌then◌else◌}
 use Rattle.serde_json.specs.Data.{Data, number, array, unsigned, Items, no_items, item}
 use Rattle.serde_json.specs.Find.{get, as_number, as_u64, as_array}
 

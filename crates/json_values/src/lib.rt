@@ -5,10 +5,12 @@
 //! Contracts see a JSON text as the data that `serde_json` reads of it.
 #![tactic(auto)]
 
+mod members;
 mod parsing;
 mod spelled;
 mod written;
 
+pub use members::{LeftOut, members_but};
 pub use parsing::parse;
-pub use spelled::{Spelled, array_of, member, number, put_written};
+pub use spelled::{FromJson, Spelled, array_of, list_of, member, number, put_written};
 pub use written::text_of;

@@ -9,29 +9,34 @@ use lists::{List, Text};
 use serde_json::{Map, Value, put};
 use std::alloc::{AllocError, Global};
 
-/// What a JSON value can spell.
-pub trait Spelled: Sized {
+/// What is read from a JSON value.
+pub trait FromJson: Sized {
     ghost spelled: { Data → Option Self };
 
     /// What the value spells, if it is such a thing.
     fn read(alloc: Global, value: &Value) -> Result<Option<Self>, AllocError>
         ensures { IfOk result (λ o. o ≡ spelled (view value.now)) };
+}
 
+/// What a JSON value can spell: it is written so that it reads back.
+pub trait Spelled: FromJson {
     ghost spelling: { Self → Data };
 
     /// The value that spells this.
     fn write(&self, alloc: Global) -> Result<Value, AllocError>
         ensures form { IfOk result (λ v. view v ≡ spelling self.now) }
-        ensures reads_back { IfOk result (λ v. spelled (view v) ≡ Some self.now) };
+        ensures reads_back { IfOk result (λ v. Self.spelled (view v) ≡ Some self.now) };
 }
 
-impl Spelled for u32 {
+impl FromJson for u32 {
     ghost spelled = { number_in };
 
     fn read(_alloc: Global, value: &Value) -> Result<Option<u32>, AllocError> {
         Ok(number(value))
     }
+}
 
+impl Spelled for u32 {
     ghost spelling = { number_data };
 
     fn write(&self, _alloc: Global) -> Result<Value, AllocError> {
@@ -40,13 +45,15 @@ impl Spelled for u32 {
     }
 }
 
-impl Spelled for (u32, u32) {
+impl FromJson for (u32, u32) {
     ghost spelled = { pair_in };
 
     fn read(_alloc: Global, value: &Value) -> Result<Option<(u32, u32)>, AllocError> {
         Ok(pair(value))
     }
+}
 
+impl Spelled for (u32, u32) {
     ghost spelling = { pair_data };
 
     fn write(&self, alloc: Global) -> Result<Value, AllocError> {
@@ -58,7 +65,7 @@ impl Spelled for (u32, u32) {
     }
 }
 
-impl Spelled for Text {
+impl FromJson for Text {
     ghost spelled = { as_str };
 
     fn read(alloc: Global, value: &Value) -> Result<Option<Text>, AllocError> {
@@ -67,7 +74,9 @@ impl Spelled for Text {
             None => Ok(None),
         }
     }
+}
 
+impl Spelled for Text {
     ghost spelling = { string };
 
     fn write(&self, alloc: Global) -> Result<Value, AllocError> {
@@ -75,16 +84,15 @@ impl Spelled for Text {
     }
 }
 
-impl<T: Spelled + Drop> Spelled for List<T> {
+impl<T: FromJson + Drop> FromJson for List<T> {
     ghost spelled = { list_in T.spelled };
 
     fn read(alloc: Global, value: &Value) -> Result<Option<List<T>>, AllocError> {
-        match value.as_array() {
-            Some(items) => all(alloc, items.as_slice()),
-            None => Ok(None),
-        }
+        list_of(alloc, value)
     }
+}
 
+impl<T: Spelled + Drop> Spelled for List<T> {
     ghost spelling = { list_data T.spelling };
 
     fn write(&self, alloc: Global) -> Result<Value, AllocError> {
@@ -93,7 +101,11 @@ impl<T: Spelled + Drop> Spelled for List<T> {
 }
 
 /// What a member of an object spells.
-pub fn member<T: Spelled>(alloc: Global, value: &Value, name: &str) -> Result<Option<T>, AllocError>
+pub fn member<T: FromJson>(
+    alloc: Global,
+    value: &Value,
+    name: &str,
+) -> Result<Option<T>, AllocError>
     ensures { IfOk result (λ o. o ≡ member_in T.spelled name.now (view value.now)) }
 {
     match value.get(name) {
@@ -121,7 +133,20 @@ fn pair(value: &Value) -> Option<(u32, u32)>
     }
 }
 
-fn all<T: Spelled + Drop>(alloc: Global, values: &[Value]) -> Result<Option<List<T>>, AllocError>
+/// What all values of a list spell, if each is such a thing.
+pub fn list_of<T: FromJson + Drop>(
+    alloc: Global,
+    value: &Value,
+) -> Result<Option<List<T>>, AllocError>
+    ensures { IfOk result (λ o. o ≡ list_in T.spelled (view value.now)) }
+{
+    match value.as_array() {
+        Some(values) => all(alloc, values.as_slice()),
+        None => Ok(None),
+    }
+}
+
+fn all<T: FromJson + Drop>(alloc: Global, values: &[Value]) -> Result<Option<List<T>>, AllocError>
     ensures { IfOk result (λ o. o ≡ all_in T.spelled (items_view values.now)) }
 {
     let mut items = Vec::with_capacity(alloc, values.len())?;

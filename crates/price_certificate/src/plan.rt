@@ -1,7 +1,7 @@
 //! An assignment with the prices that are to certify it.
 ghost use Rattle.price_certificate.specs.Plan.{plan_in, plan_data};
 
-use json_values::{Spelled, member};
+use json_values::{FromJson, Spelled, member};
 use lists::{List, Plain};
 use serde_json::{Value, json};
 use std::alloc::{AllocError, Global};
@@ -36,7 +36,7 @@ impl Plain for Plan {
     }
 }
 
-impl Spelled for Plan {
+impl FromJson for Plan {
     ghost spelled = { plan_in };
 
     #[tactic(auto, unfolding(crate::specs::Plan::plan_in))]
@@ -56,7 +56,9 @@ impl Spelled for Plan {
             bin_prices,
         }))
     }
+}
 
+impl Spelled for Plan {
     ghost spelling = { plan_data };
 
     #[tactic(auto, unfolding(crate::specs::Plan::plan_in))]

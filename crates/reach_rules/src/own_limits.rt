@@ -9,7 +9,7 @@ ghost use Rattle.reach_rules.specs.Spelling.{Gives};
 ghost use Rattle.reach_rules.specs.inner.Places.{IsHere, IsGap};
 
 use crate::error::ReachError;
-use json_values::{Spelled, number};
+use json_values::{FromJson, Spelled, number};
 use lists::{Plain, Text};
 use serde_json::{Map, Value};
 use std::alloc::{AllocError, Global};
@@ -112,7 +112,7 @@ impl Plain for OwnLimits {
     }
 }
 
-impl Spelled for OwnLimits {
+impl FromJson for OwnLimits {
     ghost spelled = { limits_in };
 
     fn read(alloc: Global, value: &Value) -> Result<Option<OwnLimits>, AllocError> {
@@ -122,7 +122,9 @@ impl Spelled for OwnLimits {
             Err(_) => Ok(None),
         }
     }
+}
 
+impl Spelled for OwnLimits {
     ghost spelling = { limits_data };
 
     fn write(&self, alloc: Global) -> Result<Value, AllocError> {

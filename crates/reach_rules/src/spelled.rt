@@ -10,13 +10,13 @@ use crate::name::CollectorName;
 use crate::reach::Reach;
 use crate::read::rule_of;
 use crate::rule::{ReachRule, ReachTest};
-use json_values::{Spelled, array_of};
+use json_values::{FromJson, Spelled, array_of};
 use label_sets::LabelName;
 use lists::Text;
 use serde_json::{Value, json};
 use std::alloc::{AllocError, Global};
 
-impl Spelled for CollectorName {
+impl FromJson for CollectorName {
     ghost spelled = { name_in };
 
     fn read(alloc: Global, value: &Value) -> Result<Option<CollectorName>, AllocError> {
@@ -25,7 +25,9 @@ impl Spelled for CollectorName {
             None => Ok(None),
         }
     }
+}
 
+impl Spelled for CollectorName {
     ghost spelling = { string };
 
     fn write(&self, alloc: Global) -> Result<Value, AllocError> {
@@ -43,7 +45,7 @@ fn name_from(alloc: Global, name: &str) -> Result<Option<CollectorName>, AllocEr
     }
 }
 
-impl Spelled for ReachRule {
+impl FromJson for ReachRule {
     ghost spelled = { rule_spelled };
 
     fn read(alloc: Global, value: &Value) -> Result<Option<ReachRule>, AllocError> {
@@ -53,7 +55,9 @@ impl Spelled for ReachRule {
             Err(_) => Ok(None),
         }
     }
+}
 
+impl Spelled for ReachRule {
     ghost spelling = { rule_data };
 
     fn write(&self, alloc: Global) -> Result<Value, AllocError> {
@@ -94,7 +98,7 @@ fn equals_value(
     json!(in alloc; {"allow": allow, "label": label, "test": "equals", "value": text})
 }
 
-impl Spelled for Reach {
+impl FromJson for Reach {
     ghost spelled = { reach_in };
 
     fn read(alloc: Global, value: &Value) -> Result<Option<Reach>, AllocError> {
@@ -104,7 +108,9 @@ impl Spelled for Reach {
             Err(_) => Ok(None),
         }
     }
+}
 
+impl Spelled for Reach {
     ghost spelling = { reach_data };
 
     fn write(&self, alloc: Global) -> Result<Value, AllocError> {

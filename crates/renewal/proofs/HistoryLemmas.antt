@@ -17,13 +17,14 @@ use Rattle.fleet_events.specs.declared.event.Event.TheVariants.{Discover, Join, 
 use Rattle.fleet_events.specs.declared.refusal.Refusal.{Refusal}
 use Rattle.fleet_renewal.specs.Renewed.{carried, renewed_fleet}
 use Rattle.fleet_renewal.proofs.Gets.{all_at}
+use Rattle.fleet_assignment.specs.Laws.{PlanLaws}
 use Rattle.allocation_core.specs.Booked.{WasBooked}
 use Rattle.allocation_core.specs.Kept.{IsKept}
 use Rattle.allocation_core.specs.Renewed.{renewal_refusal, renewed}
 use Rattle.allocation_core.specs.Runs.{state_of}
 use Rattle.allocation_core.specs.State.{State, current_pairs, first_state}
 use Rattle.allocation_core.specs.Steps.{changed, refusal_of, state_after}
-use Rattle.allocation_core.proofs.BestLemmas.{Laws, last_once, run_best, step_once}
+use Rattle.allocation_core.proofs.BestLemmas.{last_once, run_best, step_once}
 use Rattle.allocation_core.proofs.BookedLemmas.{run_booked, run_held, run_once}
 use Rattle.allocation_core.proofs.RenewedLemmas.{free_fleet, renewed_state_kept}
 use Rattle.allocation_core.proofs.StepLemmas.{run_kept, start_kept}
@@ -31,7 +32,7 @@ use Rattle.renewal.specs.Histories.{AreGood, AreGranted, HistoriesAreGood, IsBef
 use Rattle.renewal.proofs.Apart.{carried_once}
 use Rattle.renewal.proofs.TextLemmas.{once_by_text}
 
-run_alone : Laws → (m : State) (es : List Event) → All IsOnce m.published → All IsOnce (state_of m es).published
+run_alone : PlanLaws → (m : State) (es : List Event) → All IsOnce m.published → All IsOnce (state_of m es).published
 run_alone laws m [] once = once
 run_alone laws m (e ∷ es) once = run_alone laws (state_after m e) es (step_once laws m e once)
 
@@ -133,7 +134,7 @@ run_begun : (m : State) (es : List Event) → (state_of m es).begun ≡ m.begun
 run_begun m [] = refl
 run_begun m (e ∷ es) = run_begun (state_after m e) es ∙ step_begun m e
 
-pub good : Laws → (m : State) (es : List Event) → Starts m → IsGood m es
+pub good : PlanLaws → (m : State) (es : List Event) → Starts m → IsGood m es
 good laws m es starts =
     let kept = run_kept m es starts.kept in
     let booked : (place : ℕ) (b : ℕ × Entry) → slice_get (state_of m es).booked place ≡ Some b → WasBooked m es place b =
@@ -176,7 +177,7 @@ renewed_begun m jobs report_rounds = refl
 end_named : (m : State) (stretch : Stretch) → are_jobs stretch.jobs ≡ true → are_jobs (stretch_end m stretch).fleet.jobs ≡ true
 end_named m stretch named = ap are_jobs (run_jobs (renewed m stretch.jobs stretch.report_rounds) stretch.events ∙ renewed_jobs m stretch.jobs stretch.report_rounds) ∙ named
 
-pub all_good : Laws → (m : State) (stretches : List Stretch) → IsKept m → IsOnce (current_pairs m) → are_jobs m.fleet.jobs ≡ true → AreGranted m stretches → AreGood m stretches
+pub all_good : PlanLaws → (m : State) (stretches : List Stretch) → IsKept m → IsOnce (current_pairs m) → are_jobs m.fleet.jobs ≡ true → AreGranted m stretches → AreGood m stretches
 all_good laws m [] kept once named granted = tt
 all_good laws m (stretch ∷ stretches) kept once named granted =
     let fine = good laws (renewed m stretch.jobs stretch.report_rounds) stretch.events (renewed_starts m stretch.jobs stretch.report_rounds kept once named granted.0) in
@@ -210,7 +211,7 @@ books_apart m (stretch ∷ stretches) kept fine =
     let later = later_books low next stretches (omega (arith, renewed_round m stretch.jobs stretch.report_rounds, run_round start stretch.events)) (λ i b here. omega (arith, first i b here, renewed_begun m stretch.jobs stretch.report_rounds)) fine.1 in
     AllPairs-cons IsBefore m.booked (books_of next stretches) (λ k d less i j a b here there. omega (arith, past_all m i a kept here, later k d less j b there)) (books_apart next stretches fine.0.kept fine.1)
 
-pub histories : Laws → HistoriesAreGood
+pub histories : PlanLaws → HistoriesAreGood
 histories laws jobs report_rounds events stretches named granted =
     let m = state_of (first_state jobs report_rounds) events in
     let first = good laws (first_state jobs report_rounds) events (first_starts jobs report_rounds named) in

@@ -2,11 +2,7 @@
 ghost use Rattle.renewal.specs.Continuity.{RenewalsContinue};
 ghost use Rattle.renewal.specs.Histories.{HistoriesAreGood};
 
-use fleet_assignment::{
-    allocations_are_once, best_within_is_carried_over, feasible_are_carried_over,
-    instances_are_problems, optimal_is_best,
-};
-use price_certificate::{certified_is_optimal, no_fault_is_certified};
+use fleet_assignment::plan_laws;
 
 /// A target that goes on is, under its new number, the same target of the job of the same name. It is live where it was and its
 /// job keeps its sources, the same collectors reach it, and the same live collector holds it. Each collector has the same own
@@ -21,11 +17,5 @@ pub fn renewals_continue()
 pub fn histories_are_good()
     ensures { HistoriesAreGood }
 {
-    instances_are_problems();
-    feasible_are_carried_over();
-    optimal_is_best();
-    best_within_is_carried_over();
-    allocations_are_once();
-    certified_is_optimal();
-    no_fault_is_certified();
+    plan_laws();
 }

@@ -7,7 +7,7 @@ ghost use Rattle.sd_routes.specs.Responses.{misshapen_data};
 use crate::ask::Ask;
 use crate::join_members::{is_short_rule, other_member};
 use fleet_events::{read_outcome, read_report};
-use json_values::{Spelled, number, parse, text_of};
+use json_values::{FromJson, number, parse, text_of};
 use label_sets::{LabelError, LabelName};
 use lists::Text;
 use reach_rules::ReachRule;
@@ -88,7 +88,7 @@ fn reach_fault(alloc: Global, found: Option<&Value>) -> Result<Option<String>, A
 
 /// Whether the value is a rule whose texts are short enough.
 fn is_rule(alloc: Global, rule: &Value) -> Result<bool, AllocError> {
-    let read: Option<ReachRule> = Spelled::read(alloc, rule)?;
+    let read: Option<ReachRule> = FromJson::read(alloc, rule)?;
     match read {
         Some(_) => Ok(is_short_rule(rule)),
         None => Ok(false),

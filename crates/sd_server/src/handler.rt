@@ -8,11 +8,12 @@ ghost use Rattle.sd_server.specs.Says.{IsAtOnce, IsPlain, Says, SaysCopy, SaysIn
 
 use crate::counter::Counter;
 use crate::entry::{Entry, Reload};
+use crate::handler_parts::HandlerParts;
 use crate::list_texts::ListTexts;
 use crate::seen::Seen;
 use crate::tags::Tags;
 use admission::Admission;
-use alloc_desk::{Desk, Pass};
+use alloc_desk::{Desk, Pass, shared_desk};
 use allocation_core::Event;
 use event_loops::Gate;
 use kept_journal::{JournalName, Kept};
@@ -51,6 +52,42 @@ pub struct Handler<R, L: Ledger, B: Ledger, N: JournalName> {
     /// How many connections there are, where somebody tells.
     pub gate: Option<Arc<Gate>>,
     ghost named: { AreNamed (arc_value pages).names N.opening.fleet.jobs },
+}
+
+impl<R: Copy, L: Ledger, B: Ledger, N: JournalName> Handler<R, L, B, N> {
+    /// Over a desk, with a pass of it. It is not known yet who asks.
+    pub fn over(
+        rt: R,
+        alloc: Global,
+        parts: HandlerParts<N>,
+        desk: Desk<L, B, N>,
+        pass: Pass<L, B, N>,
+    ) -> Result<Handler<R, L, B, N>, AllocError>
+        requires { AreNamed (arc_value parts.pages).names N.opening.fleet.jobs }
+        ensures { IfOk result (λ h. h.kept ≡ parts.kept) }
+    {
+        match shared_desk(alloc, desk, pass) {
+            Ok((desk, pass)) => Ok(Handler {
+                rt,
+                alloc,
+                desk,
+                pass,
+                pages: parts.pages,
+                state: parts.state,
+                kept: parts.kept,
+                epoch: parts.epoch,
+                texts: parts.texts,
+                doors: parts.doors,
+                peer: None,
+                time: None,
+                gate: None,
+            }),
+            Err(error) => {
+                drop(parts);
+                Err(error)
+            }
+        }
+    }
 }
 
 impl<R: Wait + Clock + Copy, L: Ledger, B: Ledger, N: JournalName> Handler<R, L, B, N> {

@@ -4,6 +4,7 @@ use crate::descriptors::{most_connections, warn_of_fewer};
 use crate::devices::{Devices, Machine};
 use crate::documents::{read_document, service_in};
 use crate::doors::admission_at;
+use crate::end::End;
 use crate::etcd_words::etcd_of;
 use crate::in_etcd::{Begun, serve_in_etcd};
 use crate::instance::{Instance, check_instance};
@@ -11,10 +12,11 @@ use crate::listening::{listen_address, listener_at};
 use crate::not_followed::{told_valid, warn_of};
 use crate::running::serve_journal;
 use crate::standard_streams::hold_streams;
+use command_faults::{Fault, status_of, tell};
 use command_words::{ServeOptions, VERSION};
 use etcd_settings::Settings;
 use event_loops::Runtime;
-use journal_files::{Fault, is_same_file};
+use journal_files::is_same_file;
 use log::{error, info};
 use log_queue::LogQueue;
 use logfmt::{Logfmt, Quoted};
@@ -26,15 +28,10 @@ use std::io;
 use std::io::Write;
 use std::net::{Net, SocketAddr, TcpListener, TcpStream};
 use std::process::ExitCode;
-use std::random::RandomSource;
 use std::rt::Files;
 use std::sync::atomic::AtomicU64;
 use std::sync::{Arc, Wait};
-use std::thread::Threads;
 use std::time::{Clock, Duration};
-
-/// The status where the machine failed.
-const MACHINE: u8 = 3;
 
 /// The status where another instance leads, or may.
 const DEPOSED: u8 = 4;
@@ -54,56 +51,26 @@ pub fn serve<R, Q>(
 ) -> ExitCode
 where
     R: Wait + Clock + Files<File = File> + AllocGlobal + Eprint + Copy,
-    Q: Wait
-        + Threads
-        + Clock
-        + Net<Listener = TcpListener, Stream = TcpStream>
-        + Files<File = File>
-        + RandomSource
-        + AllocGlobal
-        + Print
-        + Eprint
-        + Sync
-        + Send
-        + Copy
-        + Drop,
+    Q: Runtime + Files<File = File> + Print + Eprint,
 {
     let _streams = hold_streams(rt, rt.alloc());
     let ended = serve_by(queued, machine, options, queue.lost());
     let is_read = queue.close(rt, Duration::from_millis(LAST_LINES));
     match ended {
-        Ok(()) => ExitCode::from(0),
+        Ok(End::Done) => ExitCode::from(0),
+        Ok(End::Deposed) => {
+            if is_read {
+                log_deposed(rt);
+            }
+            ExitCode::from(DEPOSED)
+        }
         Err(fault) => {
             if is_read {
-                tell(rt, &fault);
+                tell(rt, "service", &fault);
             }
             status_of(&fault)
         }
     }
-}
-
-/// Tells a fault on standard error.
-fn tell<R: Eprint + Clock + Copy>(rt: &R, fault: &Fault) {
-    match fault {
-        Fault::Told(line) => {
-            // Nobody can be told that a line was not written.
-            let _ = rt.eprintln(line.as_str());
-        }
-        Fault::Machine(error) => log_failure(rt, error),
-        Fault::Deposed => log_deposed(rt),
-    }
-}
-
-fn status_of(fault: &Fault) -> ExitCode {
-    match fault {
-        Fault::Told(_) => ExitCode::from(2),
-        Fault::Machine(_) => ExitCode::from(MACHINE),
-        Fault::Deposed => ExitCode::from(DEPOSED),
-    }
-}
-
-fn log_failure<R: Eprint + Clock + Copy>(rt: &R, error: &io::Error) {
-    error!(Logfmt(*rt); "the service ended: {error}");
 }
 
 fn log_deposed<R: Eprint + Clock + Copy>(rt: &R) {
@@ -145,7 +112,7 @@ fn serve_by<R>(
     machine: Machine<'_>,
     options: &ServeOptions<'_>,
     lost_lines: &Arc<AtomicU64>,
-) -> Result<(), Fault>
+) -> Result<End, Fault>
 where
     R: Runtime + Files<File = File> + Print + Eprint,
 {
@@ -210,7 +177,7 @@ fn serve_service<R>(
     lost_lines: &Arc<AtomicU64>,
     service: Service,
     etcd: Option<Settings>,
-) -> Result<(), Fault>
+) -> Result<End, Fault>
 where
     R: Runtime + Files<File = File> + Print + Eprint,
 {
@@ -226,7 +193,7 @@ where
             if options.check_config {
                 let told = tell_checked(rt, &asked, &etcd, service.jobs());
                 drop((service, etcd, journal));
-                return told;
+                return done(told);
             }
             serve_at(rt, machine, &asked, service, journal, etcd)
         }
@@ -234,6 +201,13 @@ where
             drop((service, etcd));
             Err(fault)
         }
+    }
+}
+
+fn done(told: Result<(), Fault>) -> Result<End, Fault> {
+    match told {
+        Ok(()) => Ok(End::Done),
+        Err(fault) => Err(fault),
     }
 }
 
@@ -294,7 +268,7 @@ fn serve_at<R>(
     service: Service,
     journal: Option<String>,
     etcd: Option<Settings>,
-) -> Result<(), Fault>
+) -> Result<End, Fault>
 where
     R: Runtime + Files<File = File> + Print + Eprint,
 {
@@ -311,7 +285,7 @@ fn serve_over_files<R>(
     asked: &Asked<'_>,
     service: Service,
     journal: Option<String>,
-) -> Result<(), Fault>
+) -> Result<End, Fault>
 where
     R: Runtime + Files<File = File> + Print + Eprint,
 {
@@ -343,7 +317,7 @@ fn serve_over_etcd<R>(
     service: Service,
     journal: Option<String>,
     settings: Settings,
-) -> Result<(), Fault>
+) -> Result<End, Fault>
 where
     R: Runtime + Files<File = File> + Print + Eprint,
 {

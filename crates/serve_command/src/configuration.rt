@@ -3,8 +3,8 @@ use crate::documents::{read_document, service_in, service_of_parts};
 use crate::doors::admission_at;
 use crate::etcd_words::etcd_of;
 use crate::process::process_figures;
+use command_faults::Fault;
 use command_words::ServeOptions;
-use journal_files::Fault;
 use lists::Text;
 use service_state::ProcessFigures;
 use service_tasks::{Configuration, Service};
@@ -103,7 +103,6 @@ impl ConfigurationFile {
                 format!(in self.alloc; "{line}\n")
             }
             Fault::Machine(error) => format!(in self.alloc; "{error}\n"),
-            Fault::Deposed => String::from_str(self.alloc, "another instance leads\n"),
         };
         Text::from_string(line.unwrap_or(String::new(self.alloc)))
     }

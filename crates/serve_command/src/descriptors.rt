@@ -1,6 +1,6 @@
 //! How many descriptors the service may have open.
 use crate::kernel_texts::text_of;
-use journal_files::Fault;
+use command_faults::Fault;
 use log::warn;
 use logfmt::Logfmt;
 use std::alloc::{AllocError, Global};

@@ -1,10 +1,10 @@
 //! The configuration file.
 use allocation_core::ReportRounds;
+use command_faults::Fault;
 use config_faults::faults_of;
 use config_secrets::without_secrets;
 use durable_journal::{configuration_line, with_report_rounds};
 use file_configs::with_sources;
-use journal_files::Fault;
 use json_values::{parse, text_of};
 use lists::Text;
 use sd_documents::{Config, SdError, read_config};

@@ -1,6 +1,6 @@
 //! Who may ask for what, as the configuration says it.
 use admission::{Admission, Key, read_keys};
-use journal_files::Fault;
+use command_faults::Fault;
 use lists::{List, Plain, Text};
 use private_files::private_text;
 use service_settings::Doors;

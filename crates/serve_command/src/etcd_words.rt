@@ -1,6 +1,6 @@
 //! What is told of a journal in etcd.
+use command_faults::Fault;
 use etcd_settings::{Member, Settings, SettingsError, read_members, settings_of};
-use journal_files::Fault;
 use std::alloc::{AllocError, Global};
 
 /// The settings of a journal in etcd: of that which is given, or else of that of the document of the configuration at a path. None where the journal is a file, or

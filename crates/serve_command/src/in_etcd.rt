@@ -2,15 +2,16 @@
 use crate::command::Asked;
 use crate::configuration::ConfigurationFile;
 use crate::devices::Devices;
+use crate::end::End;
 use crate::instance::Instance;
 use crate::leading::lead;
 use crate::running::tell_who_is_missed;
 use crate::standing_by::{TIMES, answer_then_quit, stand_by};
+use command_faults::Fault;
 use etcd_answers::Granted;
 use etcd_client::{EtcdClient, Watch, grant, keep_lease, revoke};
 use etcd_journal::{Opened, open};
 use event_loops::{Gate, Runtime};
-use journal_files::Fault;
 use log::{info, warn};
 use logfmt::Logfmt;
 use service_tasks::Service;
@@ -38,7 +39,7 @@ enum Led<R> {
     /// Another was faster, or it is not known who leads.
     Lost(Begun<R>),
     /// It was told to end, or leads no more.
-    Ended(Result<(), Fault>),
+    Ended(Result<End, Fault>),
 }
 
 /// Stands by until nobody leads, leads, and serves until the service is to end, or another leads.
@@ -47,7 +48,7 @@ pub(crate) fn serve_in_etcd<R>(
     instance: &Instance,
     asked: &Asked<'_>,
     begun: Begun<R>,
-) -> Result<(), Fault>
+) -> Result<End, Fault>
 where
     R: Runtime + Files<File = File> + Print + Eprint,
 {
@@ -82,7 +83,7 @@ where
         Ok(Followed::Free) => claim(rt, instance, asked, begun),
         Ok(Followed::Quits) => {
             drop(begun);
-            Led::Ended(Ok(()))
+            Led::Ended(Ok(End::Done))
         }
         Err(error) => {
             drop(begun);

@@ -2,17 +2,19 @@
 use crate::command::Asked;
 use crate::configuration::ConfigurationFile;
 use crate::devices::Devices;
+use crate::end::End;
 use crate::in_etcd::Begun;
 use crate::instance::Instance;
 use crate::running::{log_address, log_end};
 use crate::standing_by::{TIMES, answer_then_quit};
+use command_faults::Fault;
 use command_words::VERSION;
 use durable_journal::next_epoch;
-use etcd_archive::{Began, open_allocator};
+use etcd_archive::{Began, NotOpened, open_allocator};
 use etcd_client::EtcdClient;
 use etcd_journal::Opened;
 use event_loops::{Gate, Runtime};
-use journal_files::{Fault, Wanted};
+use journal_files::Wanted;
 use kept_journal::JournalFile;
 use log::warn;
 use logfmt::{Logfmt, Quoted};
@@ -31,13 +33,13 @@ pub(crate) fn lead<R>(
     asked: &Asked<'_>,
     begun: Begun<R>,
     opened: Opened<EtcdClient<R>>,
-) -> Result<(), Fault>
+) -> Result<End, Fault>
 where
     R: Runtime + Files<File = File> + Print + Eprint,
 {
     if instance.standing.is_quitting() {
         drop((begun, opened));
-        return Ok(());
+        return Ok(End::Done);
     }
     let Begun {
         service,
@@ -110,14 +112,14 @@ fn serve_led<R>(
     listener: TcpListener,
     device: Devices<R>,
     opened: Opened<EtcdClient<R>>,
-) -> Result<(), Fault>
+) -> Result<End, Fault>
 where
     R: Runtime + Files<File = File> + Print + Eprint,
 {
     match replayed(rt, instance, &listener, opened, wanted_by(rt, &service)) {
         Ok(began) if instance.standing.is_quitting() => {
             drop((service, configuration, listener, device, began));
-            Ok(())
+            Ok(End::Done)
         }
         Ok(began) => serve_began(
             rt,
@@ -128,10 +130,18 @@ where
             device,
             began,
         ),
-        Err(fault) => {
+        Err(not_opened) => {
             drop((service, configuration, listener, device));
-            Err(fault)
+            ended_by(not_opened)
         }
+    }
+}
+
+/// How a service ends over whose journal no allocator is opened.
+fn ended_by(not_opened: NotOpened) -> Result<End, Fault> {
+    match not_opened {
+        NotOpened::Deposed => Ok(End::Deposed),
+        NotOpened::Fault(fault) => Err(fault),
     }
 }
 
@@ -142,7 +152,7 @@ fn replayed<R>(
     listener: &TcpListener,
     opened: Opened<EtcdClient<R>>,
     wanted: Wanted<'_>,
-) -> Result<Began<R, EtcdClient<R>>, Fault>
+) -> Result<Began<R, EtcdClient<R>>, NotOpened>
 where
     R: Runtime + Files<File = File> + Print + Eprint,
 {
@@ -150,7 +160,7 @@ where
         Ok(gate) => gate,
         Err(error) => {
             drop(opened);
-            return Err(error.into());
+            return Err(NotOpened::Fault(error.into()));
         }
     };
     let standing = &instance.standing;
@@ -163,7 +173,7 @@ where
         Ok(()) => began,
         Err(error) => {
             drop(began);
-            Err(Fault::Machine(error))
+            Err(NotOpened::Fault(Fault::Machine(error)))
         }
     }
 }
@@ -174,7 +184,7 @@ fn replay_then_stop<R>(
     opened: Opened<EtcdClient<R>>,
     wanted: Wanted<'_>,
     gate: &Gate,
-) -> Result<Began<R, EtcdClient<R>>, Fault>
+) -> Result<Began<R, EtcdClient<R>>, NotOpened>
 where
     R: Runtime + Files<File = File> + Print + Eprint,
 {
@@ -201,7 +211,7 @@ fn serve_began<R>(
     listener: TcpListener,
     device: Devices<R>,
     began: Began<R, EtcdClient<R>>,
-) -> Result<(), Fault>
+) -> Result<End, Fault>
 where
     R: Runtime + Files<File = File> + Print + Eprint,
 {
@@ -236,9 +246,9 @@ where
         Ok(core) => {
             log_end(rt, core.total());
             drop(core);
-            Ok(())
+            Ok(End::Done)
         }
-        Err(_) if is_over => Err(Fault::Deposed),
+        Err(_) if is_over => Ok(End::Deposed),
         Err(error) => Err(Fault::Machine(error)),
     }
 }

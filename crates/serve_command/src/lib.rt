@@ -7,6 +7,7 @@ mod descriptors;
 mod devices;
 mod documents;
 mod doors;
+mod end;
 mod etcd_words;
 mod in_etcd;
 mod instance;

@@ -1,6 +1,6 @@
 //! Where the service listens.
+use command_faults::Fault;
 use command_words::ServeOptions;
-use journal_files::Fault;
 use log::error;
 use logfmt::Logfmt;
 use service_settings::{Address, address_of};

@@ -1,5 +1,5 @@
 //! The file of a password.
-use journal_files::Fault;
+use command_faults::Fault;
 use lists::Text;
 use private_files::private_text;
 use std::alloc::AllocGlobal;

@@ -1,9 +1,11 @@
 //! The service over the allocator of its journal.
 use crate::configuration::ConfigurationFile;
 use crate::devices::Devices;
+use crate::end::End;
 use allocation_core::Core;
+use command_faults::Fault;
 use event_loops::Runtime;
-use journal_files::{Disk, Fault, Journals, Opened, open_allocator};
+use journal_files::{Disk, Journals, Opened, open_allocator};
 use kept_journal::JournalFile;
 use log::{error, info, warn};
 use logfmt::{Logfmt, Quoted};
@@ -24,7 +26,7 @@ pub(crate) fn serve_journal<R>(
     listener: TcpListener,
     device: Devices<R>,
     journal: Option<String>,
-) -> Result<(), Fault>
+) -> Result<End, Fault>
 where
     R: Runtime + Files<File = File> + Print + Eprint,
 {
@@ -46,7 +48,7 @@ where
                 Ok(core) => {
                     log_end(rt, core.total());
                     drop(core);
-                    Ok(())
+                    Ok(End::Done)
                 }
                 Err(error) => Err(error.into()),
             };

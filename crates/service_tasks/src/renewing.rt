@@ -27,10 +27,10 @@ use std::time::Clock;
 pub fn continued<R: Clock + Eprint + Copy, S, F, A, C>(
     rt: &R,
     alloc: Global,
+    core: Core,
     service: &mut Service,
     context: &mut ServiceContext<S, F, C>,
     archive: &mut A,
-    core: Core,
 ) -> io::Result<Core>
 where
     S: FetchSeveral + Drop,

@@ -6,7 +6,7 @@ ghost use Rattle.json_values.specs.Spelling.{all_in, list_in, member_in};
 ghost use Rattle.fleet_events.specs.Reading.{join_in as join_said, limits_or_none as limits_or_none_in};
 
 use fleet_events::Event;
-use json_values::{Spelled, member};
+use json_values::{FromJson, member};
 use lists::List;
 use reach_rules::OwnLimits;
 use serde_json::Value;
@@ -60,7 +60,7 @@ fn limits_or_none(alloc: Global, collector: &Value) -> Result<Option<OwnLimits>,
     ensures { IfOk result (λ o. o ≡ limits_or_none_in (get (codes "limits") (view collector.now))) }
 {
     match collector.get("limits") {
-        Some(limits) => Spelled::read(alloc, limits),
+        Some(limits) => FromJson::read(alloc, limits),
         None => Ok(Some(OwnLimits::none(alloc))),
     }
 }

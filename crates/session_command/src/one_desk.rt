@@ -9,15 +9,15 @@ use crate::asking::ask_all;
 use crate::ended::Halt;
 use crate::session_tasks::{SessionTasks, device};
 use admission::Admission;
-use alloc_desk::{Desk, DeskName, Log, Pass, shared_desk};
+use alloc_desk::{Desk, DeskName, Log, Pass};
 use allocation_core::Core;
 use collector_pool::Open;
-use event_loops::Runtime;
+use event_loops::{LoopRuntime, Runtime};
 use fleet::JobSpec;
 use kept_journal::JournalName;
 use lists::Text;
 use sd_documents::scrape_configs_text;
-use sd_server::{Handler, ListTexts, are_named, serve_one_by_one};
+use sd_server::{Handler, HandlerParts, ListTexts, are_named, serve_one_by_one};
 use service_state::{ConfigPages, Lifecycle, ServiceState};
 use session::{Session, total_line};
 use session_rounds::{begin, run_rounds};
@@ -57,9 +57,9 @@ where
     requires samples { (samples.name ≡ B.name) × (samples.parts ≡ B.parts) × (B.parts ≡ seats) }
     requires log { log ≡ N.book }
 {
-    match Shown::of(alloc, session, core.fleet().jobs()) {
-        Ok(shown) => run_shown::<R, L, B, N>(
-            rt, alloc, session, shown, core, seats, calls, samples, log, text,
+    match parts_of(alloc, session, core.fleet().jobs()) {
+        Ok(parts) => run_shown::<R, L, B, N>(
+            rt, alloc, session, parts, core, seats, calls, samples, log, text,
         ),
         Err(AllocError) => {
             drop(core);
@@ -68,12 +68,12 @@ where
     }
 }
 
-/// Runs a session over a desk of an allocator whose jobs are those of what is shown.
+/// Runs a session over a desk of an allocator whose jobs are those of the parts.
 fn run_shown<R, L, B, N>(
     rt: &R,
     alloc: Global,
     session: &Session,
-    shown: Shown<N>,
+    parts: HandlerParts<N>,
     core: Core,
     seats: u32,
     calls: Blank,
@@ -91,12 +91,12 @@ where
     requires calls { (calls.name ≡ L.name) × (calls.parts ≡ L.parts) × (L.parts ≡ seats) }
     requires samples { (samples.name ≡ B.name) × (samples.parts ≡ B.parts) × (B.parts ≡ seats) }
     requires log { log ≡ N.book }
-    requires named { AreNamed (arc_value shown.pages).names N.opening.fleet.jobs }
+    requires named { AreNamed (arc_value parts.pages).names N.opening.fleet.jobs }
 {
     match Desk::<L, B, N>::open(alloc, core, seats, calls, samples, log) {
-        Ok((desk, passes)) => run_open(rt, alloc, session, shown, desk, passes, text),
+        Ok((desk, passes)) => run_open(rt, alloc, session, parts, desk, passes, text),
         Err(core) => {
-            drop((shown, core));
+            drop((parts, core));
             Err(AllocError.into())
         }
     }
@@ -107,7 +107,7 @@ fn run_open<R, L, B, N>(
     rt: &R,
     alloc: Global,
     session: &Session,
-    shown: Shown<N>,
+    parts: HandlerParts<N>,
     desk: Desk<L, B, N>,
     mut passes: Vec<Pass<L, B, N>>,
     text: &mut Vec<u8>,
@@ -117,24 +117,24 @@ where
     L: Ledger + Send + Sync,
     B: Ledger + Send + Sync,
     N: JournalName + Send + Sync,
-    requires { AreNamed (arc_value shown.pages).names N.opening.fleet.jobs }
+    requires { AreNamed (arc_value parts.pages).names N.opening.fleet.jobs }
 {
     let Some(asked) = passes.pop() else {
-        drop((shown, desk, passes));
+        drop((parts, desk, passes));
         return Err(AllocError.into());
     };
     let Some(own) = passes.pop() else {
-        drop((shown, desk, asked, passes));
+        drop((parts, desk, asked, passes));
         return Err(AllocError.into());
     };
     let session_tasks = match SessionTasks::of(rt, alloc, own, passes) {
         Ok(session_tasks) => session_tasks,
         Err(AllocError) => {
-            drop((shown, desk, asked));
+            drop((parts, desk, asked));
             return Err(AllocError.into());
         }
     };
-    match handler_of(rt, alloc, shown, desk, asked) {
+    match Handler::over(*rt, alloc, parts, desk, asked) {
         Ok(handler) => run_by(rt, alloc, session, handler, session_tasks, text),
         Err(AllocError) => {
             drop(session_tasks);
@@ -167,71 +167,33 @@ where
     }
 }
 
-/// What requests are handled with.
-fn handler_of<R: Copy, L: Ledger, B: Ledger, N: JournalName>(
-    rt: &R,
+/// What a session's handler has beside its desk, over an allocator with these jobs, which are those of its configuration.
+fn parts_of<N: JournalName>(
     alloc: Global,
-    shown: Shown<N>,
-    desk: Desk<L, B, N>,
-    pass: Pass<L, B, N>,
-) -> Result<Handler<R, L, B, N>, AllocError>
-    requires { AreNamed (arc_value shown.pages).names N.opening.fleet.jobs }
+    session: &Session,
+    jobs: &[JobSpec],
+) -> Result<HandlerParts<N>, AllocError>
+    ensures { IfOk result (λ p. AreNamed (arc_value p.pages).names jobs.now) }
 {
-    match shared_desk(alloc, desk, pass) {
-        Ok((desk, pass)) => Ok(Handler {
-            rt: *rt,
-            alloc,
-            desk,
-            pass,
-            pages: shown.pages,
-            state: shown.state,
+    let pages = named_pages(alloc, session, jobs)?;
+    match own_parts(alloc) {
+        Ok((state, texts, doors)) => Ok(HandlerParts {
+            pages,
+            state,
             kept: None,
-            texts: shown.texts,
-            doors: shown.doors,
             epoch: 0,
-            peer: None,
-            time: None,
-            gate: None,
+            texts,
+            doors,
         }),
         Err(error) => {
-            drop(shown);
+            drop(pages);
             Err(error)
         }
     }
 }
 
-/// What a handler shows beside its desk.
-#[derive(Drop)]
-struct Shown<N: JournalName> {
-    pages: Arc<ConfigPages>,
-    state: Arc<ServiceState>,
-    texts: Arc<ListTexts<N>>,
-    doors: Arc<Admission>,
-}
-
-impl<N: JournalName> Shown<N> {
-    /// What is shown of a session over an allocator with these jobs, which are those of its configuration.
-    fn of(alloc: Global, session: &Session, jobs: &[JobSpec]) -> Result<Shown<N>, AllocError>
-        ensures { IfOk result (λ s. AreNamed (arc_value s.pages).names jobs.now) }
-    {
-        let pages = named_pages(alloc, session, jobs)?;
-        match parts(alloc) {
-            Ok((state, texts, doors)) => Ok(Shown {
-                pages,
-                state,
-                texts,
-                doors,
-            }),
-            Err(error) => {
-                drop(pages);
-                Err(error)
-            }
-        }
-    }
-}
-
-/// What is shown of any session: a state without a lifecycle, no texts yet, and doors that are open to all.
-fn parts<N: JournalName>(
+/// What any session has: a state without a lifecycle, no texts yet, and doors that are open to all.
+fn own_parts<N: JournalName>(
     alloc: Global,
 ) -> Result<(Arc<ServiceState>, Arc<ListTexts<N>>, Arc<Admission>), AllocError> {
     let lifecycle = Lifecycle {
@@ -368,13 +330,7 @@ fn ask_then_stop<R>(
     stop: &AtomicBool,
 ) -> Result<Vec<u8>, AllocError>
 where
-    R: Wait
-        + Clock
-        + Net<Listener = TcpListener, Stream = TcpStream>
-        + RandomSource
-        + AllocGlobal
-        + Copy
-        + Drop,
+    R: LoopRuntime,
 {
     let answers = ask_at(rt, alloc, here, paths);
     stop.store(true, Ordering::SeqCst);

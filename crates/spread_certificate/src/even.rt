@@ -5,7 +5,7 @@ ghost use Rattle.serde_json.specs.View.{members_view};
 ghost use Rattle.spread_certificate.specs.Document.{even_in, even_data};
 
 use crate::document::optional;
-use json_values::{Spelled, member, put_written};
+use json_values::{FromJson, Spelled, member, put_written};
 use lists::{List, Plain};
 use serde_json::{Map, Value};
 use std::alloc::{AllocError, Global};
@@ -62,7 +62,7 @@ impl Plain for Even {
     }
 }
 
-impl Spelled for Even {
+impl FromJson for Even {
     ghost spelled = { even_in };
 
     #[tactic(auto, unfolding(crate::specs::Document::even_in))]
@@ -98,7 +98,9 @@ impl Spelled for Even {
             witness,
         }))
     }
+}
 
+impl Spelled for Even {
     ghost spelling = { even_data };
 
     fn write(&self, alloc: Global) -> Result<Value, AllocError> {

@@ -73,7 +73,7 @@ impl<L: Ledger, B: Ledger, N: DeskName> Desk<L, B, N> {
         let Ok((instance, jobs)) = self.question(rt, pass) else {
             return Err(EnterError::Memory);
         };
-        let Ok(spread) = spread_for(alloc, &instance, jobs, slack, by_job, most_moves) else {
+        let Ok(spread) = spread_for(alloc, &instance, jobs, by_job, slack, most_moves) else {
             drop(instance);
             return Err(EnterError::Memory);
         };
@@ -109,8 +109,8 @@ fn spread_for(
     alloc: Global,
     instance: &Instance,
     jobs: u32,
-    slack: u32,
     by_job: &[JobEvening],
+    slack: u32,
     most_moves: Option<u32>,
 ) -> Result<Spread, AllocError>
     ensures { IfOk result (IsFound instance.now jobs slack most_moves) }

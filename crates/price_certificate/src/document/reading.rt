@@ -12,7 +12,7 @@ use crate::instance::Instance;
 use crate::plan::Plan;
 use crate::shape::InstanceError;
 use crate::version::Version;
-use json_values::{Spelled, member, parse};
+use json_values::{FromJson, member, parse};
 use lists::List;
 use serde_json::Value;
 use std::alloc::{AllocError, Global};

@@ -7,7 +7,7 @@ ghost use Rattle.service_settings.specs.Collectors.{limits_or_none as limits_or_
 use crate::error::{Member, SettingsError};
 use crate::reading::items_in;
 use crate::settings::members::{Kind, check_members};
-use json_values::{Spelled, member};
+use json_values::{FromJson, member};
 use lists::List;
 use reach_rules::{CollectorName, OwnLimits, Reach};
 use serde_json::Value;
@@ -97,7 +97,7 @@ pub(crate) fn limits_or_none(
     ensures { IfOk result (λ o. o ≡ limits_or_none_in (option_map (λ v. view v.now) found.entry)) }
 {
     match found {
-        Some(value) => Spelled::read(alloc, value),
+        Some(value) => FromJson::read(alloc, value),
         None => Ok(Some(OwnLimits::none(alloc))),
     }
 }

@@ -7,7 +7,7 @@ ghost use Rattle.spread_certificate.specs.Document.{optional_in, even_in, spread
 use crate::certificate::Certificate;
 use crate::even::Even;
 use crate::spread::Spread;
-use json_values::{Spelled, member};
+use json_values::{FromJson, member};
 use price_certificate::Plan;
 use serde_json::Value;
 use std::alloc::{AllocError, Global};
@@ -59,7 +59,7 @@ pub fn spread_of(alloc: Global, plan: Plan, value: &Value) -> Result<Option<Spre
 }
 
 /// What a member spells that may be left out.
-pub(crate) fn optional<T: Spelled>(
+pub(crate) fn optional<T: FromJson>(
     alloc: Global,
     value: &Value,
     name: &str,

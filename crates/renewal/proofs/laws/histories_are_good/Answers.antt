@@ -2,13 +2,4 @@ use Rattle.renewal.proofs.HistoryLemmas.{histories}
 use Rattle.renewal.proofs.laws.histories_are_good.Goals as goal
 
 pub returns : goal.returns
-returns c =
-    histories (record {
-      optimal = c.certified_is_optimal.ensures;
-      faultless = c.no_fault_is_certified.ensures;
-      problems = c.instances_are_problems.ensures;
-      carried = c.feasible_are_carried_over.ensures;
-      best = c.optimal_is_best.ensures;
-      within = c.best_within_is_carried_over.ensures;
-      once = c.allocations_are_once.ensures;
-    })
+returns c = histories c.plan_laws.ensures

@@ -9,8 +9,6 @@ pub enum Fault {
     Told(String),
     /// The machine failed it.
     Machine(io::Error),
-    /// Another instance leads, or may: nothing is kept by this one ever more.
-    Deposed,
 }
 
 impl From<AllocError> for Fault {
