@@ -10,3 +10,4 @@ pub mod Writing
 pub mod Yaml
 pub mod Keeping
 pub mod Moments
+pub mod Telling

@@ -34,6 +34,8 @@ mod seen;
 mod service;
 mod shown;
 mod tags;
+mod told_again;
+mod told_list;
 mod yaml;
 
 pub use by_loops::{DEFAULT_LOOPS, serve_by_loops};
