@@ -157,11 +157,6 @@ made_program() {
 # usage: allocd_program ROOT
 allocd_program() {
     made_program "$1" && return
-    if ! command -v rt > /dev/null && [ -x "$1/dist/allocd" ]; then
-        echo "allocd: running the released program dist/allocd, which is of earlier sources: \`rt\`, which would prove and build these, is not on PATH" >&2
-        echo "$1/dist/allocd"
-        return
-    fi
     build_program "$1" allocd "$1/examples/one-of-two.json" check || return 1
     echo "$1/crates/allocd/out/allocd"
 }
