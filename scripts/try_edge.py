@@ -1351,6 +1351,36 @@ def entity_tags(folder):
     ends(service)
 
 
+def asked_again(folder):
+    """A list that is asked for again is the same, to each its own, and another one once something has changed it."""
+    both = [{"name": name, "reach": ANY} for name in "ab"]
+    service = started(folder, [static("node", 6, target_limit=3), static("other", 4, 9100, target_limit=2)], collectors=both)
+    has(service, "allocd_allocation", 1)
+    told = lambda job, name: answer_of(service, f"/jobs/{job}/targets?collector_id={name}", {})
+    count = lambda job, name: len(json.loads(told(job, name)[2]))
+    pairs = [(job, name) for job in ("node", "other") for name in "ab"]
+    first = {pair: told(*pair) for pair in pairs}
+    entered = len(lines_of(f"{folder}/journal"))
+    ages = [int(told("node", "a")[1]["x-scrape-round-age"])]
+    again = [{pair: told(*pair) for pair in pairs} for _ in range(3)]
+    time.sleep(1.1)
+    ages.append(int(told("node", "a")[1]["x-scrape-round-age"]))
+    tell("each job of each collector has a list of its own", len({text for _, _, text in first.values()}) == 4, first)
+    tell("who asks again is told the same", all((it[pair][2], it[pair][1]["etag"]) == (first[pair][2], first[pair][1]["etag"]) for it in again for pair in pairs))
+    tell("for which nothing is entered", len(lines_of(f"{folder}/journal")) == entered)
+    tell("and how old the round is by then", ages[1] - ages[0] >= 1000, ages)
+    head, held = first["node", "a"][1], json.loads(first["node", "a"][2])[0]["labels"]["__meta_allocator_target"]
+    of = {"collector": int(head["x-collector"]), "number": int(head["x-allocation-number"]), "round": int(head["x-scrape-round"]), "epoch": int(head["x-allocator-epoch"])}
+    tell("a report is booked", json.loads(service.ask("POST", "/reports", {**of, "target": int(held), "up": False})[1]) == {"answer": "Booked"})
+    tell("and changes no list", all(told(*pair)[2] == first[pair][2] for pair in pairs))
+    service.ask("PUT", "/collectors/1/limits", {"limits": {"node": 2}})
+    tell("a list that is limited is another one", comes(lambda: count("node", "a") == 2, 20), count("node", "a"))
+    tell("and the others stay", [count(*pair) for pair in pairs] == [2, 3, 2, 2], [count(*pair) for pair in pairs])
+    service.ask("DELETE", "/collectors/2")
+    tell("who has left has an empty list at once", (told("node", "b")[0], told("node", "b")[2]) == (200, "[]"), told("node", "b"))
+    ends(service)
+
+
 def acknowledge(folder):
     job = 'node/"a b"&c=+é'
     path = f"/jobs/{urllib.parse.quote(job, safe='')}/targets?collector_id="
@@ -1659,5 +1689,5 @@ def files(folder):
 SOURCE = http.server.ThreadingHTTPServer(("127.0.0.1", 0), Source)
 SOURCE.daemon_threads = True
 threading.Thread(target=SOURCE.serve_forever, daemon=True).start()
-PARTS = (settings, relabels, reloads, uncovered, texts, page, job_pages, collector_pages, searches, since, series, figures, every_figure, turned_away, process, takes, talks, requests, lifecycles, held_rows, stalls, settles, absent_over_reloads, many_ids, rounds, rounds_kept, silences, yaml, lists_of_reports, round_books, entity_tags, acknowledge, spreads, moves, spreads_by_job, evens, evens_in_turn, names, files)
+PARTS = (settings, relabels, reloads, uncovered, texts, page, job_pages, collector_pages, searches, since, series, figures, every_figure, turned_away, process, takes, talks, requests, lifecycles, held_rows, stalls, settles, absent_over_reloads, many_ids, rounds, rounds_kept, silences, yaml, lists_of_reports, round_books, entity_tags, asked_again, acknowledge, spreads, moves, spreads_by_job, evens, evens_in_turn, names, files)
 run_parts(PARTS, sys.argv[1:])

@@ -12,7 +12,7 @@ import sys
 import told_rows
 from allocd_service import ROOT
 
-CRATES = ("service_tasks", "serve_command", "journal_files", "log_queue", "daemon", "etcd_archive", "standby")
+CRATES = ("service_tasks", "serve_command", "serve_configuration", "journal_files", "log_queue", "daemon", "etcd_archive", "standby")
 LEVELS = {"log_info": "info", "log_warning": "warn", "log_error": "error", "info!": "info", "warn!": "warn", "error!": "error"}
 CALL = re.compile(r"(?<![\w!])(log_info|log_warning|log_error|info!|warn!|error!)(_of)?\(")
 OF_COLLECTOR = re.compile(r"(?<![\w.])log_of_(?:name|number)\(&self\.rt, Level::(\w+),")
@@ -87,7 +87,7 @@ def told_lines():
     """Each line by which a start is refused: what is made for the user by `format!` where a fault is told."""
     found = {}
     for name, text in sources():
-        if name.split("/")[0] not in ("serve_command", "journal_files"):
+        if name.split("/")[0] not in ("serve_command", "serve_configuration", "journal_files"):
             continue
         for literal in re.findall(r'format!\(in [^;]*;\s*"((?:[^"\\]|\\.)*)"', text):
             if literal.startswith(("{path}: ", "allocd serve: ")) and not literal.startswith(OF_FORMATS):

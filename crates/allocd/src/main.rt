@@ -13,7 +13,8 @@ use offline_commands::{
     Ending, Status, Stop, audit_files, books_of_files, run, seal_file, write_last, write_stop,
 };
 use scrape_client::{Lookups, start_lookups};
-use serve_command::{EtcdLookups, Machine, etcd_lookups, serve};
+use serve_command::serve;
+use serve_configuration::{EtcdLookups, Machine, etcd_lookups};
 use std::alloc::Global;
 use std::env::Args;
 use std::fs::File;

@@ -219,7 +219,7 @@ fn parts_of<R: Wait, S, F: Device, C, N: JournalName>(
     ensures pages { IfOk result (λ p. arc_value p.pages ≡ arc_value context.now.pages) }
 {
     let kept = kept_of(rt, alloc, journal)?;
-    let texts = shared(alloc, ListTexts::new(alloc))?;
+    let texts = ListTexts::shared(alloc)?;
     let pages = Arc::try_clone(&context.pages)?;
     let state = Arc::try_clone(&context.state)?;
     let doors = Arc::try_clone(&context.doors)?;

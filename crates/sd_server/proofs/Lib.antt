@@ -6,3 +6,4 @@ pub mod ComingLemmas
 pub mod OpenLemmas
 pub mod KnownLemmas
 pub mod MomentLemmas
+pub mod TellingLemmas

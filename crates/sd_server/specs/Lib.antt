@@ -6,7 +6,6 @@ pub mod Listing
 pub mod Named
 pub mod Texts
 pub mod Looks
-pub mod Writing
-pub mod Yaml
 pub mod Keeping
 pub mod Moments
+pub mod Telling

@@ -15,10 +15,10 @@ use Rattle.sd_routes.specs.declared.request_error.RequestError.{RequestError}
 use Rattle.sd_routes.specs.declared.request_error.RequestError.TheVariants.{TooLong, Shape, Memory}
 use Rattle.sd_routes.specs.declared.responding.Said.{Said}
 use Rattle.sd_routes.specs.declared.responding.Said.TheVariants.{Refused}
+use Rattle.sd_responses.specs.Writing.{Writes}
 use Rattle.sd_server.specs.Entries.{Leads, MaySayEntry, OnceKept}
 use Rattle.sd_server.specs.Says.{Says}
 use Rattle.sd_server.specs.Spans.{Span, Moves}
-use Rattle.sd_server.specs.Writing.{Writes}
 use Rattle.service_state.specs.declared.config_pages.ConfigPages.{ConfigPages}
 use Rattle.sd_server.specs.declared.reply.Reply.{Reply}
 use Rattle.sd_server.specs.declared.reply.Stage.{Stage}

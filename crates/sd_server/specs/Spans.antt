@@ -18,6 +18,10 @@ pub record Span : Type 0 where
   -- all that has been seen of it now
   pub after : List Line
 
+-- nothing was entered in between
+abbrev pub at_once : State → List Line → Span
+at_once opening seen = record { opening = opening; before = seen; after = seen }
+
 -- the state after all that has been seen, with that journal
 abbrev pub now_of : Span → History
 now_of span = history_of span.opening span.after

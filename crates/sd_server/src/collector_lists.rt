@@ -69,8 +69,31 @@ impl<R: Wait + Clock + Copy, L: Ledger, B: Ledger, N: JournalName> Handler<R, L,
         }
     }
 
-    #[tactic(auto, using(crate::proofs::SpanLemmas::moves_trans), unfolding(crate::specs::Says::SaysHeld))]
+    /// What is told of a job to the collector of a name. It is what it was told before, where nothing was entered since.
     fn held(&self, seen: &mut Seen<N>, place: usize, job: &Text, name: &str) -> Said
+        ensures says { SaysHeld seen.new (arc_value self.now.pages).acknowledge place job.now name.now true result }
+        ensures moves { Moves seen.old seen.new }
+    {
+        match self.told_before(seen, place, job, name) {
+            Some(said) => {
+                seen.now();
+                said
+            }
+            None => self.held_anew(seen, place, job, name),
+        }
+    }
+
+    fn held_anew(&self, seen: &mut Seen<N>, place: usize, job: &Text, name: &str) -> Said
+        ensures says { SaysHeld seen.new (arc_value self.now.pages).acknowledge place job.now name.now true result }
+        ensures moves { Moves seen.old seen.new }
+    {
+        let said = self.held_now(seen, place, job, name);
+        self.note_told(seen, place, job, name, &said);
+        said
+    }
+
+    #[tactic(auto, using(crate::proofs::SpanLemmas::moves_trans), unfolding(crate::specs::Says::SaysHeld))]
+    fn held_now(&self, seen: &mut Seen<N>, place: usize, job: &Text, name: &str) -> Said
         ensures says { SaysHeld seen.new (arc_value self.now.pages).acknowledge place job.now name.now true result }
         ensures moves { Moves seen.old seen.new }
     {
@@ -335,7 +358,7 @@ impl<R: Wait + Clock + Copy, L: Ledger, B: Ledger, N: JournalName> Handler<R, L,
     }
 
     /// The head of a list.
-    fn head(
+    pub(crate) fn head(
         &self,
         collector: CollectorId,
         allocation: AllocationNumber,

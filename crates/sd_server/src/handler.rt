@@ -11,13 +11,13 @@ use crate::entry::{Entry, Reload};
 use crate::handler_parts::HandlerParts;
 use crate::list_texts::ListTexts;
 use crate::seen::Seen;
-use crate::tags::Tags;
 use admission::Admission;
 use alloc_desk::{Desk, Pass, shared_desk};
 use allocation_core::Event;
 use event_loops::Gate;
 use kept_journal::{JournalName, Kept};
 use lists::{Plain, Text};
+use sd_responses::ListTags;
 use sd_routes::{Ask, Notice, RequestError, Route, Said, Wanted, event_of, misshapen_member};
 use service_state::{ConfigPages, ServiceState};
 use std::alloc::{AllocError, Global};
@@ -250,9 +250,9 @@ impl<R: Wait + Clock + Copy, L: Ledger, B: Ledger, N: JournalName> Handler<R, L,
     }
 
     /// The entity tags that are known.
-    pub(crate) fn tags(&self) -> Option<Tags<R, N>> {
-        let texts = Arc::try_clone(&self.texts).ok()?;
-        Some(Tags { rt: self.rt, texts })
+    pub(crate) fn tags(&self) -> Option<ListTags<R>> {
+        let known = self.texts.tags()?;
+        Some(ListTags { rt: self.rt, known })
     }
 
     /// What the journal has when a request comes.

@@ -5,7 +5,6 @@
 //! connections and time they say nothing.
 #![tactic(auto)]
 
-mod accept;
 mod acknowledging;
 mod booked;
 mod by_loops;
@@ -23,7 +22,6 @@ mod laws;
 mod list_text;
 mod list_texts;
 mod look;
-mod manner;
 mod named;
 mod once_kept;
 mod one_by_one;
@@ -33,8 +31,8 @@ mod reported;
 mod seen;
 mod service;
 mod shown;
-mod tags;
-mod yaml;
+mod told_again;
+mod told_list;
 
 pub use by_loops::{DEFAULT_LOOPS, serve_by_loops};
 pub use entry::Entry;

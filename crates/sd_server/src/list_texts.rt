@@ -4,6 +4,7 @@ ghost use Rattle.sd_server.specs.Listing.{IfGroups};
 ghost use Rattle.sd_server.specs.Spans.{Span};
 
 use crate::list_text::ListText;
+use crate::told_list::ToldList;
 use alloc_desk::{DeskName, Front};
 use entity_tags::{KnownTags, TaggedText};
 use fleet_events::{AllocationNumber, CollectorId, TargetId};
@@ -16,25 +17,47 @@ use std::sync::{Arc, Mutex, Wait};
 #[derive(Drop)]
 pub struct ListTexts<N: DeskName> {
     kept: Mutex<Latest<N>>,
-    pub(crate) tags: KnownTags,
+    tags: Arc<KnownTags>,
 }
 
 #[derive(Drop)]
 struct Latest<N: DeskName> {
     allocation: AllocationNumber,
     texts: IndexMap<(CollectorId, usize), Arc<ListText<N>>>,
+    /// The lists as they were told last.
+    told: IndexMap<(CollectorId, usize), Arc<ToldList<N>>>,
+}
+
+impl<N: DeskName> Latest<N> {
+    /// Whether what is of an allocation is to be kept. What is of an earlier one goes.
+    fn is_of(&mut self, allocation: AllocationNumber) -> bool {
+        if allocation > self.allocation {
+            self.allocation = allocation;
+            self.texts.clear();
+            self.told.clear();
+        }
+        allocation == self.allocation
+    }
 }
 
 impl<N: DeskName> ListTexts<N> {
-    /// No texts. It takes no memory.
-    pub fn new(alloc: Global) -> ListTexts<N> {
-        ListTexts {
+    /// No texts.
+    pub fn shared(alloc: Global) -> Result<Arc<ListTexts<N>>, AllocError> {
+        let tags = Arc::new(alloc, KnownTags::new(alloc))?;
+        let texts = ListTexts {
             kept: Mutex::new(Latest {
                 allocation: 0,
                 texts: IndexMap::new(alloc),
+                told: IndexMap::new(alloc),
             }),
-            tags: KnownTags::new(alloc),
-        }
+            tags,
+        };
+        Ok(Arc::new(alloc, texts)?)
+    }
+
+    /// The entity tags of the lists.
+    pub(crate) fn tags(&self) -> Option<Arc<KnownTags>> {
+        Arc::try_clone(&self.tags).ok()
     }
 
     /// The text of what a collector holds of a job, where it is kept, and of what the front has seen.
@@ -78,16 +101,41 @@ impl<N: DeskName> ListTexts<N> {
         text: Arc<ListText<N>>,
     ) -> Result<(), AllocError> {
         let mut kept = self.kept.lock(rt);
-        if allocation < kept.allocation {
-            return Ok(());
+        if kept.is_of(allocation) {
+            kept.texts
+                .insert((collector, place), text)
+                .map_err(AllocError::from)?;
         }
-        if allocation > kept.allocation {
-            kept.allocation = allocation;
-            kept.texts.clear();
+        Ok(())
+    }
+
+    /// The list of a job as a collector was told it last.
+    pub(crate) fn told(
+        &self,
+        rt: &impl Wait,
+        collector: CollectorId,
+        place: usize,
+    ) -> Option<Arc<ToldList<N>>> {
+        let kept = self.kept.lock(rt);
+        let told = kept.told.get(&(collector, place))?;
+        Arc::try_clone(told).ok()
+    }
+
+    /// Keeps a list of an allocation as it was told, unless there are texts of a later one. Those of earlier ones go.
+    pub(crate) fn keep_told(
+        &self,
+        rt: &impl Wait,
+        allocation: AllocationNumber,
+        collector: CollectorId,
+        place: usize,
+        told: Arc<ToldList<N>>,
+    ) -> Result<(), AllocError> {
+        let mut kept = self.kept.lock(rt);
+        if kept.is_of(allocation) {
+            kept.told
+                .insert((collector, place), told)
+                .map_err(AllocError::from)?;
         }
-        kept.texts
-            .insert((collector, place), text)
-            .map_err(AllocError::from)?;
         Ok(())
     }
 }

@@ -3,18 +3,16 @@ ghost use Rattle.std.specs.Prelude.{◌≡◌, ◌⊎◌, IfOk};
 ghost use Rattle.std.specs.Arc.{arc_value};
 ghost use Rattle.sd_routes.specs.declared.request_error.RequestError.TheVariants.{Shape, Memory};
 ghost use Rattle.sd_routes.specs.declared.responding.Said.TheVariants.{Refused};
+ghost use Rattle.sd_responses.specs.Writing.{Writes};
 ghost use Rattle.sd_server.specs.Entries.{Leads, OnceKept};
 ghost use Rattle.sd_server.specs.Replies.{CanRead, Gives, Reads, SaysRead};
 ghost use Rattle.sd_server.specs.Spans.{Moves};
 ghost use Rattle.sd_server.specs.declared.reply.Stage.TheVariants as stage;
-ghost use Rattle.sd_server.specs.Writing.{Writes};
 
 use crate::counter::Counter;
 use crate::entry::Entry;
 use crate::handler::Handler;
-use crate::manner::Manner;
 use crate::seen::Seen;
-use crate::tags::Tags;
 use admission::LONGEST_BODY;
 use bytes::Bytes;
 use futures::task::{Context, Poll};
@@ -24,6 +22,7 @@ use http_body_util::combinators::Collect;
 use http_body_util::{BodyExt, Collected, Full, Limited, LimitedError};
 use hyper::body::Incoming;
 use kept_journal::JournalName;
+use sd_responses::{ListTags, Manner};
 use sd_routes::{Ask, RequestError, Said};
 use std::alloc::{AllocError, Global};
 use std::sync::Wait;
@@ -41,7 +40,7 @@ pub struct Reply<R, L: Ledger, B: Ledger, N: JournalName, I> {
     /// What counts the request once it is answered.
     counter: Option<Counter<R>>,
     /// The entity tags that are known.
-    tags: Option<Tags<R, N>>,
+    tags: Option<ListTags<R>>,
 }
 
 #[derive(Drop)]
@@ -63,7 +62,7 @@ impl<R, L: Ledger, B: Ledger, N: JournalName, I: Drop> Reply<R, L, B, N, I> {
     pub(crate) fn of(
         alloc: Global,
         counter: Option<Counter<R>>,
-        tags: Option<Tags<R, N>>,
+        tags: Option<ListTags<R>>,
         seen: Seen<N>,
         entry: Entry<N>,
         manner: Manner,

@@ -1,6 +1,6 @@
 //! What a request has seen of the journal.
-ghost use Rattle.std.specs.Prelude.{◌≡◌};
-ghost use Rattle.sd_server.specs.Spans.{Moves};
+ghost use Rattle.std.specs.Prelude.{◌≡◌, IsTrue};
+ghost use Rattle.sd_server.specs.Spans.{Moves, at_once};
 
 use alloc_desk::{DeskName, Front};
 use std::marker::Model;
@@ -50,5 +50,11 @@ impl<N: DeskName> Seen<N> {
         ensures stays { Moves self.now self.now }
     {
         &self.latest
+    }
+    /// Whether nothing was entered since the request came, as far as has been seen.
+    pub(crate) fn is_still(&self) -> bool
+        ensures { IsTrue result → self.now ≡ at_once N.opening self.now.after }
+    {
+        self.since.len() == self.latest.len()
     }
 }

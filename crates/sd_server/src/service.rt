@@ -15,10 +15,8 @@ ghost use Rattle.sd_server.specs.declared.entry.Entry.TheVariants as entry;
 ghost use Rattle.sd_server.specs.declared.reply.Stage.TheVariants as stage;
 ghost use Rattle.sd_routes.specs.declared.responding.Said.TheVariants.{Refused};
 
-use crate::accept::wants_document;
 use crate::entry::Entry;
 use crate::handler::Handler;
-use crate::manner::Manner;
 use crate::reply::Reply;
 use crate::seen::Seen;
 use bytes::Bytes;
@@ -29,6 +27,7 @@ use http_body_util::Full;
 use hyper::body::Incoming;
 use hyper::service::Service;
 use kept_journal::JournalName;
+use sd_responses::{Manner, wants_document};
 use sd_routes::{Ask, RequestError, Route, Routes, Said, route};
 use std::alloc::{AllocError, Global};
 use std::net::SocketAddr;

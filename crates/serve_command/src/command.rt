@@ -1,17 +1,8 @@
 //! The command: what its options ask for, and what it tells of it.
-use crate::configuration::ConfigurationFile;
-use crate::descriptors::{most_connections, warn_of_fewer};
-use crate::devices::{Devices, Machine};
-use crate::documents::{read_document, service_in};
-use crate::doors::admission_at;
 use crate::end::End;
-use crate::etcd_words::etcd_of;
 use crate::in_etcd::{Begun, serve_in_etcd};
 use crate::instance::{Instance, check_instance};
-use crate::listening::{listen_address, listener_at};
-use crate::not_followed::{told_valid, warn_of};
 use crate::running::serve_journal;
-use crate::standard_streams::hold_streams;
 use command_faults::{Fault, status_of, tell};
 use command_words::{ServeOptions, VERSION};
 use etcd_settings::Settings;
@@ -21,6 +12,10 @@ use log::{error, info};
 use log_queue::LogQueue;
 use logfmt::{Logfmt, Quoted};
 use sd_documents::Job;
+use serve_configuration::{
+    ConfigurationFile, Devices, Machine, admission_at, etcd_of, hold_streams, listen_address,
+    listener_at, most_connections, read_document, service_in, told_valid, warn_of, warn_of_fewer,
+};
 use service_tasks::Service;
 use std::alloc::{AllocError, AllocGlobal, Global};
 use std::fs::File;

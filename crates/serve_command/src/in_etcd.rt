@@ -1,7 +1,5 @@
 //! The service over a journal in etcd: it stands by until nobody leads, and then leads.
 use crate::command::Asked;
-use crate::configuration::ConfigurationFile;
-use crate::devices::Devices;
 use crate::end::End;
 use crate::instance::Instance;
 use crate::leading::lead;
@@ -14,6 +12,7 @@ use etcd_journal::{Opened, open};
 use event_loops::{Gate, Runtime};
 use log::{info, warn};
 use logfmt::Logfmt;
+use serve_configuration::{ConfigurationFile, Devices};
 use service_tasks::Service;
 use standby::Followed;
 use std::alloc::{AllocError, Global};

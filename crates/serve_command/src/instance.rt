@@ -1,9 +1,5 @@
 //! One instance of several over a journal in etcd.
 use crate::command::Asked;
-use crate::devices::Machine;
-use crate::documents::settings_in;
-use crate::doors::admission_at;
-use crate::password::password_at;
 use command_faults::Fault;
 use command_words::VERSION;
 use etcd_client::{EtcdClient, Login, Watch};
@@ -11,6 +7,7 @@ use etcd_requests::term_text;
 use etcd_settings::Settings;
 use lists::{Plain, Text};
 use scrape_client::Lookups;
+use serve_configuration::{Machine, admission_at, password_at, settings_in};
 use service_tasks::Service;
 use standby::Standing;
 use std::alloc::{AllocError, AllocGlobal, Global};

@@ -1,7 +1,5 @@
 //! An instance that leads.
 use crate::command::Asked;
-use crate::configuration::ConfigurationFile;
-use crate::devices::Devices;
 use crate::end::End;
 use crate::in_etcd::Begun;
 use crate::instance::Instance;
@@ -18,6 +16,7 @@ use journal_files::Wanted;
 use kept_journal::JournalFile;
 use log::warn;
 use logfmt::{Logfmt, Quoted};
+use serve_configuration::{ConfigurationFile, Devices};
 use service_tasks::{Configuration, Journal, Service};
 use std::fs::File;
 use std::net::TcpListener;

@@ -1,6 +1,4 @@
 //! The service over the allocator of its journal.
-use crate::configuration::ConfigurationFile;
-use crate::devices::Devices;
 use crate::end::End;
 use allocation_core::Core;
 use command_faults::Fault;
@@ -9,6 +7,7 @@ use journal_files::{Disk, Journals, Opened, open_allocator};
 use kept_journal::JournalFile;
 use log::{error, info, warn};
 use logfmt::{Logfmt, Quoted};
+use serve_configuration::{ConfigurationFile, Devices};
 use service_tasks::{Journal, Service};
 use std::alloc::{AllocError, AllocGlobal, Global};
 use std::fs::File;

@@ -78,6 +78,17 @@ impl Names {
         Ok(())
     }
 
+    /// A list was asked for then under a name that is known. Gives its last number.
+    pub(crate) fn asked_again(&mut self, name: &str, at: u64) -> Option<CollectorId> {
+        for known in &mut self.live {
+            if known.name.as_str() == name {
+                known.asked = known.asked.max(at);
+                return Some(known.id);
+            }
+        }
+        None
+    }
+
     /// When lists were asked for last, by the last numbers of all names.
     pub(crate) fn asked(&self, alloc: Global) -> Result<Vec<(CollectorId, u64)>, AllocError> {
         let mut asked = Vec::with_capacity(alloc, self.live.len())?;

@@ -275,6 +275,12 @@ impl ServiceState {
         let _ = self.names.lock(rt).note_asked(name, id, at);
     }
 
+    /// Somebody asks for a list under a name that asked before. Gives the last number that a live collector had it under.
+    pub fn asked_again<R: Wait + Clock>(&self, rt: &R, name: &str) -> Option<CollectorId> {
+        let at = seconds_now(rt);
+        self.names.lock(rt).asked_again(name, at)
+    }
+
     /// When the collector of this number asked for a list last, in seconds since 1970, if it did.
     pub fn last_asked(&self, rt: &impl Wait, id: CollectorId) -> Option<u64> {
         self.names.lock(rt).last_asked(id)

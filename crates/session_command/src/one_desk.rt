@@ -201,7 +201,7 @@ fn own_parts<N: JournalName>(
         quit: false,
     };
     let state = shared(alloc, ServiceState::new(alloc, lifecycle, 0))?;
-    let texts = shared(alloc, ListTexts::new(alloc))?;
+    let texts = ListTexts::shared(alloc)?;
     let doors = shared(alloc, Admission::open())?;
     Ok((state, texts, doors))
 }

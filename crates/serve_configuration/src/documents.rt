@@ -31,7 +31,7 @@ const NO_JOBS: &str =
     "scrape_configs: no job: all targets would be dropped; set allocator.allow_no_jobs to true where that is meant";
 
 /// Reads the document of a configuration file.
-pub(crate) fn read_document<R: Files<File = File>>(
+pub fn read_document<R: Files<File = File>>(
     rt: &R,
     alloc: Global,
     path: &str,
@@ -47,7 +47,7 @@ pub(crate) fn read_document<R: Files<File = File>>(
 }
 
 /// The service that the document of a configuration file asks for, over a journal in etcd or not. Where it is faulty its faults are told, a line each.
-pub(crate) fn service_in(
+pub fn service_in(
     alloc: Global,
     path: &str,
     document: &[u8],
@@ -176,7 +176,7 @@ fn settings_for(
     Ok(settings)
 }
 
-pub(crate) fn settings_in(alloc: Global, path: &str, document: &[u8]) -> Result<Settings, Fault> {
+pub fn settings_in(alloc: Global, path: &str, document: &[u8]) -> Result<Settings, Fault> {
     match read_settings(alloc, document) {
         Ok(settings) => Ok(settings),
         Err(SettingsError::Memory) => Err(AllocError.into()),

@@ -9,8 +9,8 @@ use Rattle.entity_tags.specs.Tags.{tag_of, Shows}
 use Rattle.sd_routes.specs.Responses.{IsResponse, closing, status_said, headers_said, body_said}
 use Rattle.sd_routes.specs.declared.responding.Said.{Said}
 use Rattle.sd_routes.specs.declared.responding.Said.TheVariants.{List as ListOf}
-use Rattle.sd_server.specs.Yaml.{is_page, told_as}
-use Rattle.sd_server.specs.declared.manner.Manner.{Manner}
+use Rattle.sd_responses.specs.Yaml.{is_page, told_as}
+use Rattle.sd_responses.specs.declared.manner.Manner.{Manner}
 
 -- the entity tag of a list that is told as JSON
 abbrev pub tag_said : Bool → Said → Option FieldValue

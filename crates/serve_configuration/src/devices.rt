@@ -20,8 +20,8 @@ use std::time::{Clock, Duration};
 /// Where the names of etcd's members are looked up: by who asks, and by who keeps a lease alive. One at a time is to ask each.
 #[derive(Drop)]
 pub struct EtcdLookups {
-    pub(crate) asks: Arc<Lookups>,
-    pub(crate) keeps: Arc<Lookups>,
+    pub asks: Arc<Lookups>,
+    pub keeps: Arc<Lookups>,
 }
 
 /// Starts what looks up the names of etcd's members, where the options or the configuration say that the journal is there. What is wrong with them is told later.
@@ -72,14 +72,14 @@ pub struct Machine<'a> {
 
 /// A device over HTTP, and the files of this machine.
 #[derive(Drop)]
-pub(crate) struct Devices<R> {
+pub struct Devices<R> {
     http: HyperFetches<R>,
     files: HostFiles<HostRuntime>,
 }
 
 impl<R> Devices<R> {
     /// The devices of a service of the configuration at a path, which gives each fetch so much time.
-    pub(crate) fn of(
+    pub fn of(
         rt: &R,
         machine: Machine<'_>,
         path: &str,

@@ -11,7 +11,7 @@ use std::time::Clock;
 const MOST_TOLD: usize = 256;
 
 /// What is told of a configuration that is valid: a line for each such member, and what its jobs leave out, before the line that says so.
-pub(crate) fn told_valid(
+pub fn told_valid(
     alloc: Global,
     path: &str,
     document: &[u8],
@@ -40,7 +40,7 @@ fn tell_ways(
 }
 
 /// A log line for each such member, of the first `MOST_TOLD`, and one for the others.
-pub(crate) fn warn_of<R: Eprint + Clock + Copy>(
+pub fn warn_of<R: Eprint + Clock + Copy>(
     rt: &R,
     alloc: Global,
     document: &[u8],

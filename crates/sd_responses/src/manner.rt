@@ -3,13 +3,12 @@ ghost use Rattle.std.specs.Prelude.{◌≡◌, ◌&&◌, IfOk, None, Some, false
 ghost use Rattle.http.specs.Response.{head_of, body_of};
 ghost use Rattle.http_header.specs.FieldValue.{FieldValue};
 ghost use Rattle.sd_routes.specs.Responses.{IsResponse};
-ghost use Rattle.sd_server.specs.Writing.{fields_said, tag_said, tagged, IsKnown, WritesTagged, Writes};
+ghost use Rattle.sd_responses.specs.Writing.{fields_said, tag_said, tagged, IsKnown, WritesTagged, Writes};
 
 use crate::accept::wants_yaml;
-use crate::tags::{Tags, list_tag};
+use crate::list_tags::{ListTags, list_tag};
 use crate::yaml::{as_yaml, is_page};
 use admission::has_body;
-use alloc_desk::DeskName;
 use bytes::Bytes;
 use entity_tags::is_shown;
 use http::header::{ETAG, HeaderValue, IF_NONE_MATCH};
@@ -22,18 +21,18 @@ use std::sync::Wait;
 
 /// How a reply is written.
 #[derive(Drop)]
-pub(crate) struct Manner {
+pub struct Manner {
     /// Whether there is a body that is not read.
-    pub(crate) closes: bool,
+    pub closes: bool,
     /// Whether a page is told as YAML.
-    pub(crate) is_yaml: bool,
+    pub is_yaml: bool,
     /// The entity tags of what whoever asks has.
-    pub(crate) shown: Option<HeaderValue>,
+    pub shown: Option<HeaderValue>,
 }
 
 impl Manner {
     /// That of a reply to a request with this head, whose body is not read.
-    pub(crate) fn of(fields: &HeaderMap) -> Manner {
+    pub fn of(fields: &HeaderMap) -> Manner {
         Manner {
             closes: has_body(fields),
             is_yaml: wants_yaml(fields),
@@ -42,7 +41,7 @@ impl Manner {
     }
 
     /// That of a reply to whom nothing is known of, after which the connection ends or goes on.
-    pub(crate) fn plain(closes: bool) -> Manner
+    pub fn plain(closes: bool) -> Manner
         ensures { result ≡ record { closes = closes; is_yaml = false; shown = None } }
     {
         Manner {
@@ -53,10 +52,10 @@ impl Manner {
     }
 
     /// The response that says it. A list has an entity tag, and is not sent again to who has it (RFC 9110, section 15.4.5).
-    pub(crate) fn written<R: Wait, N: DeskName>(
+    pub fn written<R: Wait>(
         &self,
         alloc: Global,
-        tags: &Option<Tags<R, N>>,
+        tags: &Option<ListTags<R>>,
         said: Said,
     ) -> Result<Response<Full<Bytes>>, AllocError>
         ensures { IfOk result (Writes self.now said) }
@@ -72,10 +71,10 @@ impl Manner {
     }
 
     /// The entity tag of a list that is told as JSON.
-    fn tag<R: Wait, N: DeskName>(
+    fn tag<R: Wait>(
         &self,
         alloc: Global,
-        tags: &Option<Tags<R, N>>,
+        tags: &Option<ListTags<R>>,
         said: &Said,
     ) -> Result<Option<HeaderValue>, AllocError>
         ensures { IfOk result (λ t. t ≡ tag_said self.now.is_yaml said.now) }

@@ -11,7 +11,7 @@ use std::net::{Ipv4Addr, Net, SocketAddr, TcpListener, TcpStream};
 use std::time::Clock;
 
 /// Where the service is to listen: at the address of the command line, or else at that of the configuration.
-pub(crate) fn listen_address<R: AllocGlobal>(
+pub fn listen_address<R: AllocGlobal>(
     rt: &R,
     options: &ServeOptions<'_>,
     service: &Service,
@@ -33,7 +33,7 @@ fn listen_at<R: AllocGlobal>(rt: &R, listen: &str) -> Result<SocketAddr, Fault> 
 }
 
 /// The listener at an address, which is told where it cannot be had.
-pub(crate) fn listener_at<R>(rt: &R, here: SocketAddr) -> Result<TcpListener, Fault>
+pub fn listener_at<R>(rt: &R, here: SocketAddr) -> Result<TcpListener, Fault>
 where
     R: Net<Listener = TcpListener, Stream = TcpStream> + Clock + Eprint + Copy,
 {

@@ -1,7 +1,7 @@
 //! YAML for who asks for it: a JSON text is a YAML text, so only the media type is another one.
 ghost use Rattle.std.specs.Prelude.{◌≡◌, IfOk, true};
 ghost use Rattle.http.specs.Response.{head_of, body_of};
-ghost use Rattle.sd_server.specs.Yaml.{is_page as is_page_of, told_as};
+ghost use Rattle.sd_responses.specs.Yaml.{is_page as is_page_of, told_as};
 
 use bytes::Bytes;
 use http::Response;

@@ -5,7 +5,7 @@ use std::alloc::{AllocError, Global};
 
 /// The settings of a journal in etcd: of that which is given, or else of that of the document of the configuration at a path. None where the journal is a file, or
 /// there is none.
-pub(crate) fn etcd_of(
+pub fn etcd_of(
     alloc: Global,
     path: &str,
     document: &[u8],

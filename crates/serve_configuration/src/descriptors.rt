@@ -19,7 +19,7 @@ const LIMITS: &str = "/proc/self/limits";
 
 /// How many connections there may be at once with the descriptors that may be open. Where those are too few it is refused to serve; what
 /// cannot be read is no limit.
-pub(crate) fn most_connections<R: Files<File = File>>(rt: &R, alloc: Global) -> Result<u32, Fault> {
+pub fn most_connections<R: Files<File = File>>(rt: &R, alloc: Global) -> Result<u32, Fault> {
     match most_descriptors(rt, alloc) {
         Some(most) if most < NEEDED => Err(too_few(alloc, most)),
         Some(most) => Ok(u32::try_from(most.saturating_sub(KEPT)).unwrap_or(u32::MAX)),
@@ -28,7 +28,7 @@ pub(crate) fn most_connections<R: Files<File = File>>(rt: &R, alloc: Global) -> 
 }
 
 /// Tells where fewer connections are served at once than the configuration asks for.
-pub(crate) fn warn_of_fewer<R: Eprint + Clock + Copy>(rt: &R, connections: u32, most: u32) {
+pub fn warn_of_fewer<R: Eprint + Clock + Copy>(rt: &R, connections: u32, most: u32) {
     if most < connections {
         warn!(Logfmt(*rt); connections:% = most, wanted:% = connections; "there are descriptors for fewer connections than allocator.connections: raise the limit (ulimit -n, or LimitNOFILE in a systemd unit)");
     }

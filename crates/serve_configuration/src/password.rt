@@ -10,7 +10,7 @@ use std::rt::Files;
 const LONGEST_PASSWORD: u64 = 1_048_576;
 
 /// The password in a file that nobody but its owner may read: its first line.
-pub(crate) fn password_at<R: Files<File = File> + AllocGlobal>(
+pub fn password_at<R: Files<File = File> + AllocGlobal>(
     rt: &R,
     path: &str,
     file: &str,

@@ -13,7 +13,7 @@ use std::rt::Files;
 const LONGEST_TOKENS: u64 = 1_048_576;
 
 /// Who may ask for what where a service listens at an address. The path is that of the configuration.
-pub(crate) fn admission_at<R: Files<File = File> + AllocGlobal>(
+pub fn admission_at<R: Files<File = File> + AllocGlobal>(
     rt: &R,
     path: &str,
     doors: &Doors,

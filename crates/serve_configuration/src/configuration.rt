@@ -13,7 +13,7 @@ use std::net::SocketAddr;
 
 /// The configuration file at a path.
 #[derive(Drop)]
-pub(crate) struct ConfigurationFile {
+pub struct ConfigurationFile {
     host: HostRuntime,
     alloc: Global,
     path: String,
@@ -30,7 +30,7 @@ pub(crate) struct ConfigurationFile {
 }
 
 impl ConfigurationFile {
-    pub(crate) fn new(
+    pub fn new(
         host: HostRuntime,
         alloc: Global,
         options: &ServeOptions<'_>,

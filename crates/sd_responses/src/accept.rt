@@ -16,7 +16,7 @@ pub(crate) fn wants_yaml(fields: &HeaderMap) -> bool {
 }
 
 /// Whether a head asks for a page for people: it names HTML's media type, and none of JSON or YAML before it.
-pub(crate) fn wants_document(fields: &HeaderMap) -> bool {
+pub fn wants_document(fields: &HeaderMap) -> bool {
     first_form(fields, true) == Some(Form::Document)
 }
 

@@ -3,10 +3,8 @@ ghost use Rattle.std.specs.Prelude.{◌≡◌, IfOk};
 ghost use Rattle.http_header.specs.FieldValue.{plain_value};
 ghost use Rattle.entity_tags.specs.Tags.{tag_of};
 
-use crate::list_texts::ListTexts;
-use alloc_desk::DeskName;
 use bytes::Bytes;
-use entity_tags::{TaggedText, entity_tag};
+use entity_tags::{KnownTags, TaggedText, entity_tag};
 use http_header::HeaderValue;
 use sd_routes::ListHead;
 use std::alloc::{AllocError, Global};
@@ -14,15 +12,15 @@ use std::sync::{Arc, Wait};
 
 /// The entity tags of the lists that collectors took.
 #[derive(Drop)]
-pub(crate) struct Tags<R, N: DeskName> {
-    pub(crate) rt: R,
-    pub(crate) texts: Arc<ListTexts<N>>,
+pub struct ListTags<R> {
+    pub rt: R,
+    pub known: Arc<KnownTags>,
 }
 
 /// The entity tag of a list with this head.
-pub(crate) fn list_tag<R: Wait, N: DeskName>(
+pub(crate) fn list_tag<R: Wait>(
     alloc: Global,
-    tags: &Option<Tags<R, N>>,
+    tags: &Option<ListTags<R>>,
     head: &ListHead,
     groups: &TaggedText,
 ) -> Result<HeaderValue, AllocError>
@@ -35,9 +33,9 @@ pub(crate) fn list_tag<R: Wait, N: DeskName>(
 }
 
 /// The entity tag of a text, which may be known.
-fn found_tag<R: Wait, N: DeskName>(
+fn found_tag<R: Wait>(
     alloc: Global,
-    tags: &Option<Tags<R, N>>,
+    tags: &Option<ListTags<R>>,
     head: &ListHead,
     groups: &Bytes,
 ) -> Result<HeaderValue, AllocError>
@@ -46,7 +44,7 @@ fn found_tag<R: Wait, N: DeskName>(
     match tags {
         Some(tags) => {
             let edition = u64::from(head.allocation);
-            tags.texts.tags.tag(&tags.rt, alloc, edition, groups)
+            tags.known.tag(&tags.rt, alloc, edition, groups)
         }
         None => entity_tag(alloc, groups.as_slice()),
     }

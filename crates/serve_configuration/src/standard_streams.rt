@@ -10,7 +10,7 @@ const STREAMS: i32 = 3;
 
 /// Files that stand in the places of the standard streams that are closed. As long as they are there no other file gets such a number, so
 /// that what is logged is written into none.
-pub(crate) fn hold_streams<R: Files<File = File>>(rt: &R, alloc: Global) -> io::Result<Vec<File>> {
+pub fn hold_streams<R: Files<File = File>>(rt: &R, alloc: Global) -> io::Result<Vec<File>> {
     let mut held = Vec::new(alloc);
     for _ in 0..STREAMS {
         let file = open_nothing(rt)?;
