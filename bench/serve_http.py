@@ -94,7 +94,7 @@ def service(folder, targets, journal=False, collectors=("a",), jobs=("node",)):
 
 @contextlib.contextmanager
 def nginx(folder, pages):
-    """As many workers as the service has loops, and these pages by name."""
+    """As many workers as the service has loops, and these pages by name, with the settings of Debian's package, but for its log."""
     port = free_port()
     os.makedirs(f"{folder}/pages")
     for name, page in pages.items():
@@ -104,7 +104,7 @@ def nginx(folder, pages):
         it.write(f"""
 worker_processes 4; worker_rlimit_nofile 16384; pid {folder}/nginx.pid; error_log {folder}/nginx.log; daemon off;
 events {{ worker_connections 8192; }}
-http {{ access_log off; default_type application/json; keepalive_requests 1000000000; sendfile on; tcp_nopush on; open_file_cache max=16;
+http {{ access_log off; default_type application/json; keepalive_requests 1000000000; sendfile on; tcp_nopush on;
   server {{ listen 127.0.0.1:{port} backlog=4096; root {folder}/pages; }} }}
 """)
     it = subprocess.Popen(["nginx", "-c", f"{folder}/nginx.conf"], stderr=subprocess.DEVNULL)
