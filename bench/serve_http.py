@@ -94,7 +94,7 @@ def service(folder, targets, journal=False, collectors=("a",), jobs=("node",)):
 
 @contextlib.contextmanager
 def nginx(folder, pages):
-    """As many workers as the service has loops, and these pages by name, with the settings of Debian's package, but for its log."""
+    """As many workers as the service has loops, and these pages by name. It keeps no log, and no files open."""
     port = free_port()
     os.makedirs(f"{folder}/pages")
     for name, page in pages.items():
