@@ -1,14 +1,14 @@
 -- The rows of a fleet's collectors over its known targets: after a change, and what is read of them.
-use Rattle.std.proofs.Common.{◌≡◌, ℕ, zero, suc, List, [], ◌∷◌, ◌++◌, Bool, true, false, cond, drop, length, map, take, refl, sym, ap, ◌∙◌, arith}
+use Rattle.std.proofs.Common.{◌≡◌, ℕ, zero, suc, List, [], ◌∷◌, ◌++◌, Bool, Option, None, Some, true, false, cond, drop, length, map, take, refl, sym, ap, ◌∙◌, arith}
 use Rattle.std.specs.Prelude.{◌==◌, filter, not, slice_get, slice_index_or}
-use Rattle.std.specs.Option.{option_map_or}
+use Rattle.std.specs.Option.{option_map, option_map_or}
 use Rattle.std.proofs.Math.Seq.{take-append_seam}
 use Rattle.std.proofs.lemmas.List.{length-map, map-append, take-append-drop}
 use Rattle.label_sets.specs.Target.{FinalTarget}
 use Rattle.reach_rules.specs.declared.rule.ReachRule.{ReachRule}
 use Rattle.reach_rules.specs.Rules.{reaches}
-use Rattle.reach_rules.specs.Table.{ReachRow, answers, is_reached_at, row_of, rows_without}
-use Rattle.fleet.specs.Reached.{reach_rows, reaches_in, rows_with, targets_of}
+use Rattle.reach_rules.specs.Table.{ReachRow, answers, is_reached_at, row_as, row_of, rows_without}
+use Rattle.fleet.specs.Reached.{reach_rows, reaches_in, rows_with, target_at, targets_at, targets_of}
 use Rattle.fleet.specs.declared.known_target.KnownTarget.{KnownTarget}
 use Rattle.fleet.specs.declared.collector.Collector.{Collector}
 
@@ -63,3 +63,39 @@ pub read_at : (collectors : List Collector) (known : List KnownTarget) (place nu
 read_at [] known place number = refl
 read_at (c ∷ collectors) known zero number = answer_at c.reach known number
 read_at (c ∷ collectors) known (suc place) number = read_at collectors known place number
+
+-- of what is not there nothing is reached
+abbrev told : List ReachRule → Option FinalTarget → Bool
+told rules target = option_map_or (reaches rules) target false
+
+told_of : (rules : List ReachRule) (o : Option KnownTarget) → option_map_or (λ (k : KnownTarget). reaches rules k.target) o false ≡ told rules (option_map (λ (k : KnownTarget). k.target) o)
+told_of rules None = refl
+told_of rules (Some k) = refl
+
+told_by :
+    (rules : List ReachRule) (others : List KnownTarget) (number : ℕ) (o : Option Collector) → option_map (λ (c : Collector). c.reach) o ≡ Some rules
+    → option_map_or (λ (c : Collector). option_map_or (λ (k : KnownTarget). reaches c.reach k.target) (slice_get others number) false) o false ≡ told rules (target_at others number)
+told_by rules others number None e = absurd (cc e)
+told_by rules others number (Some c) e =
+    let same : c.reach ≡ rules = cc e in
+    rw same (told_of rules (slice_get others number))
+
+told_at :
+    (rules : List ReachRule) (collectors : List Collector) (others : List KnownTarget) (place : ℕ) (numbers : List ℕ) → option_map (λ (c : Collector). c.reach) (slice_get collectors place) ≡ Some rules
+    → map (is_reached_at (reach_rows collectors others) place) numbers ≡ map (told rules) (targets_at others numbers)
+told_at rules collectors others place [] e = refl
+told_at rules collectors others place (number ∷ numbers) e =
+    rw (read_at collectors others place number ∙ told_by rules others number (slice_get collectors place) e, told_at rules collectors others place numbers e) refl
+
+told_all : (rules : List ReachRule) (targets : List FinalTarget) → map (told rules) (map Some targets) ≡ answers rules targets
+told_all rules [] = refl
+told_all rules (target ∷ targets) = ap (λ (bits : List Bool). reaches rules target ∷ bits) (told_all rules targets)
+
+-- the row of a collector with the rules of a place, where the known targets are those of these numbers among others
+pub row_from :
+    (id : ℕ) (rules : List ReachRule) (rows : List ReachRow) (collectors : List Collector) (others known : List KnownTarget) (place : ℕ) (numbers : List ℕ) → rows ≡ reach_rows collectors others
+    → option_map (λ (c : Collector). c.reach) (slice_get collectors place) ≡ Some rules → targets_at others numbers ≡ map Some (targets_of known) → row_as id rules rows place numbers ≡ row_of id rules (targets_of known)
+row_from id rules rows collectors others known place numbers all same targets =
+    let reached : map (is_reached_at rows place) numbers ≡ answers rules (targets_of known) =
+    rw all (told_at rules collectors others place numbers same ∙ ap (λ (os : List (Option FinalTarget)). map (told rules) os) targets ∙ told_all rules (targets_of known)) in
+    ap (λ (bits : List Bool). (let row : ReachRow = record { id = id; rules = rules; reached = bits } in row)) reached

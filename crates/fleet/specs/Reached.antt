@@ -1,6 +1,6 @@
 -- Who reaches what: the rows of answers that a fleet keeps, and what is read of them.
-use Rattle.std.specs.Prelude.{ℕ, List, Bool, false, map, slice_get}
-use Rattle.std.specs.Option.{option_map_or}
+use Rattle.std.specs.Prelude.{ℕ, List, Bool, Option, false, map, slice_get}
+use Rattle.std.specs.Option.{option_map, option_map_or}
 use Rattle.label_sets.specs.Target.{FinalTarget}
 use Rattle.reach_rules.specs.Rules.{reaches}
 use Rattle.reach_rules.specs.Table.{ReachRow, answered, row_of}
@@ -10,6 +10,13 @@ use Rattle.fleet.specs.Fleet.{FleetState}
 
 abbrev pub targets_of : List KnownTarget → List FinalTarget
 targets_of known = map (λ (k : KnownTarget). k.target) known
+
+-- the target of a number, if there is one
+abbrev pub target_at : List KnownTarget → ℕ → Option FinalTarget
+target_at known number = option_map (λ (k : KnownTarget). k.target) (slice_get known number)
+
+abbrev pub targets_at : List KnownTarget → List ℕ → List (Option FinalTarget)
+targets_at known numbers = map (target_at known) numbers
 
 -- for each live collector the answers of its rules for the known targets
 abbrev pub reach_rows : List Collector → List KnownTarget → List ReachRow

@@ -1,12 +1,13 @@
 //! The fleet, and how it changes.
-ghost use Rattle.std.specs.Prelude.{◌≡◌, ◌<◌, ◌≤◌, ◌↔◌, ◌≢◌, if◌then◌else◌, Some, None, Ok, Err, false, true, length, slice_get, MatchOption, IfErr, IfOk, OnOk, OnErr};
+ghost use Rattle.std.specs.Prelude.{◌≡◌, ◌++◌, ◌∷◌, [], ◌<◌, ◌≤◌, ◌↔◌, ◌≢◌, if◌then◌else◌, Some, None, Ok, Err, false, true, length, map, slice_get, MatchOption, IfErr, IfOk, OnOk, OnErr};
 ghost use Rattle.fleet.specs.Fleet.{first_fleet, id_named, is_joined, is_live, live_of};
 ghost use Rattle.fleet.specs.IsFleet.{IsFleet};
 ghost use Rattle.fleet.specs.Jobs.{are_jobs, sources_at};
+ghost use Rattle.reach_rules.specs.Table.{row_of};
 ghost use Rattle.fleet.specs.Changes.{listing_of, fleet_after_list, joining_of, join_refusal, fleet_after_join, fleet_after_leave, draining_of, fleet_after_drain, limiting_of, fleet_after_limits, kept_unless, relisted, IsChange};
 ghost use Rattle.fleet.specs.Live.{AreMarks};
 ghost use Rattle.fleet.specs.Parts.{are_distinct, fleet_of, parts_fault};
-ghost use Rattle.fleet.specs.Reached.{reaches_at};
+ghost use Rattle.fleet.specs.Reached.{reach_rows, reaches_at, targets_at, targets_of};
 
 use crate::collector::{
     Collector, begin_draining, has_id, id_named, is_draining, replace_limits, take_out,
@@ -18,11 +19,11 @@ use crate::jobs::{are_for_jobs, are_jobs, job_named, nothing_listed, sources_at}
 use crate::known_target::KnownTarget;
 use crate::limits::{LAST_COLLECTOR, MOST_BINS, MOST_COLLECTORS};
 use crate::listing::list;
-use crate::live::{listed_marks, live_numbers};
+use crate::live::{chosen, listed_marks, live_numbers};
 use crate::outcome::{
     DrainRefusal, Draining, JoinRefusal, Joining, Limiting, LimitsRefusal, ListRefusal, Listing,
 };
-use crate::parts::{known_set, reach_table};
+use crate::parts::{are_at, has_reach, known_set, reach_table};
 use crate::restoring::fault_of;
 use indexmap::IndexSet;
 use label_sets::Target;
@@ -78,7 +79,8 @@ impl Fleet {
         })
     }
 
-    /// The fleet of this state.
+    /// The fleet of this state. Whom a collector reaches is taken over from another fleet, where it is at the same place with the same rules there,
+    /// and where the known targets are those that are marked there. No rule is asked then.
     pub fn of_parts(
         alloc: Global,
         jobs: Vec<JobSpec>,
@@ -86,6 +88,8 @@ impl Fleet {
         known: Vec<KnownTarget>,
         collectors: Vec<Collector>,
         last_collector: u32,
+        from: &Fleet,
+        marks: &[bool],
     ) -> Result<Fleet, AllocError>
         requires kept { IsFleet (record { jobs = jobs.items; listed = listed.items; known = known.items; collectors = collectors.items; last_collector = last_collector }) }
         requires named { are_jobs jobs.items ≡ true }
@@ -95,7 +99,7 @@ impl Fleet {
             Some(known) => known,
             None => unreachable!(),
         };
-        let table = reach_table(alloc, collectors.as_slice(), known.as_slice())?;
+        let table = from.table_over(collectors.as_slice(), known.as_slice(), marks)?;
         Ok(Fleet {
             alloc,
             jobs: List::from_vec(jobs),
@@ -105,6 +109,61 @@ impl Fleet {
             last_collector,
             table,
         })
+    }
+
+    /// The answers of the collectors' rules for the known targets. Where these are those that are marked here, a collector at the same place with the
+    /// same rules is not asked again.
+    fn table_over(
+        &self,
+        collectors: &[Collector],
+        known: &[KnownTarget],
+        marks: &[bool],
+    ) -> Result<ReachTable, AllocError>
+        ensures { IfOk result (λ t. t.rows ≡ reach_rows collectors.now known.now) }
+    {
+        let numbers = chosen(self.alloc, marks)?;
+        if are_at(known, self.known.as_slice(), numbers.as_slice()) {
+            self.table_at(collectors, known, numbers.as_slice())
+        } else {
+            reach_table(self.alloc, collectors, known)
+        }
+    }
+
+    /// The same, where the known targets are those of these numbers here.
+    fn table_at(
+        &self,
+        collectors: &[Collector],
+        known: &[KnownTarget],
+        numbers: &[usize],
+    ) -> Result<ReachTable, AllocError>
+        requires { targets_at self.now.known numbers.now ≡ map Some (targets_of known.now) }
+        ensures { IfOk result (λ t. t.rows ≡ reach_rows collectors.now known.now) }
+    {
+        let mut table = ReachTable::open(self.alloc);
+        for place in 0..collectors.len() {
+            self.join_at(&mut table, &collectors[place], known, place, numbers)?;
+        }
+        Ok(table)
+    }
+
+    /// A collector joins a table. It is not asked where the one at the place here has its rules.
+    fn join_at(
+        &self,
+        table: &mut ReachTable,
+        collector: &Collector,
+        known: &[KnownTarget],
+        place: usize,
+        numbers: &[usize],
+    ) -> Result<(), AllocError>
+        requires { targets_at self.now.known numbers.now ≡ map Some (targets_of known.now) }
+        ensures { OnOk result (table.new.rows ≡ table.old.rows ++ row_of collector.now.id collector.now.reach (targets_of known.now) ∷ []) }
+    {
+        let reach = &collector.reach;
+        if has_reach(self.collectors.as_slice(), place, reach) {
+            table.join_as(collector.id, reach, &self.table, place, numbers)
+        } else {
+            table.join(collector.id, reach, known)
+        }
     }
 
     /// The fleet of these parts, or the first fault in them.

@@ -1,2 +1,3 @@
+pub mod DiscoverLemmas
 pub mod TargetLemmas
 pub mod Forms

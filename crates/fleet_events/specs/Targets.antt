@@ -1,11 +1,12 @@
 -- The targets of a discovery: each is a target group with one target text, in the form of a target group of Prometheus.
-use Rattle.std.specs.Prelude.{ℕ, List, [], ◌∷◌, Option, Some, None, option_and_then, codes, if◌then◌else◌}
+use Rattle.std.specs.Prelude.{◌≡◌, ◌<◌, ℕ, List, [], ◌∷◌, Option, Some, None, length, option_and_then, slice_index_or, codes, if◌then◌else◌}
 use Rattle.std.specs.Result.{result_ok}
 use Rattle.std.specs.Str.{bytes_eq}
 use Rattle.serde_json.specs.Data.{Data}
+use Rattle.json_values.specs.Texts.{ReadsTokens}
 use Rattle.label_sets.specs.Finish.{finished}
 use Rattle.label_sets.specs.Labels.{LabelList, with_label}
-use Rattle.label_sets.specs.Target.{FinalTarget}
+use Rattle.label_sets.specs.Target.{FinalTarget, target_data}
 use Rattle.label_sets.specs.declared.target.Finished.{Finished}
 use Rattle.label_sets.specs.declared.target.Finished.TheVariants.{Target, NoAddress}
 use Rattle.sd_documents.specs.Groups.{group_said}
@@ -39,3 +40,12 @@ group_in d = result_ok (group_said 0 Groups d)
 
 unfoldable pub target_in : Data → Option FinalTarget
 target_in d = option_and_then target_of (group_in d)
+
+-- ---- for private clauses: a target's group is read as JSON, and as the target
+
+abbrev pub IsReadBack : FinalTarget → Type 0
+IsReadBack target = ReadsTokens (target_data target) × (target_in (target_data target) ≡ Some target)
+
+-- all of them
+abbrev pub AreReadBack : List FinalTarget → Type 0
+AreReadBack targets = (i : ℕ) (d : FinalTarget) → i < length targets → IsReadBack (slice_index_or targets i d)

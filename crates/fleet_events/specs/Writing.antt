@@ -1,5 +1,7 @@
 -- The one form in which an event is written: a compact JSON object, its members in byte order of their names.
-use Rattle.std.specs.Prelude.{ℕ, List, [], ◌∷◌, Option, Some, None, true, false, codes}
+use Rattle.std.specs.Prelude.{ℕ, Bool, List, [], ◌∷◌, Option, Some, None, true, false, codes, decimal}
+use Rattle.json.specs.Token as token
+use Rattle.json.specs.Token.{Token, begin_object, key}
 use Rattle.serde_json.specs.Data.{Data, Members, boolean, string, object, no_members, member}
 use Rattle.serde_json.specs.Written.{compact_text}
 use Rattle.json_values.specs.Spelling.{number_data, pair_data, list_data}
@@ -139,3 +141,22 @@ event_data (Report report) = report_data report.collector report.allocation repo
 
 abbrev pub event_text : Event → List ℕ
 event_text event = compact_text (event_data event)
+
+abbrev pub is_discovery : Event → Bool
+is_discovery (Discover job source targets) = true
+is_discovery (Join name reach limits) = false
+is_discovery (Leave collector) = false
+is_discovery (Drain collector) = false
+is_discovery (SetLimits collector limits) = false
+is_discovery (Install plan) = false
+is_discovery (Spread spread) = false
+is_discovery NextRound = false
+is_discovery (Take collector) = false
+is_discovery (Serve collector job) = false
+is_discovery (Release collector job) = false
+is_discovery (Report report) = false
+
+-- the tokens of a discovery before its targets
+abbrev pub source_tokens : List ℕ → ℕ → List Token
+source_tokens job source =
+    begin_object ∷ key (codes "event") ∷ token.string (codes "discover") ∷ key (codes "job") ∷ token.string job ∷ key (codes "source") ∷ token.number (decimal source) ∷ key (codes "targets") ∷ []

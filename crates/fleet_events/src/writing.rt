@@ -1,21 +1,23 @@
 //! Events as JSON texts.
-ghost use Rattle.std.specs.Prelude.{◌≡◌, [], Some, None, false, IfOk, OnOk, codes};
+ghost use Rattle.std.specs.Prelude.{◌≡◌, ◌∷◌, ◌++◌, [], Some, None, false, IfOk, OnOk, codes};
 ghost use Rattle.std.specs.List.{list_any};
+ghost use Rattle.json.specs.Token.{key, string as string_token};
 ghost use Rattle.serde_json.specs.Data.{object, no_members};
-ghost use Rattle.serde_json.specs.View.{view, items_view, members_view};
-ghost use Rattle.json_values.specs.Spelling.{all_in, items_data};
-ghost use Rattle.json_values.specs.Texts.{is_line_feed};
+ghost use Rattle.serde_json.specs.View.{view, members_view};
+ghost use Rattle.json_values.specs.Spelling.{list_data};
+ghost use Rattle.json_values.specs.Texts.{is_line_feed, tokens_of};
 ghost use Rattle.label_sets.specs.Target.{target_data};
-ghost use Rattle.fleet_events.specs.Targets.{target_in};
+ghost use Rattle.fleet_events.specs.Targets.{AreReadBack, IsReadBack, target_in};
 ghost use Rattle.fleet_events.specs.Reading.{event_in, event_of, reported};
-ghost use Rattle.fleet_events.specs.Writing.{discover_data, unlimited_join_data, limited_join_data, join_data, collector_data, set_limits_data, install_data, round_data, serve_data, job_release_data, release_data, report_data, event_data, event_text};
+ghost use Rattle.fleet_events.specs.Writing.{discover_data, is_discovery, unlimited_join_data, limited_join_data, join_data, collector_data, set_limits_data, source_tokens, install_data, round_data, serve_data, job_release_data, release_data, report_data, event_data, event_text};
 
 use crate::event::Event;
 use crate::ids::CollectorId;
 use crate::members::put_event;
 use crate::report::Report;
 use crate::spreads::spread_value;
-use json_values::{Spelled, put_written, text_of};
+use json::Writer;
+use json_values::{Spelled, put_written, text_of, written_text};
 use label_sets::{Target, finishes_again, map_laws};
 use lists::Text;
 use price_certificate::Plan;
@@ -31,20 +33,35 @@ impl Event {
         ensures one_line { IfOk result (λ t. list_any is_line_feed t ≡ false) }
         ensures reads_back { IfOk result (λ t. event_of t ≡ Some self.now) }
     {
+        if let Event::Discover {
+            job,
+            source,
+            targets,
+        } = self
+        {
+            return discover_text(alloc, job.as_str(), *source, targets.as_slice());
+        }
+        self.plain_text(alloc)
+    }
+
+    /// The text of an event that is no discovery, by way of a value.
+    fn plain_text(&self, alloc: Global) -> Result<Text, AllocError>
+        requires { is_discovery self.now ≡ false }
+        ensures form { IfOk result (λ t. t ≡ event_text self.now) }
+        ensures one_line { IfOk result (λ t. list_any is_line_feed t ≡ false) }
+        ensures reads_back { IfOk result (λ t. event_of t ≡ Some self.now) }
+    {
         let value = self.to_value(alloc)?;
         text_of(alloc, &value)
     }
 
     fn to_value(&self, alloc: Global) -> Result<Value, AllocError>
+        requires { is_discovery self.now ≡ false }
         ensures form { IfOk result (λ v. view v ≡ event_data self.now) }
         ensures reads_back { IfOk result (λ v. event_in (view v) ≡ Some self.now) }
     {
         match self {
-            Event::Discover {
-                job,
-                source,
-                targets,
-            } => discover_value(alloc, job, *source, targets.as_slice()),
+            Event::Discover { .. } => unreachable!(),
             Event::Join {
                 name,
                 reach,
@@ -64,30 +81,83 @@ impl Event {
     }
 }
 
-#[tactic(auto, unfolding(crate::specs::Reading::event_in, crate::specs::Reading::discover_in))]
-fn discover_value(
+/// A discovery. Its targets are many, so no value is made of them.
+fn discover_text(
     alloc: Global,
-    job: &Text,
+    job: &str,
     source: u32,
     targets: &[Target],
-) -> Result<Value, AllocError>
-    ensures form { IfOk result (λ v. view v ≡ discover_data job.now source targets.now) }
-    ensures reads_back { IfOk result (λ v. event_in (view v) ≡ Some (Event.Discover job.now source targets.now)) }
+) -> Result<Text, AllocError>
+    ensures form { IfOk result (λ t. t ≡ event_text (Event.Discover job.now source targets.now)) }
+    ensures one_line { IfOk result (λ t. list_any is_line_feed t ≡ false) }
+    ensures reads_back { IfOk result (λ t. event_of t ≡ Some (Event.Discover job.now source targets.now)) }
 {
-    let job = job.as_str();
-    let targets = Value::Array(target_values(alloc, targets)?);
-    json!(in alloc; {"event": "discover", "job": job, "source": source, "targets": targets})
+    let mut out = Writer::new(Vec::new(alloc));
+    match put_discover(&mut out, job, source, targets) {
+        Ok(()) => written_text(out),
+        Err(error) => {
+            drop(out);
+            Err(error)
+        }
+    }
 }
 
-fn target_values(alloc: Global, targets: &[Target]) -> Result<Vec<Value>, AllocError>
-    ensures form { IfOk result (λ vs. items_view vs.items ≡ items_data target_data targets.now) }
-    ensures reads_back { IfOk result (λ vs. all_in target_in (items_view vs.items) ≡ Some targets.now) }
+fn put_discover(
+    out: &mut Writer,
+    job: &str,
+    source: u32,
+    targets: &[Target],
+) -> Result<(), AllocError>
+    ensures tokens { OnOk result (out.new.tokens ≡ out.old.tokens ++ tokens_of (discover_data job.now source targets.now)) }
+    ensures before { out.new.before ≡ out.old.before }
+    ensures said { OnOk result (AreReadBack targets.now) }
 {
-    let mut values = Vec::with_capacity(alloc, targets.len())?;
+    put_source(out, job, u64::from(source))?;
+    put_targets(out, targets)?;
+    out.end_object()
+}
+
+/// Writes what a discovery says before its targets.
+fn put_source(out: &mut Writer, job: &str, source: u64) -> Result<(), AllocError>
+    ensures tokens { OnOk result (out.new.tokens ≡ out.old.tokens ++ source_tokens job.now source) }
+    ensures before { out.new.before ≡ out.old.before }
+{
+    out.begin_object()?;
+    put_text(out, "event", "discover")?;
+    put_text(out, "job", job)?;
+    out.key("source")?;
+    out.u64(source)?;
+    out.key("targets")
+}
+
+fn put_text(out: &mut Writer, name: &str, text: &str) -> Result<(), AllocError>
+    ensures tokens { OnOk result (out.new.tokens ≡ out.old.tokens ++ key name.now ∷ string_token text.now ∷ []) }
+    ensures before { out.new.before ≡ out.old.before }
+{
+    out.key(name)?;
+    out.string(text)
+}
+
+fn put_targets(out: &mut Writer, targets: &[Target]) -> Result<(), AllocError>
+    ensures tokens { OnOk result (out.new.tokens ≡ out.old.tokens ++ tokens_of (list_data target_data targets.now)) }
+    ensures before { out.new.before ≡ out.old.before }
+    ensures said { OnOk result (AreReadBack targets.now) }
+{
+    out.begin_array()?;
     for target in targets {
-        values.push(target_value(alloc, target)?)?;
+        put_target(out, target)?;
     }
-    Ok(values)
+    out.end_array()
+}
+
+fn put_target(out: &mut Writer, target: &Target) -> Result<(), AllocError>
+    ensures tokens { OnOk result (out.new.tokens ≡ out.old.tokens ++ tokens_of (target_data target.now)) }
+    ensures before { out.new.before ≡ out.old.before }
+    ensures said { IsReadBack target.now }
+{
+    map_laws();
+    finishes_again();
+    target.write(out)
 }
 
 /// The target's group as a JSON value, which says the target again.

@@ -94,6 +94,8 @@ fn renewed(
         known,
         collectors,
         fleet.last_collector(),
+        fleet,
+        marks.as_slice(),
     )?;
     Ok(RenewedFleet {
         fleet,

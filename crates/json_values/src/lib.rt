@@ -13,4 +13,4 @@ mod written;
 pub use members::{LeftOut, members_but};
 pub use parsing::parse;
 pub use spelled::{FromJson, Spelled, array_of, list_of, member, number, put_written};
-pub use written::text_of;
+pub use written::{text_of, written_text};

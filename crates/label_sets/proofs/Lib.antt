@@ -4,3 +4,4 @@ pub mod LawProofs
 pub mod Objects
 pub mod Identity
 pub mod Finals
+pub mod ReadBack

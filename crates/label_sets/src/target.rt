@@ -1,11 +1,13 @@
 //! Final targets, and how a label set is finished to one.
-ghost use Rattle.std.specs.Prelude.{◌≡◌, IfOk, IsTrue};
+ghost use Rattle.std.specs.Prelude.{◌≡◌, ◌++◌, IfOk, IsTrue, OnOk};
 ghost use Rattle.serde_json.specs.View.{view};
+ghost use Rattle.json_values.specs.Texts.{ReadsTokens, tokens_of};
 ghost use Rattle.label_sets.specs.Finish.{finished};
 ghost use Rattle.label_sets.specs.Target.{IsFinal, target_data, target_label, target_text};
 
 use crate::labels::Labels;
-use crate::texts::{text_of_target, value_of_target};
+use crate::texts::{put_target, text_of_target, value_of_target};
+use json::Writer;
 use lists::{Plain, Text};
 use serde_json::Value;
 use std::alloc::{AllocError, Global};
@@ -69,6 +71,16 @@ impl Target {
         ensures is_final { IsFinal self.now }
     {
         value_of_target(alloc, self.labels.entries(), self.address.as_str())
+    }
+
+    /// Writes the group's text.
+    pub fn write(&self, out: &mut Writer) -> Result<(), AllocError>
+        ensures tokens { OnOk result (out.new.tokens ≡ out.old.tokens ++ tokens_of (target_data self.now)) }
+        ensures before { out.new.before ≡ out.old.before }
+        ensures reads { ReadsTokens (target_data self.now) }
+        ensures is_final { IsFinal self.now }
+    {
+        put_target(out, self.labels.entries(), self.address.as_str())
     }
 
     /// The text of a label of the group or of `__address__`, and else the empty text.

@@ -48,6 +48,10 @@ is_reached rows id number = option_map_or (λ row. answer_in row number) (find (
 abbrev pub is_reached_at : List ReachRow → ℕ → ℕ → Bool
 is_reached_at rows place number = option_map_or (λ row. answer_in row number) (slice_get rows place) false
 
+-- the row of a collector that reaches what the one at a place of other rows does, where the targets are those of these numbers there
+abbrev pub row_as : ℕ → List ReachRule → List ReachRow → ℕ → List ℕ → ReachRow
+row_as id rules rows place numbers = record { id = id; rules = rules; reached = map (is_reached_at rows place) numbers }
+
 -- ---- how the rows are kept
 
 abbrev pub shown : Row → ReachRow

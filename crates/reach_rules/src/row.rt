@@ -32,6 +32,19 @@ pub(crate) fn row_of<T: HasTarget>(
     Ok(Row { id, reach, reached })
 }
 
+/// The row of a collector that reaches these targets.
+pub(crate) fn row_with(id: u32, reach: &Reach, reached: BitRow) -> Result<Row, AllocError>
+    ensures { IfOk result (λ row. shown row ≡ record { id = id; rules = reach.now; reached = reached.bits }) }
+{
+    match reach.copy() {
+        Ok(reach) => Ok(Row { id, reach, reached }),
+        Err(error) => {
+            drop(reached);
+            Err(error)
+        }
+    }
+}
+
 /// Makes room for the answers for so many targets more.
 pub(crate) fn make_room(row: &mut Row, more: usize) -> Result<(), AllocError>
     ensures same { shown row.new ≡ shown row.old }

@@ -1,11 +1,12 @@
 //! Which of the collectors that joined reach which of the targets that appeared, as a table of bits.
-ghost use Rattle.std.specs.Prelude.{◌≡◌, ◌<◌, ◌≤◌, ◌==◌, ◌++◌, ◌∷◌, [], not, filter, length, map, OnOk, OnErr};
-ghost use Rattle.reach_rules.specs.Table.{answered, is_reached, is_reached_at, row_of, rows_without, shown, spare_in};
+ghost use Rattle.std.specs.Prelude.{◌≡◌, ◌<◌, ◌≤◌, ◌==◌, ◌++◌, ◌∷◌, [], not, filter, length, map, IfOk, OnOk, OnErr};
+ghost use Rattle.reach_rules.specs.Table.{answered, is_reached, is_reached_at, row_as, row_of, rows_without, shown, spare_in};
 ghost use Rattle.reach_rules.specs.declared.row.Row.{Row};
 
+use crate::bits::BitRow;
 use crate::has_target::HasTarget;
 use crate::reach::Reach;
-use crate::row::{Row, answer, make_room, row_of};
+use crate::row::{Row, answer, make_room, row_of, row_with};
 use std::alloc::{AllocError, Global};
 use std::marker::Model;
 
@@ -70,6 +71,25 @@ impl ReachTable {
         Ok(())
     }
 
+    /// A collector joins, and its rules are not asked: it reaches what the collector at a place of another table does. The targets are those of
+    /// that table at these numbers, in this order.
+    pub fn join_as(
+        &mut self,
+        id: u32,
+        reach: &Reach,
+        from: &ReachTable,
+        place: usize,
+        numbers: &[usize],
+    ) -> Result<(), AllocError>
+        ensures ok { OnOk result (self.new.rows ≡ self.old.rows ++ row_as id reach.now from.now.rows place numbers.now ∷ []) }
+        ensures err { OnErr result (self.new.rows ≡ self.old.rows) }
+    {
+        let reached = reached_at(self.alloc, from, place, numbers)?;
+        let row = row_with(id, reach, reached)?;
+        self.rows.push(row)?;
+        Ok(())
+    }
+
     /// A collector leaves, and its row is given up. It takes no memory.
     pub fn leave(&mut self, id: u32)
         ensures { self.new.rows ≡ rows_without self.old.rows id }
@@ -92,6 +112,30 @@ impl ReachTable {
             Some(row) => row.reached.has(number),
             None => false,
         }
+    }
+}
+
+/// Which targets of these numbers the collector at a place of a table reaches.
+fn reached_at(
+    alloc: Global,
+    table: &ReachTable,
+    place: usize,
+    numbers: &[usize],
+) -> Result<BitRow, AllocError>
+    ensures { IfOk result (λ row. row.bits ≡ map (is_reached_at table.now.rows place) numbers.now) }
+{
+    let mut reached = BitRow::new(alloc);
+    reached.reserve(numbers.len())?;
+    push_reached(&mut reached, table, place, numbers);
+    Ok(reached)
+}
+
+fn push_reached(reached: &mut BitRow, table: &ReachTable, place: usize, numbers: &[usize])
+    requires { length numbers.now ≤ reached.old.spare }
+    ensures { reached.new.bits ≡ reached.old.bits ++ map (is_reached_at table.now.rows place) numbers.now }
+{
+    for number in numbers {
+        reached.push_reserved(table.reaches_at(place, *number));
     }
 }
 

@@ -1,8 +1,8 @@
-use Rattle.label_sets.proofs.Objects.{no_float}
+use Rattle.std.proofs.Common.{◌≡◌, ℕ, List, IfOk, subst}
+use Rattle.label_sets.specs.Written.{labels_data}
+use Rattle.json_values.proofs.Texts.{printed}
 use Rattle.label_sets.proofs.texts.text_of_labels.Goals as goal
 
-pub written-requires : goal.written-requires
-written-requires c = rw c.in_ok-object.ensures (no_float c.args.entries.now)
-
-pub returns : goal.returns
-returns c = rw c.in_ok-object.ensures at c.written.ensures
+pub returns-in-Ok : goal.returns-in-Ok
+returns-in-Ok c =
+    subst (λ (bytes : List ℕ). IfOk c.written_text.result (λ t. t ≡ bytes)) (printed c.new-out.result.tokens c.put_labels.new.out.tokens (labels_data c.args.entries.now) c.new-out.ensures.tokens c.in-Ok.ensures.tokens) c.written_text.ensures.text

@@ -5,7 +5,7 @@ use Rattle.serde_json.specs.Read.{max_depth}
 use Rattle.serde_json.specs.Written.{has_float, compact_text}
 use Rattle.fleet_events.specs.Reading.{event_in}
 use Rattle.fleet_events.proofs.Forms.{event_no_float, event_levels}
-use Rattle.fleet_events.proofs.event.Event.to_json.Goals as goal
+use Rattle.fleet_events.proofs.event.Event.plain_text.Goals as goal
 
 pub returns-clause-form : goal.returns-clause-form
 returns-clause-form c =
