@@ -57,22 +57,23 @@ class Waits:
     """A client that asks all the time, and how long its answers take."""
 
     def __init__(self, port):
-        self.port, self.over, self.longest = port, threading.Event(), 0.0
+        self.port, self.over, self.all = port, threading.Event(), []
         self.thread = threading.Thread(target=self.run)
         self.thread.start()
 
     def run(self):
         while not self.over.is_set():
             for path in ("/jobs", "/jobs/job-0/targets?collector_id=c0"):
-                began = time.monotonic()
+                began = time.time()
                 ask(self.port, "GET", path)
-                self.longest = max(self.longest, time.monotonic() - began)
+                self.all.append((began, time.time()))
             time.sleep(0.005)
 
-    def end(self):
+    def longest(self, begun, ended):
+        """The longest of those that waited between two times, in seconds since 1970."""
         self.over.set()
         self.thread.join()
-        return self.longest
+        return max(after - before for before, after in self.all if before < ended and after > begun)
 
 
 def megabytes(pid):
@@ -99,22 +100,22 @@ def renewal(folder, reach):
     os.mkdir(folder)
     journal = f"{folder}/journal"
     service = Service(folder, configuration(0, reach), journal)
+    waits = None
     try:
         for wave in range(len(WAVES)):
             if wave:
                 service.write(configuration(wave, reach))
                 before = processor_seconds(service.it.pid)
-                waits = Waits(service.port) if wave == len(WAVES) - 1 else None
+                waits = waits or (Waits(service.port) if wave == len(WAVES) - 2 else None)
                 service.ask("POST", "/-/reload")
             if wave < len(WAVES) - 1 and not comes(lambda: is_covered(service), 300):
                 sys.exit("the service gives no allocation")
             time.sleep(1)
         if not comes(lambda: time_in(f"{folder}/log", "the allocator is renewed"), 300):
             sys.exit("the allocator is not renewed")
-        took = time_in(f"{folder}/log", "the allocator is renewed") - time_in(f"{folder}/log", "nearly full")
+        begun, ended = time_in(f"{folder}/log", "nearly full"), time_in(f"{folder}/log", "the allocator is renewed")
         time.sleep(1)
-        longest = waits.end()
-        row = took, processor_seconds(service.it.pid) - before, longest, megabytes(service.it.pid)
+        row = ended - begun, processor_seconds(service.it.pid) - before, waits.longest(begun, ended), megabytes(service.it.pid)
     finally:
         service.it.kill()
         service.it.wait()

@@ -8,6 +8,7 @@ ghost use Rattle.journal_entries.specs.Legal.{IsLegal};
 ghost use Rattle.alloc_desk.specs.Receipts.{told, told_from};
 
 use crate::front::Front;
+use crate::leftover::Leftover;
 use crate::name::DeskName;
 use crate::receipt::Receipt;
 use crate::record::Record;
@@ -63,6 +64,14 @@ impl<N: DeskName> Closed<N> {
         ensures { result ≡ self.state }
     {
         self.record.into_core()
+    }
+
+    /// The same, and what is left of the desk.
+    pub fn into_parts(self) -> (Core, Leftover)
+        ensures { result.0 ≡ self.state }
+    {
+        let (core, journal) = self.record.into_parts();
+        (core, Leftover { journal })
     }
 
     /// Whether the receipts, each beside its event, are those that the journal gave, in its order.

@@ -74,6 +74,13 @@ impl Record {
         self.core
     }
 
+    /// The allocator and the entries.
+    pub(crate) fn into_parts(self) -> (Core, Vec<Entry>)
+        ensures { result.0 ≡ self.state }
+    {
+        (self.core, self.journal)
+    }
+
     /// The entries in order.
     pub fn journal(&self) -> &[Entry]
         ensures { result.now ≡ self.now.journal }

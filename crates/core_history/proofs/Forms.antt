@@ -6,8 +6,8 @@ use Rattle.serde_json.specs.Read.{max_depth}
 use Rattle.serde_json.specs.Written.{has_float}
 use Rattle.json_values.specs.Spelling.{number_data, pair_data, list_data}
 use Rattle.json_values.proofs.Lists.{no_float, levels}
-use Rattle.price_certificate.specs.Document.{document_data}
-use Rattle.price_certificate.proofs.DocumentForm.{has_float-document_data, levels-document_data}
+use Rattle.price_certificate.specs.Document.{shared_document_data}
+use Rattle.price_certificate.proofs.DocumentForm.{has_float-shared_document_data, levels-shared_document_data}
 use Rattle.fleet.specs.Fleet.{FleetState}
 use Rattle.fleet.specs.declared.collector.Collector.{Collector}
 use Rattle.fleet.specs.declared.job.JobSpec.{JobSpec}
@@ -33,10 +33,10 @@ fleet_no_float fleet =
     or_from _ _ (no_float collector_data collector_no_float fleet.collectors) (or_from _ _ (no_float job_data (λ job. refl) fleet.jobs)
     (or_from _ _ (no_float (list_data (list_data number_data)) (no_float (list_data number_data) numbers_no_float) fleet.listed) (or_from _ _ (no_float known_data known_no_float fleet.known) refl)))
 
-rest_no_float : (m : State) (slots : Option (List ℕ)) → has_float (history_by (list_data pair_data (current_pairs m)) (document_data m.problem m.plan.pairs m.plan.item_prices m.plan.bin_prices) (fleet_data m.fleet) (number_data m.round) slots) ≡ false
-rest_no_float m None = or_from _ _ (no_float pair_data (λ q. refl) (current_pairs m)) (or_from _ _ (has_float-document_data m.problem m.plan.pairs m.plan.item_prices m.plan.bin_prices) (or_from _ _ (fleet_no_float m.fleet) refl))
+rest_no_float : (m : State) (slots : Option (List ℕ)) → has_float (history_by (list_data pair_data (current_pairs m)) (shared_document_data m.problem m.plan.pairs m.plan.item_prices m.plan.bin_prices) (fleet_data m.fleet) (number_data m.round) slots) ≡ false
+rest_no_float m None = or_from _ _ (no_float pair_data (λ q. refl) (current_pairs m)) (or_from _ _ (has_float-shared_document_data m.problem m.plan.pairs m.plan.item_prices m.plan.bin_prices) (or_from _ _ (fleet_no_float m.fleet) refl))
 rest_no_float m (Some slots) =
-    or_from _ _ (no_float pair_data (λ q. refl) (current_pairs m)) (or_from _ _ (has_float-document_data m.problem m.plan.pairs m.plan.item_prices m.plan.bin_prices) (or_from _ _ (fleet_no_float m.fleet) (or_from _ _ (numbers_no_float slots) refl)))
+    or_from _ _ (no_float pair_data (λ q. refl) (current_pairs m)) (or_from _ _ (has_float-shared_document_data m.problem m.plan.pairs m.plan.item_prices m.plan.bin_prices) (or_from _ _ (fleet_no_float m.fleet) (or_from _ _ (numbers_no_float slots) refl)))
 
 pub history_no_float : (m : State) → has_float (history_data m) ≡ false
 history_no_float m = rest_no_float m (slots_said m.served.slots)
@@ -59,10 +59,10 @@ fleet_levels : (fleet : FleetState) → depth (fleet_data fleet) ≤ 5
 fleet_levels fleet =
     omega (arith, levels collector_data 3 collector_levels fleet.collectors, levels job_data 1 (λ job. omega arith) fleet.jobs, levels (list_data (list_data number_data)) 2 sources_levels fleet.listed, levels known_data 3 known_levels fleet.known)
 
-rest_levels : (m : State) (slots : Option (List ℕ)) → depth (history_by (list_data pair_data (current_pairs m)) (document_data m.problem m.plan.pairs m.plan.item_prices m.plan.bin_prices) (fleet_data m.fleet) (number_data m.round) slots) ≤ max_depth
-rest_levels m None = omega (arith, levels pair_data 1 (λ q. omega arith) (current_pairs m), levels-document_data m.problem m.plan.pairs m.plan.item_prices m.plan.bin_prices, fleet_levels m.fleet)
+rest_levels : (m : State) (slots : Option (List ℕ)) → depth (history_by (list_data pair_data (current_pairs m)) (shared_document_data m.problem m.plan.pairs m.plan.item_prices m.plan.bin_prices) (fleet_data m.fleet) (number_data m.round) slots) ≤ max_depth
+rest_levels m None = omega (arith, levels pair_data 1 (λ q. omega arith) (current_pairs m), levels-shared_document_data m.problem m.plan.pairs m.plan.item_prices m.plan.bin_prices, fleet_levels m.fleet)
 rest_levels m (Some slots) =
-    omega (arith, levels pair_data 1 (λ q. omega arith) (current_pairs m), levels-document_data m.problem m.plan.pairs m.plan.item_prices m.plan.bin_prices, fleet_levels m.fleet, numbers_levels slots)
+    omega (arith, levels pair_data 1 (λ q. omega arith) (current_pairs m), levels-shared_document_data m.problem m.plan.pairs m.plan.item_prices m.plan.bin_prices, fleet_levels m.fleet, numbers_levels slots)
 
 pub history_levels : (m : State) → depth (history_data m) ≤ max_depth
 history_levels m = rest_levels m (slots_said m.served.slots)

@@ -1,6 +1,7 @@
--- A renewed core as JSON: `allocation`, pairs of a target and its collector, `certificate`, a certificate document, `fleet`, `round`, and
--- `served`, for each known target the collector of which a list that was served last has it, 0 for none; left out where none has any. What
--- a line says is a state, or the first fault in this order: the shape, the fleet's parts, the allocation, the round, the lists served.
+-- A renewed core as JSON: `allocation`, pairs of a target and its collector, `certificate`, a certificate document in which items share their
+-- lists of bins, `fleet`, `round`, and `served`, for each known target the collector of which a list that was served last has it, 0 for none;
+-- left out where none has any. What a line says is a state, or the first fault in this order: the shape, the fleet's parts, the allocation,
+-- the round, the lists served.
 use Rattle.std.specs.Prelude.{◌≡◌, true, ℕ, ◌==◌, List, Bool, not, ◌&&◌, nat_le, nat_lt, if◌then◌else◌, [], length, map, Option, Some, None, option_map, option_and_then, Result, Ok, Err, codes}
 use Rattle.std.specs.List.{list_all}
 use Rattle.lists.specs.Rising.{rises}
@@ -9,7 +10,7 @@ use Rattle.serde_json.specs.Find.{get}
 use Rattle.serde_json.specs.Written.{compact_text}
 use Rattle.json_values.specs.Spelling.{number_in, pair_in, list_in, member_in, number_data, pair_data, list_data}
 use Rattle.json_values.specs.Texts.{json_of}
-use Rattle.price_certificate.specs.Document.{document_data}
+use Rattle.price_certificate.specs.Document.{shared_document_data}
 use Rattle.price_certificate.specs.Instances.{problem_in}
 use Rattle.price_certificate.specs.Plan.{plan_in}
 use Rattle.price_certificate.specs.Problem.{Problem}
@@ -137,7 +138,7 @@ history_by allocation certificate fleet round (Some slots) = served_object alloc
 
 abbrev pub history_data : State → Data
 history_data m =
-    history_by (list_data pair_data (current_pairs m)) (document_data m.problem m.plan.pairs m.plan.item_prices m.plan.bin_prices) (fleet_data m.fleet) (number_data m.round) (slots_said m.served.slots)
+    history_by (list_data pair_data (current_pairs m)) (shared_document_data m.problem m.plan.pairs m.plan.item_prices m.plan.bin_prices) (fleet_data m.fleet) (number_data m.round) (slots_said m.served.slots)
 
 abbrev pub history_text : State → List ℕ
 history_text m = compact_text (history_data m)

@@ -4,14 +4,14 @@ ghost use Rattle.std.specs.List.{list_all, list_any};
 ghost use Rattle.serde_json.specs.Data.{no_members, object};
 ghost use Rattle.serde_json.specs.View.{members_view, view};
 ghost use Rattle.json_values.specs.Texts.{is_line_feed};
-ghost use Rattle.price_certificate.specs.Document.{document_data};
+ghost use Rattle.price_certificate.specs.Document.{shared_document_data};
 ghost use Rattle.core_history.specs.History.{ReadsBack, certificate_in, certificate_of, history_data, history_in, history_said, history_text, kept_of, parts_in};
 
 use crate::fleet_parts::fleet_value;
 use allocation_core::Core;
 use json_values::{Spelled, array_of, text_of};
 use lists::Text;
-use price_certificate::document_value;
+use price_certificate::shared_document_value;
 use serde_json::{Map, Value, put};
 use std::alloc::{AllocError, Global};
 
@@ -81,9 +81,9 @@ fn is_nothing_served(slots: &[u32]) -> bool
 
 #[tactic(auto, unfolding(crate::specs::History::certificate_in))]
 fn certificate_value(alloc: Global, core: &Core) -> Result<Value, AllocError>
-    ensures form { IfOk result (λ v. view v ≡ document_data core.now.problem core.now.plan.pairs core.now.plan.item_prices core.now.plan.bin_prices) }
+    ensures form { IfOk result (λ v. view v ≡ shared_document_data core.now.problem core.now.plan.pairs core.now.plan.item_prices core.now.plan.bin_prices) }
     ensures parts { IfOk result (λ v. certificate_in (view v) ≡ Some (certificate_of core.now.problem core.now.plan)) }
 {
     let (instance, plan) = core.certificate()?;
-    document_value(alloc, &instance, &plan)
+    shared_document_value(alloc, &instance, &plan)
 }

@@ -17,7 +17,7 @@ use kept_journal::{DeskJournal, JournalName, Kept};
 use sd_server::{Handler, HandlerParts, ListTexts, are_named};
 use service_state::{ConfigPages, ServiceState};
 use service_tasks::{
-    Configuration, DeskPasses, Ending, Journal, Service, ServiceContext, Shared, kept_of,
+    Configuration, DeskPasses, Ending, Journal, Service, ServiceContext, Shared, Watch, kept_of,
 };
 use std::alloc::{AllocError, Global};
 use std::io;
@@ -180,7 +180,14 @@ where
         &handler,
         &mut desk_passes,
     ) {
-        Ok(ending) => ended(&mut context.journal, journal, handler, desk_passes, ending),
+        Ok(ending) => ended(
+            &mut context.journal,
+            &mut context.watch,
+            journal,
+            handler,
+            desk_passes,
+            ending,
+        ),
         Err(error) => {
             drop((journal, handler, desk_passes));
             Err(error)
@@ -340,8 +347,9 @@ fn shared_by<R: Wait + Copy, L: Ledger, B: Ledger, N: JournalName, S, F, C>(
 }
 
 /// Closes the desk of a handler whose threads have ended, with their passes, and its journal.
-fn ended<R: Drop, L: Ledger, B: Ledger, N: JournalName, F: Device + Drop>(
+fn ended<R: Drop, L: Ledger, B: Ledger, N: JournalName, S, F: Device + Drop>(
     service: &mut Journal<F>,
+    watch: &mut Watch<S>,
     journal: Option<DeskJournal<F, N>>,
     handler: Handler<R, L, B, N>,
     desk_passes: DeskPasses<L, B, N>,
@@ -354,7 +362,9 @@ fn ended<R: Drop, L: Ledger, B: Ledger, N: JournalName, F: Device + Drop>(
         Ok(passes) => match closed(handler, passes) {
             Ok(closed) => {
                 service.end_desk(journal, &closed);
-                Ok((closed.into_core(), ending))
+                let (core, left) = closed.into_parts();
+                watch.leave(left);
+                Ok((core, ending))
             }
             Err(error) => {
                 drop(journal);

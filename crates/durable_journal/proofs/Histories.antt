@@ -13,7 +13,7 @@ use Rattle.serde_json.proofs.Views.{get_member-put, get_member-put_other, view-O
 use Rattle.json_values.specs.Spelling.{number_data, pair_data, list_data}
 use Rattle.json_values.specs.Texts.{json_of}
 use Rattle.json_values.proofs.Lists.{levels}
-use Rattle.price_certificate.proofs.DocumentForm.{levels-document_data}
+use Rattle.price_certificate.proofs.DocumentForm.{levels-shared_document_data}
 use Rattle.fleet.specs.Fleet.{FleetState}
 use Rattle.fleet.specs.declared.collector.Collector.{Collector}
 use Rattle.fleet.specs.declared.job.JobSpec.{JobSpec}
@@ -22,7 +22,7 @@ use Rattle.fleet_events.proofs.Forms.{target_levels, reach_levels, limits_levels
 use Rattle.allocation_core.specs.Renewed.{renewed}
 use Rattle.allocation_core.specs.State.{IsCount, State, counted, current_pairs, restored, with_rounds}
 use Rattle.core_history.specs.Parts.{job_data, known_data, collector_data, fleet_data}
-use Rattle.price_certificate.specs.Document.{document_data}
+use Rattle.price_certificate.specs.Document.{shared_document_data}
 use Rattle.core_history.specs.History.{ReadsBack, history_by, history_data, history_in, slots_of, slots_said}
 use Rattle.core_history.specs.Laws.{RenewedReadBack}
 use Rattle.core_history.specs.Rounds.{rounds_or_one}
@@ -54,10 +54,10 @@ fleet_levels : (fleet : FleetState) → depth (fleet_data fleet) ≤ 5
 fleet_levels fleet =
     omega (arith, levels collector_data 3 collector_levels fleet.collectors, levels job_data 1 (λ job. omega arith) fleet.jobs, levels (list_data (list_data number_data)) 2 sources_levels fleet.listed, levels known_data 3 known_levels fleet.known)
 
-rest_levels : (m : State) (slots : Option (List ℕ)) → depth (history_by (list_data pair_data (current_pairs m)) (document_data m.problem m.plan.pairs m.plan.item_prices m.plan.bin_prices) (fleet_data m.fleet) (number_data m.round) slots) ≤ 6
-rest_levels m None = omega (arith, levels pair_data 1 (λ q. omega arith) (current_pairs m), levels-document_data m.problem m.plan.pairs m.plan.item_prices m.plan.bin_prices, fleet_levels m.fleet)
+rest_levels : (m : State) (slots : Option (List ℕ)) → depth (history_by (list_data pair_data (current_pairs m)) (shared_document_data m.problem m.plan.pairs m.plan.item_prices m.plan.bin_prices) (fleet_data m.fleet) (number_data m.round) slots) ≤ 6
+rest_levels m None = omega (arith, levels pair_data 1 (λ q. omega arith) (current_pairs m), levels-shared_document_data m.problem m.plan.pairs m.plan.item_prices m.plan.bin_prices, fleet_levels m.fleet)
 rest_levels m (Some slots) =
-    omega (arith, levels pair_data 1 (λ q. omega arith) (current_pairs m), levels-document_data m.problem m.plan.pairs m.plan.item_prices m.plan.bin_prices, fleet_levels m.fleet, numbers_levels slots)
+    omega (arith, levels pair_data 1 (λ q. omega arith) (current_pairs m), levels-shared_document_data m.problem m.plan.pairs m.plan.item_prices m.plan.bin_prices, fleet_levels m.fleet, numbers_levels slots)
 
 history_levels : (m : State) → depth (history_data m) ≤ 6
 history_levels m = rest_levels m (slots_said m.served.slots)

@@ -11,6 +11,7 @@ use Rattle.price_certificate.specs.declared.version.Version.{Version}
 use Rattle.price_certificate.specs.declared.version.Version.TheVariants.{One, Two}
 use Rattle.json_values.specs.Spelling.{number_in, pair_in, list_in}
 use Rattle.price_certificate.specs.Document.{pairs_from, marked_from, object_of, SpellsInstance}
+use Rattle.price_certificate.specs.Reach.{rows_in}
 
 chosen_not : (b : Bool) (x : ℕ) (rest : Option ℕ) → b ≡ false → cond b (Some x) rest ≡ rest
 chosen_not true x rest e = cc
@@ -129,7 +130,7 @@ no-row bins = record { ascending = λ k l. absurd (omega (arith, l)); in_range =
 placed : (p : Problem) → IsProblem p → IsPlaced (items_of p) (pairs_from 0 p.before) p.before
 placed p h = record { each = h.items; bins = λ item below. bin_in-pairs_from 0 p.before item item (omega arith) }
 
-spells_by : (p : Problem) (v : Version) → p.version ≡ v → (before bin_prices bins draining item_prices pairs reach : Data) → IsProblem p → list_in pair_in before ≡ Some (pairs_from 0 p.before) → list_in number_in bins ≡ Some p.limits → list_in number_in draining ≡ Some (marked_from 0 p.draining) → list_in (list_in number_in) reach ≡ Some p.rows → SpellsInstance (object_of v before bin_prices bins draining item_prices pairs reach) p
+spells_by : (p : Problem) (v : Version) → p.version ≡ v → (before bin_prices bins draining item_prices pairs reach : Data) → IsProblem p → list_in pair_in before ≡ Some (pairs_from 0 p.before) → list_in number_in bins ≡ Some p.limits → list_in number_in draining ≡ Some (marked_from 0 p.draining) → rows_in reach ≡ Some p.rows → SpellsInstance (object_of v before bin_prices bins draining item_prices pairs reach) p
 spells_by p One e before bin_prices bins draining item_prices pairs reach h b l d r = record {
   version = One;
   limits = p.limits;
@@ -152,5 +153,5 @@ spells_by p Two e before bin_prices bins draining item_prices pairs reach h b l 
 }
 
 -- an object with the members of an instance spells it
-pub spells_instance : (p : Problem) (before bin_prices bins draining item_prices pairs reach : Data) → IsProblem p → list_in pair_in before ≡ Some (pairs_from 0 p.before) → list_in number_in bins ≡ Some p.limits → list_in number_in draining ≡ Some (marked_from 0 p.draining) → list_in (list_in number_in) reach ≡ Some p.rows → SpellsInstance (object_of p.version before bin_prices bins draining item_prices pairs reach) p
+pub spells_instance : (p : Problem) (before bin_prices bins draining item_prices pairs reach : Data) → IsProblem p → list_in pair_in before ≡ Some (pairs_from 0 p.before) → list_in number_in bins ≡ Some p.limits → list_in number_in draining ≡ Some (marked_from 0 p.draining) → rows_in reach ≡ Some p.rows → SpellsInstance (object_of p.version before bin_prices bins draining item_prices pairs reach) p
 spells_instance p before bin_prices bins draining item_prices pairs reach h b l d r = spells_by p p.version refl before bin_prices bins draining item_prices pairs reach h b l d r

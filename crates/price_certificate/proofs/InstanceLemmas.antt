@@ -8,6 +8,7 @@ use Rattle.price_certificate.specs.Problem.{Problem, IsReach, IsRow, IsPreceding
 use Rattle.json_values.specs.Spelling.{number_in, pair_in, list_in, member_in}
 use Rattle.price_certificate.specs.Document.{draining_in, version_number, SpellsInstance, SpellsParts}
 use Rattle.price_certificate.specs.Instances.{is_row, is_reach, are_once, is_preceding, is_shaped, each_below, problem_of, problem_if, problem_from, problem_in, version_of}
+use Rattle.price_certificate.specs.Reach.{rows_in}
 use Rattle.price_certificate.specs.declared.version.Version.{Version}
 use Rattle.price_certificate.specs.declared.version.Version.TheVariants.{One, Two}
 use Rattle.lists.proofs.RisingLemmas.{rises_from, rises_to, all_to, all_from}
@@ -173,7 +174,7 @@ abbrev by_rows : Data → Version → List ℕ → List ℕ → List (List ℕ) 
 by_rows d version limits draining rows = option_and_then (by_pairs version limits draining rows) (member_in (list_in pair_in) (codes "before") d)
 
 abbrev by_draining : Data → Version → List ℕ → List ℕ → Option Problem
-by_draining d version limits draining = option_and_then (by_rows d version limits draining) (member_in (list_in (list_in number_in)) (codes "reach") d)
+by_draining d version limits draining = option_and_then (by_rows d version limits draining) (member_in rows_in (codes "reach") d)
 
 abbrev by_limits : Data → Version → List ℕ → Option Problem
 by_limits d version limits = option_and_then (by_draining d version limits) (draining_in version d)
@@ -188,7 +189,7 @@ from_parts d version limits draining rows pairs s =
     bind (λ v. problem_from v d) (option_and_then version_of (member_in number_in (codes "version") d)) version (bind version_of (member_in number_in (codes "version") d) (version_number version) s.number ∙ a_version version)
     ∙ (bind (by_limits d version) (member_in (list_in number_in) (codes "bins") d) limits s.bins
     ∙ (bind (by_draining d version limits) (draining_in version d) draining s.drains
-    ∙ (bind (by_rows d version limits draining) (member_in (list_in (list_in number_in)) (codes "reach") d) rows s.reach
+    ∙ (bind (by_rows d version limits draining) (member_in rows_in (codes "reach") d) rows s.reach
     ∙ bind (by_pairs version limits draining rows) (member_in (list_in pair_in) (codes "before") d) pairs s.before)))
 
 pub spelled_in : (d : Data) (p : Problem) → SpellsInstance d p → problem_in d ≡ Some p
@@ -225,7 +226,7 @@ in_spelled d p e =
     let n = step_back version_of (member_in number_in (codes "version") d) v.0 v.1 in
     let l = step_back (by_limits d v.0) (member_in (list_in number_in) (codes "bins") d) p v.2 in
     let g = step_back (by_draining d v.0 l.0) (draining_in v.0 d) p l.2 in
-    let r = step_back (by_rows d v.0 l.0 g.0) (member_in (list_in (list_in number_in)) (codes "reach") d) p g.2 in
+    let r = step_back (by_rows d v.0 l.0 g.0) (member_in rows_in (codes "reach") d) p g.2 in
     let b = step_back (by_pairs v.0 l.0 g.0 r.0) (member_in (list_in pair_in) (codes "before") d) p r.2 in
     let last = passes (is_shaped l.0 g.0 r.0 b.0) (problem_of v.0 l.0 g.0 r.0 b.0) p b.2 in
     record {

@@ -16,3 +16,4 @@ pub mod LeastFault
 pub mod Marking
 pub mod InstanceLemmas
 pub mod DerivedLemmas
+pub mod Sharing

@@ -1,5 +1,5 @@
 -- The JSON document of a certificate (JSON is RFC 8259, as `serde_json` reads it). It is an object: `version` is 1 or 2, `bins`
--- has the limits, `draining` in version 2 the bins that drain, `reach` a list of bins for each item, `before` and `pairs` have
+-- has the limits, `draining` in version 2 the bins that drain, `reach` the bins of each item, `before` and `pairs` have
 -- pairs of an item and a bin, and `item_prices` and `bin_prices` the prices. Other members don't matter, in version 1
 -- `draining` neither.
 use Rattle.std.specs.Prelude.{◌≡◌, ◌+◌, ℕ, Bool, true, false, List, [], ◌∷◌, Option, Some, None, codes}
@@ -7,6 +7,7 @@ use Rattle.serde_json.specs.Data.{Data, object, no_members, member}
 use Rattle.json_values.specs.Texts.{ReadsAs}
 use Rattle.json_values.specs.Spelling.{number_in, pair_in, list_in, member_in, number_data, pair_data, list_data}
 use Rattle.price_certificate.specs.Problem.{Problem, IsShaped, IsProblemOf}
+use Rattle.price_certificate.specs.Reach.{reach_data, rows_in}
 use Rattle.price_certificate.specs.declared.version.Version.{Version}
 use Rattle.price_certificate.specs.declared.version.Version.TheVariants.{One, Two}
 
@@ -25,7 +26,7 @@ pub record SpellsParts (d : Data) (version : Version) (limits draining : List �
   pub number : member_in number_in (codes "version") d ≡ Some (version_number version)
   pub bins : member_in (list_in number_in) (codes "bins") d ≡ Some limits
   pub drains : draining_in version d ≡ Some draining
-  pub reach : member_in (list_in (list_in number_in)) (codes "reach") d ≡ Some rows
+  pub reach : member_in rows_in (codes "reach") d ≡ Some rows
   pub before : member_in (list_in pair_in) (codes "before") d ≡ Some preceding
 
 -- the data has these members of a plan
@@ -92,7 +93,14 @@ object_of Two before bin_prices bins draining item_prices pairs reach =
     (member (codes "reach") reach
     (member (codes "version") (number_data 2) no_members))))))))
 
-abbrev pub document_data : Problem → List (ℕ × ℕ) → List ℕ → List ℕ → Data
-document_data p pairs item_prices bin_prices =
+-- where items share their lists of bins or not
+abbrev pub data_by : Bool → Problem → List (ℕ × ℕ) → List ℕ → List ℕ → Data
+data_by shares p pairs item_prices bin_prices =
     object_of p.version (list_data pair_data (pairs_from 0 p.before)) (list_data number_data bin_prices) (list_data number_data p.limits)
-    (list_data number_data (marked_from 0 p.draining)) (list_data number_data item_prices) (list_data pair_data pairs) (list_data (list_data number_data) p.rows)
+    (list_data number_data (marked_from 0 p.draining)) (list_data number_data item_prices) (list_data pair_data pairs) (reach_data shares p)
+
+abbrev pub document_data : Problem → List (ℕ × ℕ) → List ℕ → List ℕ → Data
+document_data p pairs item_prices bin_prices = data_by false p pairs item_prices bin_prices
+
+abbrev pub shared_document_data : Problem → List (ℕ × ℕ) → List ℕ → List ℕ → Data
+shared_document_data p pairs item_prices bin_prices = data_by true p pairs item_prices bin_prices

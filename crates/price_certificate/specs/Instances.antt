@@ -6,6 +6,7 @@ use Rattle.lists.specs.Rising.{rises}
 use Rattle.json_values.specs.Spelling.{number_in, pair_in, list_in, member_in}
 use Rattle.price_certificate.specs.Document.{draining_in}
 use Rattle.price_certificate.specs.Problem.{Problem, bin_in}
+use Rattle.price_certificate.specs.Reach.{rows_in}
 use Rattle.price_certificate.specs.declared.shape.TheConstants.{MOST_BINS, MOST_ITEMS, MOST_PAIRS}
 use Rattle.price_certificate.specs.declared.version.Version.{Version}
 use Rattle.price_certificate.specs.declared.version.Version.TheVariants.{One, Two}
@@ -55,7 +56,7 @@ version_of number = if number == 1 then Some One else (if number == 2 then Some 
 abbrev pub problem_from : Version → Data → Option Problem
 problem_from version d =
     option_and_then (λ limits. option_and_then (λ draining. option_and_then (λ rows. option_and_then (λ pairs. problem_if (is_shaped limits draining rows pairs) (problem_of version limits draining rows pairs))
-    (member_in (list_in pair_in) (codes "before") d)) (member_in (list_in (list_in number_in)) (codes "reach") d)) (draining_in version d)) (member_in (list_in number_in) (codes "bins") d)
+    (member_in (list_in pair_in) (codes "before") d)) (member_in rows_in (codes "reach") d)) (draining_in version d)) (member_in (list_in number_in) (codes "bins") d)
 
 unfoldable pub problem_in : Data → Option Problem
 problem_in d = option_and_then (λ version. problem_from version d) (option_and_then version_of (member_in number_in (codes "version") d))

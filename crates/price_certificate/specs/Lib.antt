@@ -7,3 +7,4 @@ pub mod Lines
 pub mod Plan
 pub mod Instances
 pub mod Derived
+pub mod Reach

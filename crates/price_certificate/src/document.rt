@@ -6,9 +6,11 @@ ghost use Rattle.price_certificate.specs.Problem.{Problem};
 ghost use Rattle.json_values.specs.Texts.{IsJson};
 ghost use Rattle.price_certificate.specs.Instances.{problem_in};
 ghost use Rattle.price_certificate.specs.Plan.{plan_in};
-ghost use Rattle.price_certificate.specs.Document.{IsInstanceDocument, IsDocument, document_data};
+ghost use Rattle.price_certificate.specs.Document.{IsInstanceDocument, IsDocument, document_data, shared_document_data};
 
+mod reach;
 mod reading;
+mod sharing;
 mod writing;
 
 use crate::instance::Instance;
@@ -84,7 +86,7 @@ pub fn write_document(
     ensures form { IfOk result (λ b. b.items ≡ compact_text (document_data instance.now plan.now.pairs plan.now.item_prices plan.now.bin_prices)) }
     ensures reads_back { IfOk result (λ b. IsDocument b.items instance.now plan.now.pairs plan.now.item_prices plan.now.bin_prices) }
 {
-    value_of(alloc, instance, plan)?.to_vec(alloc)
+    value_of(alloc, instance, plan, false)?.to_vec(alloc)
 }
 
 /// The instance that a JSON value spells, if it spells one. Members of a plan are ignored, whatever they hold.
@@ -100,7 +102,20 @@ pub fn document_value(alloc: Global, instance: &Instance, plan: &Plan) -> Result
     ensures instance { IfOk result (λ v. problem_in (view v) ≡ Some instance.now) }
     ensures plan { IfOk result (λ v. plan_in (view v) ≡ Some plan.now) }
 {
-    value_of(alloc, instance, plan)
+    value_of(alloc, instance, plan, false)
+}
+
+/// The same document where items share their lists of bins, which takes far less where many items have the same.
+pub fn shared_document_value(
+    alloc: Global,
+    instance: &Instance,
+    plan: &Plan,
+) -> Result<Value, AllocError>
+    ensures form { IfOk result (λ v. view v ≡ shared_document_data instance.now plan.now.pairs plan.now.item_prices plan.now.bin_prices) }
+    ensures instance { IfOk result (λ v. problem_in (view v) ≡ Some instance.now) }
+    ensures plan { IfOk result (λ v. plan_in (view v) ≡ Some plan.now) }
+{
+    value_of(alloc, instance, plan, true)
 }
 
 /// A text is the document of one instance and one plan at most, so what is written reads back as what it was written of.

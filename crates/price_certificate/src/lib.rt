@@ -15,7 +15,7 @@ mod version;
 pub use checker::check;
 pub use document::{
     DocumentError, document_value, instance_of, one_document, one_instance, read_document,
-    read_instance, write_document,
+    read_instance, shared_document_value, write_document,
 };
 pub use faults::{count_bins, value_of_bins, value_of_items};
 pub use instance::Instance;

@@ -5,7 +5,7 @@ use crate::shared::Shared;
 use crate::source::{Listed, Source};
 use crate::sources::Sources;
 use crate::told_source::ToldSource;
-use alloc_desk::Pass;
+use alloc_desk::{Leftover, Pass};
 use file_configs::{ReadFiles, patterns_of};
 use fleet_events::Event;
 use http_get::{Asker, Cause, FetchFault, FetchSeveral, Get, Listing, Next, Reply, get_of_source};
@@ -44,6 +44,15 @@ pub struct Watch<S> {
     /// The jobs of the configuration.
     pub(crate) jobs: Arc<List<Job>>,
     pub(crate) sources: Sources,
+    /// What is left of the desk before.
+    pub(crate) left: Option<Leftover>,
+}
+
+impl<S> Watch<S> {
+    /// Takes what is left of a desk, which goes once the sources are asked for the next one: nobody waits for them.
+    pub fn leave(&mut self, left: Leftover) {
+        drop(std::mem::replace(&mut self.left, Some(left)));
+    }
 }
 
 /// Who asks the sources, over one desk.
@@ -158,6 +167,7 @@ impl<R: Wait + Clock + Eprint + Copy, L: Ledger, B: Ledger, N: JournalName> Shar
         pass: &mut Pass<L, B, N>,
         watch: &mut Watch<S>,
     ) {
+        drop(watch.left.take());
         for _ in self.rt.forever() {
             match self.refresh_by(pass, watch) {
                 Ok(()) => return,

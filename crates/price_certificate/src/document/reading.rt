@@ -7,6 +7,7 @@ ghost use Rattle.json_values.specs.Spelling.{number_in, member_in};
 ghost use Rattle.price_certificate.specs.Document.{draining_in, version_number, SpellsParts, SpellsPlan, SpellsInstance};
 ghost use Rattle.price_certificate.specs.declared.version.Version.{Version};
 
+use super::reach::rows_in;
 use crate::document::DocumentError;
 use crate::instance::Instance;
 use crate::plan::Plan;
@@ -73,7 +74,7 @@ fn parts_in(alloc: Global, value: &Value) -> Result<Option<Parts>, AllocError>
     let Some(draining) = draining_in(alloc, version, value)? else {
         return Ok(None);
     };
-    let Some(rows) = member(alloc, value, "reach")? else {
+    let Some(rows) = rows_in(alloc, value)? else {
         return Ok(None);
     };
     let Some(before) = member(alloc, value, "before")? else {

@@ -3,8 +3,10 @@ ghost use Rattle.std.specs.Prelude.{◌≡◌, Some, IfOk};
 ghost use Rattle.serde_json.specs.View.{view};
 ghost use Rattle.json_values.specs.Spelling.{number_in, pair_in, list_in, number_data, pair_data, list_data};
 ghost use Rattle.price_certificate.specs.declared.version.Version.TheVariants.{One, Two};
-ghost use Rattle.price_certificate.specs.Document.{pairs_from, marked_from, object_of as object_data, document_data, SpellsInstance, SpellsPlan};
+ghost use Rattle.price_certificate.specs.Document.{pairs_from, marked_from, data_by, object_of as object_data, SpellsInstance, SpellsPlan};
+ghost use Rattle.price_certificate.specs.Reach.{reach_data, rows_in};
 
+use super::sharing::shared_reach;
 use crate::instance::Instance;
 use crate::plan::Plan;
 use crate::version::Version;
@@ -24,9 +26,14 @@ struct Members {
     reach: Value,
 }
 
-/// The value that spells an instance and a plan.
-pub(crate) fn value_of(alloc: Global, instance: &Instance, plan: &Plan) -> Result<Value, AllocError>
-    ensures form { IfOk result (λ v. view v ≡ document_data instance.now plan.now.pairs plan.now.item_prices plan.now.bin_prices) }
+/// The value that spells an instance and a plan, where items share their lists of bins or not.
+pub(crate) fn value_of(
+    alloc: Global,
+    instance: &Instance,
+    plan: &Plan,
+    shares: bool,
+) -> Result<Value, AllocError>
+    ensures form { IfOk result (λ v. view v ≡ data_by shares instance.now plan.now.pairs plan.now.item_prices plan.now.bin_prices) }
     ensures instance { IfOk result (λ v. SpellsInstance (view v) instance.now) }
     ensures plan { IfOk result (λ v. SpellsPlan (view v) plan.now.pairs plan.now.item_prices plan.now.bin_prices) }
 {
@@ -38,7 +45,7 @@ pub(crate) fn value_of(alloc: Global, instance: &Instance, plan: &Plan) -> Resul
         draining: draining_of(alloc, instance)?,
         item_prices: plan.item_prices.write(alloc)?,
         pairs: plan.pairs.write(alloc)?,
-        reach: reach_of(alloc, instance)?,
+        reach: reach_by(alloc, instance, shares)?,
     };
     object_of(alloc, instance.version(), members)
 }
@@ -153,10 +160,21 @@ fn preceding_of(alloc: Global, instance: &Instance) -> Result<Vec<(u32, u32)>, A
     Ok(pairs)
 }
 
+/// The member `reach`.
+fn reach_by(alloc: Global, instance: &Instance, shares: bool) -> Result<Value, AllocError>
+    ensures form { IfOk result (λ v. view v ≡ reach_data shares instance.now) }
+    ensures reads_back { IfOk result (λ v. rows_in (view v) ≡ Some instance.now.rows) }
+{
+    if shares {
+        return shared_reach(alloc, instance);
+    }
+    reach_of(alloc, instance)
+}
+
 /// For each item the list of its bins.
 fn reach_of(alloc: Global, instance: &Instance) -> Result<Value, AllocError>
     ensures form { IfOk result (λ v. view v ≡ list_data (list_data number_data) instance.now.rows) }
-    ensures reads_back { IfOk result (λ v. list_in (list_in number_in) (view v) ≡ Some instance.now.rows) }
+    ensures reads_back { IfOk result (λ v. rows_in (view v) ≡ Some instance.now.rows) }
 {
     let items = instance.items();
     let mut rows = Vec::with_capacity(alloc, items)?;

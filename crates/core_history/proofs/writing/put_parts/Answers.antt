@@ -4,7 +4,7 @@ use Rattle.std.specs.List.{list_all}
 use Rattle.serde_json.specs.Data.{Data, Members, member, no_members, object, put}
 use Rattle.serde_json.specs.View.{members_view, view}
 use Rattle.json_values.specs.Spelling.{list_data, number_data, pair_data}
-use Rattle.price_certificate.specs.Document.{document_data}
+use Rattle.price_certificate.specs.Document.{shared_document_data}
 use Rattle.fleet.specs.Fleet.{FleetState}
 use Rattle.core_history.specs.Parts.{fleet_data, parts_of}
 use Rattle.core_history.specs.History.{certificate_of, history_by, history_of, parts_in, slots_said}
@@ -30,7 +30,7 @@ returns-then-is_nothing_served-clause-form c =
     let fleet = c.in_ok-fleet.ensures.form ∙ ap (λ (f : FleetState). fleet_data f) c.fleet.ensures in
     let round = c.in_ok-round.ensures.form ∙ ap (λ (n : ℕ). number_data n) c.round.ensures in
     let none = nothing_said m.served.slots (ap (λ (slots : List ℕ). list_all (λ (collector : ℕ). collector == 0) slots) (sym c.slots.ensures.slots) ∙ sym c.if-is_nothing_served.ensures) in
-    let said = ap (history_by (list_data pair_data (current_pairs m)) (document_data m.problem m.plan.pairs m.plan.item_prices m.plan.bin_prices) (fleet_data m.fleet) (number_data m.round)) none in
+    let said = ap (history_by (list_data pair_data (current_pairs m)) (shared_document_data m.problem m.plan.pairs m.plan.item_prices m.plan.bin_prices) (fleet_data m.fleet) (number_data m.round)) none in
     ap object members ∙ object_same _ _ _ _ _ _ _ _ allocation c.in_ok-certificate.ensures.form fleet round ∙ sym said
 
 pub returns-then-is_nothing_served-clause-parts : goal.returns-then-is_nothing_served-clause-parts
@@ -54,7 +54,7 @@ returns-clause-form c =
     let round = c.in_ok-round.ensures.form ∙ ap (λ (n : ℕ). number_data n) c.round.ensures in
     let served = c.in_ok-served.ensures.form ∙ ap (λ (slots : List ℕ). list_data number_data slots) c.slots-2.ensures.slots in
     let some = something_said m.served.slots (ap (λ (slots : List ℕ). list_all (λ (collector : ℕ). collector == 0) slots) (sym c.slots.ensures.slots) ∙ sym c.if-is_nothing_served.ensures) in
-    let said = ap (history_by (list_data pair_data (current_pairs m)) (document_data m.problem m.plan.pairs m.plan.item_prices m.plan.bin_prices) (fleet_data m.fleet) (number_data m.round)) some in
+    let said = ap (history_by (list_data pair_data (current_pairs m)) (shared_document_data m.problem m.plan.pairs m.plan.item_prices m.plan.bin_prices) (fleet_data m.fleet) (number_data m.round)) some in
     ap object members ∙ served_object_same _ _ _ _ _ _ _ _ _ _ allocation c.in_ok-certificate.ensures.form fleet round served ∙ sym said
 
 pub returns-clause-parts : goal.returns-clause-parts

@@ -6,5 +6,5 @@ use Rattle.daemon.proofs.one_desk.ended.Goals as goal
 
 pub returns-in-Ok-closed-clause-later : goal.returns-in-Ok-closed-clause-later
 returns-in-Ok-closed-clause-later g c =
-    subst (λ (m : State). IsLater g.N.DeskName.opening m) (sym c.into_core.ensures)
+    subst (λ (m : State). IsLater g.N.DeskName.opening m) (sym c.into_parts-core.ensures)
     (legal_is_later g.N.DeskName.opening c.in-Ok-closed.closed.state c.in-Ok-closed.closed.journal c.in-Ok-closed.ensures)

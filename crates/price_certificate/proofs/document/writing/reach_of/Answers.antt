@@ -3,6 +3,7 @@ use Rattle.std.proofs.lemmas.List.{get_or_default, take_all}
 use Rattle.serde_json.proofs.Views.{view-Array}
 use Rattle.serde_json.specs.Data.{array}
 use Rattle.price_certificate.specs.Problem.{row_of}
+use Rattle.price_certificate.specs.Reach.{rows_in}
 use Rattle.json_values.specs.Spelling.{number_in, list_in, number_data, list_data, items_data}
 use Rattle.json_values.proofs.Lists.{items_data_more, all_in_more}
 use Rattle.price_certificate.proofs.document.writing.reach_of.Goals as goal
@@ -26,4 +27,4 @@ returns-clause-form c =
 pub returns-clause-reads_back : goal.returns-clause-reads_back
 returns-clause-reads_back c =
     let all = take_all c.loop-item.item c.args.instance.now.rows (omega arith) in
-    ap (list_in (list_in number_in)) (view-Array c.loop-item.rows) ∙ c.loop-item.invariant.reads_back ∙ ap Some all
+    ap rows_in (view-Array c.loop-item.rows) ∙ c.loop-item.invariant.reads_back ∙ ap Some all
