@@ -11,6 +11,7 @@ use crate::entry::{Entry, Reload};
 use crate::handler_parts::HandlerParts;
 use crate::list_texts::ListTexts;
 use crate::seen::Seen;
+use crate::told_list::ToldList;
 use admission::Admission;
 use alloc_desk::{Desk, Pass, shared_desk};
 use allocation_core::Event;
@@ -37,6 +38,8 @@ pub struct Handler<R, L: Ledger, B: Ledger, N: JournalName> {
     pub pass: Arc<Mutex<Pass<L, B, N>>>,
     pub pages: Arc<ConfigPages>,
     pub state: Arc<ServiceState>,
+    /// The same once more, which the handlers of a loop share.
+    counted: Arc<Arc<ServiceState>>,
     /// How much of the journal is kept, where it is to be kept before an answer is given.
     pub kept: Option<Arc<Kept<N>>>,
     /// What changes with each renewal and each new journal. A report that names another one is refused.
@@ -51,6 +54,8 @@ pub struct Handler<R, L: Ledger, B: Ledger, N: JournalName> {
     pub time: Option<Handle>,
     /// How many connections there are, where somebody tells.
     pub gate: Option<Arc<Gate>>,
+    /// The list that was told last, where it is kept.
+    pub(crate) last: Mutex<Option<ToldList<N>>>,
     ghost named: { AreNamed (arc_value pages).names N.opening.fleet.jobs },
 }
 
@@ -66,6 +71,13 @@ impl<R: Copy, L: Ledger, B: Ledger, N: JournalName> Handler<R, L, B, N> {
         requires { AreNamed (arc_value parts.pages).names N.opening.fleet.jobs }
         ensures { IfOk result (λ h. h.kept ≡ parts.kept) }
     {
+        let counted = match shared_state(alloc, &parts.state) {
+            Ok(counted) => counted,
+            Err(error) => {
+                drop((parts, desk, pass));
+                return Err(error);
+            }
+        };
         match shared_desk(alloc, desk, pass) {
             Ok((desk, pass)) => Ok(Handler {
                 rt,
@@ -74,6 +86,7 @@ impl<R: Copy, L: Ledger, B: Ledger, N: JournalName> Handler<R, L, B, N> {
                 pass,
                 pages: parts.pages,
                 state: parts.state,
+                counted,
                 kept: parts.kept,
                 epoch: parts.epoch,
                 texts: parts.texts,
@@ -81,9 +94,10 @@ impl<R: Copy, L: Ledger, B: Ledger, N: JournalName> Handler<R, L, B, N> {
                 peer: None,
                 time: None,
                 gate: None,
+                last: Mutex::new(None),
             }),
             Err(error) => {
-                drop(parts);
+                drop((parts, counted));
                 Err(error)
             }
         }
@@ -97,35 +111,42 @@ impl<R: Wait + Clock + Copy, L: Ledger, B: Ledger, N: JournalName> Handler<R, L,
         ensures epoch { IfOk result (λ h. h.epoch ≡ self.now.epoch) }
     {
         let time = self.timers()?;
-        match self.same_gate() {
-            Ok(gate) => self.with(time, gate),
+        let gate = match self.same_gate() {
+            Ok(gate) => gate,
             Err(error) => {
                 drop(time);
+                return Err(error);
+            }
+        };
+        match Arc::try_clone(&self.counted) {
+            Ok(counted) => self.with(LoopParts {
+                time,
+                gate,
+                counted,
+            }),
+            Err(error) => {
+                drop((time, gate));
                 Err(error)
             }
         }
     }
 
-    /// Another for the same desk and the same pass, with these timers and this gate.
-    fn with(
-        &self,
-        time: Option<Handle>,
-        gate: Option<Arc<Gate>>,
-    ) -> Result<Handler<R, L, B, N>, AllocError>
+    /// Another for the same desk and the same pass, with these of a loop.
+    fn with(&self, parts: LoopParts) -> Result<Handler<R, L, B, N>, AllocError>
         ensures same { IfOk result (λ h. (arc_value h.pages ≡ arc_value self.now.pages) × (IsSome self.now.kept → IsSome h.kept)) }
         ensures epoch { IfOk result (λ h. h.epoch ≡ self.now.epoch) }
     {
         let (desk, pass) = match self.same_desk() {
             Ok(same) => same,
             Err(error) => {
-                drop((time, gate));
+                drop(parts);
                 return Err(error);
             }
         };
         let (pages, state) = match self.same_pages() {
             Ok(same) => same,
             Err(error) => {
-                drop((time, gate, desk, pass));
+                drop((parts, desk, pass));
                 return Err(error);
             }
         };
@@ -137,16 +158,18 @@ impl<R: Wait + Clock + Copy, L: Ledger, B: Ledger, N: JournalName> Handler<R, L,
                 pass,
                 pages,
                 state,
+                counted: parts.counted,
                 kept,
                 epoch: self.epoch,
                 texts,
                 doors,
                 peer: self.peer,
-                time,
-                gate,
+                time: parts.time,
+                gate: parts.gate,
+                last: Mutex::new(None),
             }),
             Err(error) => {
-                drop((time, gate, desk, pass, pages, state));
+                drop((parts, desk, pass, pages, state));
                 Err(error)
             }
         }
@@ -208,10 +231,21 @@ impl<R: Wait + Clock + Copy, L: Ledger, B: Ledger, N: JournalName> Handler<R, L,
         ensures epoch { IfOk result (λ h. h.epoch ≡ self.now.epoch) }
     {
         let time = time.clone()?;
-        match Arc::try_clone(gate) {
-            Ok(gate) => self.with(Some(time), Some(gate)),
+        let gate = match Arc::try_clone(gate) {
+            Ok(gate) => gate,
             Err(error) => {
                 drop(time);
+                return Err(error);
+            }
+        };
+        match shared_state(self.alloc, &self.state) {
+            Ok(counted) => self.with(LoopParts {
+                time: Some(time),
+                gate: Some(gate),
+                counted,
+            }),
+            Err(error) => {
+                drop((time, gate));
                 Err(error)
             }
         }
@@ -240,7 +274,7 @@ impl<R: Wait + Clock + Copy, L: Ledger, B: Ledger, N: JournalName> Handler<R, L,
 
     /// What counts a request of a route that began then, once it is told something.
     pub(crate) fn counter(&self, route: Route, begun: Option<Instant>) -> Option<Counter<R>> {
-        let state = Arc::try_clone(&self.state).ok()?;
+        let state = Arc::try_clone(&self.counted).ok()?;
         Some(Counter {
             rt: self.rt,
             state,
@@ -249,8 +283,16 @@ impl<R: Wait + Clock + Copy, L: Ledger, B: Ledger, N: JournalName> Handler<R, L,
         })
     }
 
-    /// The entity tags that are known.
-    pub(crate) fn tags(&self) -> Option<ListTags<R>> {
+    /// The entity tags that are known, where what is said may be a list whose tag was not made.
+    pub(crate) fn tags_for(&self, entry: &Entry<N>) -> Option<ListTags<R>> {
+        match entry {
+            Entry::Now(Said::List { groups, .. }) if !groups.is_tagged() => self.tags(),
+            Entry::Later(_) => self.tags(),
+            Entry::Now(_) | Entry::Reload(_) => None,
+        }
+    }
+
+    fn tags(&self) -> Option<ListTags<R>> {
         let known = self.texts.tags()?;
         Some(ListTags { rt: self.rt, known })
     }
@@ -398,4 +440,21 @@ fn copied(text: &Text) -> Said
         Ok(text) => Said::Page(text),
         Err(_) => Said::Refused(RequestError::Memory),
     }
+}
+
+/// What the handlers of a loop share beside the desk.
+#[derive(Drop)]
+struct LoopParts {
+    time: Option<Handle>,
+    gate: Option<Arc<Gate>>,
+    counted: Arc<Arc<ServiceState>>,
+}
+
+/// The state for the handlers of a loop: whoever counts a request there takes it from the others of its loop alone.
+fn shared_state(
+    alloc: Global,
+    state: &Arc<ServiceState>,
+) -> Result<Arc<Arc<ServiceState>>, AllocError> {
+    let state = Arc::try_clone(state)?;
+    Ok(Arc::new(alloc, state)?)
 }

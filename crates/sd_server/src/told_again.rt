@@ -6,13 +6,18 @@ ghost use Rattle.sd_server.specs.Says.{SaysHeld};
 use crate::handler::Handler;
 use crate::seen::Seen;
 use crate::told_list::ToldList;
+use fleet_events::CollectorId;
 use kept_journal::JournalName;
 use lists::Text;
 use sd_routes::Said;
+use service_state::RoundTimes;
 use std::alloc::AllocError;
 use std::sync::ledger::Ledger;
 use std::sync::{Arc, Wait};
 use std::time::Clock;
+
+/// The longest text that a connection keeps for itself, in bytes: thousands of idle connections are to keep little.
+const LONGEST_HERE: usize = 16_384;
 
 impl<R: Wait + Clock + Copy, L: Ledger, B: Ledger, N: JournalName> Handler<R, L, B, N> {
     /// What a collector was told of a job before, where nothing was entered since. None where lists are acknowledged, are not served in order, or
@@ -40,15 +45,52 @@ impl<R: Wait + Clock + Copy, L: Ledger, B: Ledger, N: JournalName> Handler<R, L,
         ensures { IfSome result (SaysHeld seen.now None place job.now name.now true) }
     {
         let id = self.state.asked_again(&self.rt, name)?;
-        let told = self.texts.told(&self.rt, id, place)?;
-        match told.again(seen, place, job.as_str(), name) {
-            Ok(Some((head, groups))) => {
-                self.state.note_taker(&self.rt, id);
-                let head = self.head(head.collector, head.allocation, head.round, head.left_out);
-                Some(Said::List { head, groups })
-            }
-            _ => None,
+        let times = self.state.round_times(&self.rt);
+        let said = match self.told_here(seen, place, job, name, times) {
+            Some(said) => said,
+            None => self.told_there(seen, place, job, name, times, id)?,
+        };
+        self.state.note_taker(&self.rt, id);
+        Some(said)
+    }
+
+    /// The list that was told last on this connection.
+    fn told_here(
+        &self,
+        seen: &Seen<N>,
+        place: usize,
+        job: &Text,
+        name: &str,
+        times: RoundTimes,
+    ) -> Option<Said>
+        ensures { IfSome result (SaysHeld seen.now None place job.now name.now true) }
+    {
+        let last = self.last.lock(&self.rt);
+        match &*last {
+            Some(told) => list_again(told, seen, place, job.as_str(), name, times),
+            None => None,
         }
+    }
+
+    /// The list that the collector of this number was told last, on any connection. Where it is short, it is the one that was told last on
+    /// this one from now on.
+    fn told_there(
+        &self,
+        seen: &Seen<N>,
+        place: usize,
+        job: &Text,
+        name: &str,
+        times: RoundTimes,
+        id: CollectorId,
+    ) -> Option<Said>
+        ensures { IfSome result (SaysHeld seen.now None place job.now name.now true) }
+    {
+        let told = self.texts.told(&self.rt, id, place)?;
+        let said = list_again(&*told, seen, place, job.as_str(), name, times);
+        if said.is_some() && told.len() <= LONGEST_HERE {
+            *self.last.lock(&self.rt) = told.copy(self.alloc).ok();
+        }
+        said
     }
 
     /// Keeps what a collector was told, where there is memory, to tell it again.
@@ -86,5 +128,22 @@ impl<R: Wait + Clock + Copy, L: Ledger, B: Ledger, N: JournalName> Handler<R, L,
             }
             _ => Ok(()),
         }
+    }
+}
+
+/// A list that is told again, where it is the one that is asked for and there is memory.
+fn list_again<N: JournalName>(
+    told: &ToldList<N>,
+    seen: &Seen<N>,
+    place: usize,
+    job: &str,
+    name: &str,
+    times: RoundTimes,
+) -> Option<Said>
+    ensures { IfSome result (SaysHeld seen.now None place job.now name.now true) }
+{
+    match told.again(seen, place, job, name, times) {
+        Ok(Some((head, groups))) => Some(Said::List { head, groups }),
+        _ => None,
     }
 }

@@ -7,7 +7,8 @@ use crate::seen::Seen;
 use alloc_desk::{DeskName, Front};
 use entity_tags::TaggedText;
 use lists::{Plain, Text};
-use sd_routes::{ListHead, Said};
+use sd_routes::{ListHead, Said, WrittenHead};
+use service_state::RoundTimes;
 use std::alloc::{AllocError, Global};
 use std::marker::Model;
 
@@ -18,7 +19,7 @@ pub(crate) struct ToldList<N: DeskName> {
     place: usize,
     job: Text,
     name: Text,
-    head: ListHead,
+    head: WrittenHead,
     groups: TaggedText,
     front: Front<N>,
 }
@@ -51,6 +52,7 @@ impl<N: DeskName> ToldList<N> {
     {
         match told {
             Said::List { head, groups } if seen.is_still() => {
+                let head = WrittenHead::new(alloc, head.told())?;
                 let job = job.copy()?;
                 let name = Text::from_str(alloc, name)?;
                 let groups = groups.again()?;
@@ -59,7 +61,7 @@ impl<N: DeskName> ToldList<N> {
                     place,
                     job,
                     name,
-                    head: *head,
+                    head,
                     groups,
                     front,
                 }))
@@ -68,25 +70,55 @@ impl<N: DeskName> ToldList<N> {
         }
     }
 
-    /// The head as it was told.
-    pub(crate) fn head(&self) -> ListHead {
-        self.head
+    /// The same, which shares the text alone.
+    pub(crate) fn copy(&self, alloc: Global) -> Result<ToldList<N>, AllocError> {
+        let head = WrittenHead::new(alloc, self.head.told())?;
+        let job = self.job.copy()?;
+        let name = self.name.copy()?;
+        let groups = self.groups.again()?;
+        Ok(ToldList {
+            place: self.place,
+            job,
+            name,
+            head,
+            groups,
+            front: self.front.again(),
+        })
     }
 
-    /// The list, where it is told again: of the same job under the same name, and where what was seen now is what had been seen then.
+    /// The head as it was told.
+    pub(crate) fn head(&self) -> ListHead {
+        self.head.told()
+    }
+
+    /// How many bytes the text has.
+    pub(crate) fn len(&self) -> usize {
+        self.groups.as_slice().len()
+    }
+
+    /// The list, where it is told again with these times: of the same job under the same name, and where what was seen now is what had been
+    /// seen then.
     pub(crate) fn again(
         &self,
         seen: &Seen<N>,
         place: usize,
         job: &str,
         name: &str,
-    ) -> Result<Option<(ListHead, TaggedText)>, AllocError>
+        times: RoundTimes,
+    ) -> Result<Option<(WrittenHead, TaggedText)>, AllocError>
         ensures { IfOk result (λ told. IfSome told (λ l. SaysHeld seen.now None place job.now name.now true (said.List l.0 l.1))) }
     {
         if !self.is_of(place, job, name) || !self.is_of_now(seen.now()) {
             return Ok(None);
         }
-        Ok(Some((self.head, self.groups.again()?)))
+        let groups = self.groups.again()?;
+        match self.head.at(times.age, times.length) {
+            Ok(head) => Ok(Some((head, groups))),
+            Err(error) => {
+                drop(groups);
+                Err(error)
+            }
+        }
     }
 
     fn is_of(&self, place: usize, job: &str, name: &str) -> bool

@@ -2,14 +2,17 @@ use Rattle.std.proofs.Common.{ℕ, List, true, refl, ap, sym, subst, ◌∙◌}
 use Rattle.std.specs.Prelude.{None}
 use Rattle.allocation_core.specs.State.{State}
 use Rattle.sd_routes.specs.declared.responding.Said.TheVariants as said
+use Rattle.sd_routes.specs.Fields.{at_times}
+use Rattle.sd_routes.specs.declared.list_head.ListHead.{ListHead}
+use Rattle.sd_server.specs.Looks.{HeadIs}
 use Rattle.sd_server.specs.Says.{SaysHeld}
 use Rattle.sd_server.specs.Spans.{at_once}
 use Rattle.sd_server.specs.Telling.{Telling}
-use Rattle.sd_server.proofs.TellingLemmas.{told_now}
+use Rattle.sd_server.proofs.TellingLemmas.{held_with, told_now}
 use Rattle.sd_server.proofs.told_list.ToldList.again.Goals as goal
 
-pub returns : goal.returns
-returns g c =
+pub returns-in-Ok : goal.returns-in-Ok
+returns-in-Ok g c =
     let l = c.self.inside in
     let told : Telling = record { place = l.place; job = l.job; name = l.name; head = l.head; groups = l.groups; seen = l.front } in
     let is = c.self.view_is in
@@ -23,5 +26,9 @@ returns g c =
     (ap (λ (t : Telling). t.seen) is ∙ (c.if-not-is_of_now.ensures refl ∙ c.now.ensures.front))
     (subst Opened (sym c.now.ensures.opening) c.self.invariant)
     in
-    let Groups : List ℕ → Type 0 = λ groups. SaysHeld c.args.seen.now None c.args.place c.args.job.now c.args.name.now true (said.List l.head groups) in
-    subst Groups (sym c.in_ok-again.ensures) again
+    let head = at_times c.args.times.age c.args.times.length l.head in
+    let same_head : HeadIs l.head.collector l.head.allocation l.head.round l.head.left_out head = record { collector = refl; allocation = refl; round = refl; left_out = refl } in
+    let timed = held_with c.args.seen.now l.head head same_head c.args.place c.args.job.now l.groups c.args.name.now again in
+    let Groups : List ℕ → Type 0 = λ groups. SaysHeld c.args.seen.now None c.args.place c.args.job.now c.args.name.now true (said.List head groups) in
+    let Heads : ListHead → Type 0 = λ told. SaysHeld c.args.seen.now None c.args.place c.args.job.now c.args.name.now true (said.List told c.in_ok-groups.groups) in
+    subst Heads (sym c.in-Ok.ensures) (subst Groups (sym c.in_ok-groups.ensures) timed)
