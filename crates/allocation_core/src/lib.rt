@@ -22,7 +22,7 @@ pub use laws::{
 };
 pub use limits::LAST_ROUND;
 pub use machine::Core;
-pub use renewal::{NotRenewed, RenewalError};
+pub use renewal::{Forgotten, NotRenewed, RenewalError, Renewed};
 pub use report_rounds::{MOST_REPORT_ROUNDS, ReportRounds};
 pub use runs::{Stopped, run};
 pub use served_lists::ServedList;

@@ -1,6 +1,27 @@
-//! Why an allocator is not renewed.
+//! What a renewal comes to.
 use crate::machine::Core;
+use fleet::Fleet;
+use handover::Holders;
+use scrape_books::Books;
+use served_lists::ServedLists;
 use thiserror::Error;
+
+/// A core that is renewed, and what it forgot.
+#[derive(Drop)]
+pub struct Renewed {
+    pub core: Core,
+    pub forgotten: Forgotten,
+}
+
+/// What a renewal forgets: the fleet as it was, its allocations, lists and books. To let go of it takes the longer the larger the fleet was,
+/// so whoever renews may have another thread do that.
+#[derive(Drop)]
+pub struct Forgotten {
+    pub(crate) fleet: Fleet,
+    pub(crate) holders: Holders,
+    pub(crate) served: ServedLists,
+    pub(crate) books: Books,
+}
 
 /// Why an allocator is not renewed.
 #[derive(Clone, Copy, Debug, PartialEq, Eq, Drop, Error)]

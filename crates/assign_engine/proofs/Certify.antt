@@ -12,7 +12,7 @@ use Rattle.price_certificate.specs.Certificate.{sum_below, worth_of, IsCertified
 use Rattle.assign_engine.specs.Seats.{sits, seat, used, pairs_from, pairs_of, IsSound, IsWaiting}
 use Rattle.price_certificate.proofs.Sums.{sum_below-same, sum_is_below, sum_by_key, sum_by-same, sum_by-add}
 use Rattle.price_certificate.proofs.Duality.{allowed_item}
-use Rattle.price_certificate.proofs.Rows.{allowed_bin}
+use Rattle.price_certificate.proofs.InstanceRows.{allowed_bin}
 
 pub pairs_all : (P : ℕ → ℕ → Type 0) (t : ℕ) (ats : List (Option ℕ)) → ((k b : ℕ) → seat ats k ≡ Some b → P (t + k) b) → All (λ (q : ℕ × ℕ). P q.0 q.1) (pairs_from t ats)
 pairs_all P t [] h = All-nil (λ (q : ℕ × ℕ). P q.0 q.1)

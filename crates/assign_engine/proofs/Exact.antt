@@ -5,7 +5,7 @@ use Rattle.std.proofs.lemmas.Bool.{cases_eq}
 use Rattle.std.proofs.lemmas.Option.{none-some}
 use Rattle.std.proofs.lemmas.List.{get_or-set_same, get_or-set_other, length-set}
 use Rattle.price_certificate.specs.Problem.{Problem, IsProblem, bins_of, weight_of, IsAllowed}
-use Rattle.price_certificate.proofs.Rows.{allowed_bin}
+use Rattle.price_certificate.proofs.InstanceRows.{allowed_bin}
 use Rattle.assign_engine.specs.Seats.{seat, IsSound, IsInserting}
 use Rattle.assign_engine.specs.SearchTables.{SearchState, HasBins}
 use Rattle.assign_engine.specs.Searched.{IsNear, HasTrail, IsInserted}

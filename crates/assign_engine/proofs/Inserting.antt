@@ -10,7 +10,7 @@ use Rattle.assign_engine.specs.Searching.{EndsAt, EndFree, HasWay, target_of}
 use Rattle.assign_engine.specs.declared.ends.End.{End}
 use Rattle.assign_engine.specs.declared.ends.End.TheVariants.{Leave, Room, Uncover}
 use Rattle.assign_engine.proofs.Walking.{walk_to_room, walk_to_item, walk_on, walk_ends}
-use Rattle.price_certificate.proofs.Rows.{allowed_bin}
+use Rattle.price_certificate.proofs.InstanceRows.{allowed_bin}
 
 one_more : (cap n y x : ℕ) → n < cap → n + cond (eqb y x) 1 0 ≤ cap
 one_more cap n y x l = grind (arith, nat_tests)

@@ -6,7 +6,7 @@ use Rattle.std.proofs.lemmas.List.{get_or_past}
 use Rattle.price_certificate.specs.Problem.{Problem, IsProblem, bins_of, capacity_of, weight_of, IsAllowed}
 use Rattle.assign_engine.specs.Seats.{seat, used, IsSound, IsWaiting}
 use Rattle.assign_engine.specs.Searched.{IsSearched, Reached, HasParents, IsRepriced, IsNear, HasTrail}
-use Rattle.price_certificate.proofs.Rows.{allowed_bin}
+use Rattle.price_certificate.proofs.InstanceRows.{allowed_bin}
 
 module _ (p : Problem) (ats : List (Option ℕ)) (us vs : List ℕ) (s : ℕ) (distances : List ℕ) (cost : ℕ) (lower higher : List ℕ) (valid : IsProblem p) (h : IsSound p ats us vs) (new : seat ats s ≡ None) (f : IsSearched p ats us vs s distances cost) (r : IsRepriced p ats us vs s distances cost lower higher) where
   -- a bin's price does not fall

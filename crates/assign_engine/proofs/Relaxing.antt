@@ -4,7 +4,7 @@ use Rattle.std.proofs.lemmas.Bool.{cases_eq}
 use Rattle.std.proofs.lemmas.List.{get_or_default, get_or-set_same}
 use Rattle.std.proofs.lemmas.List.Elements.{Contains-get_or}
 use Rattle.price_certificate.specs.Problem.{Problem, IsProblem, row_of, weight_of, IsAllowed}
-use Rattle.price_certificate.proofs.Rows.{allowed_bin}
+use Rattle.price_certificate.proofs.InstanceRows.{allowed_bin}
 use Rattle.assign_engine.specs.Usable.{one_if}
 use Rattle.assign_engine.specs.Seats.{sits, seat}
 use Rattle.assign_engine.specs.Roll.{times_in}

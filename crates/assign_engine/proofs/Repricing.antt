@@ -7,7 +7,7 @@ use Rattle.std.proofs.lemmas.List.{get_or-set_same, get_or-set_other, length-set
 use Rattle.std.proofs.lemmas.List.Sums.{sum_by-cons, sum_by_more, sum_by-take-le}
 use Rattle.std.proofs.Math.Nat.{mul-le-mul_left}
 use Rattle.price_certificate.specs.Problem.{Problem, IsProblem, items_of, bins_of}
-use Rattle.price_certificate.proofs.Rows.{allowed_bin}
+use Rattle.price_certificate.proofs.InstanceRows.{allowed_bin}
 use Rattle.price_certificate.proofs.Weights.{capacity-positive, weight-small}
 use Rattle.assign_engine.specs.Usable.{one_if}
 use Rattle.assign_engine.specs.Seats.{sits, seat, used, IsSound}

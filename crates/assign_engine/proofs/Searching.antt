@@ -5,7 +5,7 @@ use Rattle.std.proofs.lemmas.Bool.Decides.{nat_tests}
 use Rattle.std.proofs.lemmas.List.{get_or-set_same, get_or-set_other, length-set, get_or-replicate, length-replicate}
 use Rattle.std.proofs.lemmas.List.Sums.{sum_by-set, sum_by-cons, sum_by_push, get_or-le-sum_by}
 use Rattle.price_certificate.specs.Problem.{Problem, IsProblem, bins_of, capacity_of, row_of, weight_of, IsAllowed}
-use Rattle.price_certificate.proofs.Rows.{allowed_bin}
+use Rattle.price_certificate.proofs.InstanceRows.{allowed_bin}
 use Rattle.assign_engine.specs.Seats.{seat, used, IsSound}
 use Rattle.assign_engine.specs.SearchTables.{SearchState}
 use Rattle.assign_engine.specs.Changed.{WayFrom, IsLowered, IsRelaxed, IsExpanded}

@@ -8,7 +8,7 @@ ghost use Rattle.audit.specs.Renewals.{IsRenewalOf};
 
 use crate::fault::Why;
 use crate::laws::histories_tell;
-use allocation_core::{Core, JobSpec, NotRenewed, RenewalError, ReportRounds};
+use allocation_core::{Core, JobSpec, NotRenewed, RenewalError, Renewed, ReportRounds};
 use core_history::write_history;
 use lists::copies;
 use std::alloc::{AllocError, Global};
@@ -53,7 +53,10 @@ fn renewed_under(
 {
     let _pairs = core.allocation();
     match core.renew(jobs, report_rounds) {
-        Ok(renewed) => Ok(renewed),
+        Ok(Renewed { core, forgotten }) => {
+            drop(forgotten);
+            Ok(core)
+        }
         Err(NotRenewed { core, why }) => {
             drop(core);
             Err(why)

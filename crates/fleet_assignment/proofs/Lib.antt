@@ -12,3 +12,5 @@ pub mod TransferLemmas
 pub mod WithinLemmas
 pub mod ProblemLemmas
 pub mod RowLemmas
+pub mod SharingLemmas
+pub mod PlaceLemmas

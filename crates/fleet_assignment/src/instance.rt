@@ -3,21 +3,27 @@
 ghost use Rattle.std.specs.Prelude.{◌≡◌, ◌<◌, ◌≤◌, ◌*◌, ◌+◌, ◌++◌, ℕ, None, Some, false, All, length, map, option_and_then, slice_get, slice_index_or, IfOk, IfSome, OnOk};
 ghost use Rattle.price_certificate.specs.Problem.{IsShaped, IsProblemOf};
 ghost use Rattle.price_certificate.specs.Document.{marked_from};
+ghost use Rattle.price_certificate.specs.Rows.{rows_of};
 ghost use Rattle.price_certificate.specs.declared.version.Version.TheVariants.{Two};
 ghost use Rattle.fleet.specs.Fleet.{live_of};
 ghost use Rattle.fleet.specs.ShareLimit.{share_limit};
 ghost use Rattle.fleet.specs.declared.job.JobSpec.{JobSpec};
 ghost use Rattle.fleet.specs.declared.known_target.KnownTarget.{KnownTarget};
-ghost use Rattle.fleet_assignment.specs.Instance.{instance_of, limits_for, draining_for, row_for, row_from, row_in, place_of, bin_in, problem_of};
-ghost use Rattle.fleet_assignment.specs.Tables.{preceding_from};
+ghost use Rattle.fleet_assignment.specs.Instance.{instance_of, limits_for, draining_for, row_in, place_of, bin_in, problem_of};
+ghost use Rattle.fleet_assignment.specs.Tables.{ArePlaced, numbered_from, preceding_from};
 
+use crate::bin::bin_of;
+use crate::rows::rows;
 use crate::table::placed;
 use fleet::{
     Collector, Fleet, JobSpec, KnownTarget, MOST_BINS, MOST_COLLECTORS, MOST_LIVE_TARGETS,
 };
 use lists::List;
-use price_certificate::{Instance, InstanceError};
+use price_certificate::{Instance, InstanceError, Rows};
 use std::alloc::{AllocError, Global};
+
+/// Collectors with numbers below this one are looked up in a table.
+const MOST_TABLED: usize = 65_536;
 
 /// The assignment problem of a fleet, of which the live targets are given, and of a preceding allocation.
 #[tactic(auto, unfolding(crate::specs::Instance::instance_of))]
@@ -49,7 +55,7 @@ fn instance(
     collectors: &[Collector],
     known: &[KnownTarget],
     live: &[usize],
-    rows: Vec<List<u32>>,
+    rows: Rows,
     pairs: &[(u32, u32)],
 ) -> Result<Instance, AllocError>
     requires homes { All (λ (k : KnownTarget). k.job < length jobs.now) known.now }
@@ -57,12 +63,13 @@ fn instance(
     requires collectors { length collectors.now ≤ MOST_COLLECTORS }
     requires live { length live.now ≤ MOST_LIVE_TARGETS }
     requires numbers { All (λ n. n < length known.now) live.now }
-    requires rows { rows.items ≡ map (row_in (length jobs.now) collectors.now known.now) live.now }
+    requires rows { rows_of rows ≡ map (row_in (length jobs.now) collectors.now known.now) live.now }
     ensures { IfOk result (λ i. i ≡ problem_of jobs.now collectors.now known.now live.now pairs.now) }
 {
     let limits = limits(alloc, jobs, collectors)?;
     let draining = draining(alloc, jobs.len(), collectors)?;
     let holders = placed(alloc, known.len(), pairs)?;
+    let places = places(alloc, collectors)?;
     let before = preceding(
         alloc,
         jobs.len(),
@@ -70,7 +77,9 @@ fn instance(
         known,
         live,
         holders.as_slice(),
+        places.as_slice(),
     )?;
+    drop(places);
     let instance = made(alloc, limits, draining, rows, before)?;
     Ok(instance)
 }
@@ -80,17 +89,16 @@ fn made(
     alloc: Global,
     limits: Vec<u32>,
     draining: Vec<u32>,
-    rows: Vec<List<u32>>,
+    rows: Rows,
     before: Vec<(u32, u32)>,
 ) -> Result<Instance, AllocError>
-    requires { IsShaped limits.items draining.items rows.items before.items }
-    ensures { IfOk result (λ i. IsProblemOf i Two limits.items draining.items rows.items before.items) }
+    requires { IsShaped limits.items draining.items (rows_of rows) before.items }
+    ensures { IfOk result (λ i. IsProblemOf i Two limits.items draining.items (rows_of rows) before.items) }
 {
     let limits = List::from_vec(limits);
     let draining = List::from_vec(draining);
-    let rows = List::from_vec(rows);
     let before = List::from_vec(before);
-    match Instance::new2(alloc, limits, draining, rows, before) {
+    match Instance::new_shared(alloc, limits, draining, rows, before) {
         Ok(instance) => Ok(instance),
         Err(InstanceError::Memory) => Err(AllocError),
         Err(InstanceError::Shape) => unreachable!(),
@@ -144,70 +152,6 @@ fn drains(jobs: usize, collectors: &[Collector], bin: usize) -> bool
     collectors[bin / jobs].draining
 }
 
-/// For each of these targets the bins that it may use.
-fn rows(alloc: Global, fleet: &Fleet, live: &[usize]) -> Result<Vec<List<u32>>, AllocError>
-    ensures { IfOk result (λ v. v.items ≡ map (row_for fleet.now) live.now) }
-{
-    let mut rows = Vec::with_capacity(alloc, live.len())?;
-    let mut bins = Vec::with_capacity(alloc, fleet.collectors().len())?;
-    for number in live {
-        let row = row_at(alloc, fleet, *number, &mut bins)?;
-        rows.push(row)?;
-    }
-    Ok(rows)
-}
-
-/// The bins that a target may use. They are gathered where there is room for them already, and copied from there.
-fn row_at(
-    alloc: Global,
-    fleet: &Fleet,
-    number: usize,
-    bins: &mut Vec<u32>,
-) -> Result<List<u32>, AllocError>
-    ensures { IfOk result (λ row. row ≡ row_for fleet.now number) }
-{
-    bins.clear();
-    if let Some(known) = fleet.known().get(number) {
-        push_row(bins, fleet, number, known)?;
-    }
-    let row = Vec::from_slice(alloc, bins.as_slice())?;
-    Ok(List::from_vec(row))
-}
-
-/// Adds the bins of the target's job at the collectors that reach it.
-#[inline(never)]
-fn push_row(
-    bins: &mut Vec<u32>,
-    fleet: &Fleet,
-    number: usize,
-    known: &KnownTarget,
-) -> Result<(), AllocError>
-    requires { slice_get fleet.now.known number ≡ Some known.now }
-    ensures { OnOk result (bins.new.items ≡ bins.old.items ++ row_from (length fleet.now.jobs) 0 fleet.now.collectors known.now) }
-{
-    let jobs = fleet.jobs().len();
-    let collectors = fleet.collectors().len();
-    let job = known.job;
-    for place in 0..collectors {
-        let bin = bin_of(jobs, collectors, place, job);
-        if fleet.reaches(place, number) {
-            bins.push(bin)?;
-        }
-    }
-    Ok(())
-}
-
-/// The bin of a collector's place and a job's.
-fn bin_of(jobs: usize, collectors: usize, place: usize, job: usize) -> u32
-    requires home { job < jobs }
-    requires place { place < collectors }
-    requires bins { jobs * collectors ≤ MOST_BINS }
-    ensures bin { result ≡ place * jobs + job }
-    ensures below { result < jobs * collectors }
-{
-    (place * jobs + job) as u32
-}
-
 /// The place of a live collector.
 fn place_of(collectors: &[Collector], id: u32) -> Option<usize>
     ensures place { result ≡ place_of collectors.now id }
@@ -216,23 +160,69 @@ fn place_of(collectors: &[Collector], id: u32) -> Option<usize>
     collectors.iter().position(|collector| collector.id == id)
 }
 
+/// The place of a live collector, which is looked up where the table has its number.
+fn place_by(collectors: &[Collector], places: &[Option<u32>], id: u32) -> Option<usize>
+    requires { ArePlaced (numbered_from 0 collectors.now) places.now }
+    ensures place { result ≡ place_of collectors.now id }
+    ensures within { IfSome result (λ p. p < length collectors.now) }
+{
+    match places.get(id as usize) {
+        Some(Some(place)) => Some(*place as usize),
+        Some(None) => None,
+        None => place_of(collectors, id),
+    }
+}
+
+/// The places of the live collectors by their numbers, where these are small enough.
+fn places(alloc: Global, collectors: &[Collector]) -> Result<Vec<Option<u32>>, AllocError>
+    requires { length collectors.now ≤ MOST_COLLECTORS }
+    ensures { IfOk result (λ v. ArePlaced (numbered_from 0 collectors.now) v.items) }
+{
+    let numbered = numbered(alloc, collectors)?;
+    let places = placed(alloc, tabled(collectors), numbered.as_slice());
+    drop(numbered);
+    places
+}
+
+/// The numbers of the live collectors, with their places.
+fn numbered(alloc: Global, collectors: &[Collector]) -> Result<Vec<(u32, u32)>, AllocError>
+    requires { length collectors.now ≤ MOST_COLLECTORS }
+    ensures { IfOk result (λ v. v.items ≡ numbered_from 0 collectors.now) }
+{
+    let mut pairs = Vec::with_capacity(alloc, collectors.len())?;
+    for place in 0..collectors.len() {
+        pairs.push((collectors[place].id, place as u32))?;
+    }
+    Ok(pairs)
+}
+
+/// How many numbers of collectors the table has: collectors are in order of number.
+fn tabled(collectors: &[Collector]) -> usize {
+    match collectors.last() {
+        Some(last) => (last.id as usize).min(MOST_TABLED - 1) + 1,
+        None => 0,
+    }
+}
+
 /// The bin of a target at a collector, where that is live.
 fn bin_in(
     jobs: usize,
     collectors: &[Collector],
     known: &[KnownTarget],
+    places: &[Option<u32>],
     number: usize,
     collector: u32,
 ) -> Option<u32>
     requires homes { All (λ (k : KnownTarget). k.job < jobs) known.now }
     requires bins { jobs * length collectors.now ≤ MOST_BINS }
+    requires places { ArePlaced (numbered_from 0 collectors.now) places.now }
     ensures { result ≡ bin_in jobs collectors.now known.now number collector }
 {
     if number >= known.len() {
         return None;
     }
     let job = known[number].job;
-    match place_of(collectors, collector) {
+    match place_by(collectors, places, collector) {
         None => None,
         Some(place) => Some(bin_of(jobs, collectors.len(), place, job)),
     }
@@ -246,15 +236,17 @@ fn preceding(
     known: &[KnownTarget],
     live: &[usize],
     holders: &[Option<u32>],
+    places: &[Option<u32>],
 ) -> Result<Vec<(u32, u32)>, AllocError>
     requires homes { All (λ (k : KnownTarget). k.job < jobs) known.now }
     requires bins { jobs * length collectors.now ≤ MOST_BINS }
+    requires places { ArePlaced (numbered_from 0 collectors.now) places.now }
     requires live { length live.now ≤ MOST_LIVE_TARGETS }
     ensures { IfOk result (λ v. v.items ≡ preceding_from (λ (t : ℕ). option_and_then (bin_in jobs collectors.now known.now t) (slice_index_or holders.now t None)) 0 live.now) }
 {
     let mut pairs = Vec::new(alloc);
     for item in 0..live.len() {
-        if let Some(bin) = bin_held(jobs, collectors, known, holders, live[item]) {
+        if let Some(bin) = bin_held(jobs, collectors, known, places, holders, live[item]) {
             pairs.push((item as u32, bin))?;
         }
     }
@@ -266,11 +258,13 @@ fn bin_held(
     jobs: usize,
     collectors: &[Collector],
     known: &[KnownTarget],
+    places: &[Option<u32>],
     holders: &[Option<u32>],
     number: usize,
 ) -> Option<u32>
     requires homes { All (λ (k : KnownTarget). k.job < jobs) known.now }
     requires bins { jobs * length collectors.now ≤ MOST_BINS }
+    requires places { ArePlaced (numbered_from 0 collectors.now) places.now }
     ensures { result ≡ option_and_then (bin_in jobs collectors.now known.now number) (slice_index_or holders.now number None) }
 {
     if number >= holders.len() {
@@ -278,6 +272,6 @@ fn bin_held(
     }
     match holders[number] {
         None => None,
-        Some(collector) => bin_in(jobs, collectors, known, number, collector),
+        Some(collector) => bin_in(jobs, collectors, known, places, number, collector),
     }
 }

@@ -6,8 +6,10 @@
 #![tactic(auto)]
 
 mod allocation;
+mod bin;
 mod instance;
 mod laws;
+mod rows;
 mod table;
 
 pub use allocation::build_allocation;

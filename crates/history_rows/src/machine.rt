@@ -4,7 +4,7 @@ use crate::outline::outline;
 use crate::readers::{READ, fault, history, some};
 use alloc_desk::reallocate;
 use allocation_core::{
-    Answer, Core, Event, JobSpec, NotRenewed, OpenError, RenewalError, ReportRounds,
+    Answer, Core, Event, JobSpec, NotRenewed, OpenError, RenewalError, Renewed, ReportRounds,
 };
 use core_history::{read_history, write_history};
 use fleet_events::read_event;
@@ -105,10 +105,10 @@ fn renew_under(slot: &mut Slot, jobs: Vec<JobSpec>) -> Option<RenewalError> {
 }
 
 /// The allocator under other jobs, or as it was.
-fn put(slot: &mut Slot, renewed: Result<Core, NotRenewed>) -> Option<RenewalError> {
+fn put(slot: &mut Slot, renewed: Result<Renewed, NotRenewed>) -> Option<RenewalError> {
     match renewed {
-        Ok(core) => {
-            drop(slot.replace(core));
+        Ok(Renewed { core, forgotten }) => {
+            drop((slot.replace(core), forgotten));
             None
         }
         Err(NotRenewed { core, why }) => {

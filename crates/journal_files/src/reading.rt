@@ -258,7 +258,10 @@ fn start_renewed(
     // (its pairs ascend)
     let _pairs = core.allocation().len();
     match core.renew(jobs, report_rounds) {
-        Ok(renewed) => replaced(alloc, wanted, past, renewed),
+        Ok(renewed) => {
+            drop(renewed.forgotten);
+            replaced(alloc, wanted, past, renewed.core)
+        }
         Err(NotRenewed { core, why }) => {
             drop((core, past));
             Err(not_renewed(alloc, path, why))

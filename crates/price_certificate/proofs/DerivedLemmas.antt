@@ -1,12 +1,12 @@
 -- What instances keep that are made of another.
-use Rattle.std.proofs.Common.{◌≡◌, ◌+◌, ◌<◌, ◌≤◌, ℕ, zero, suc, Bool, List, [], ◌∷◌, All, Option, Some, None, length, get_or, map, sum_by, refl, sym, subst, ◌∙◌, arith}
+use Rattle.std.proofs.Common.{◌≡◌, ◌<◌, ◌≤◌, ℕ, zero, suc, Bool, List, [], ◌∷◌, All, Option, None, length, get_or, map, sum_by, refl, sym, subst, ◌∙◌, arith}
 use Rattle.std.specs.Prelude.{replicate, nat_lt}
 use Rattle.std.proofs.lemmas.List.{length-map, length-replicate}
 use Rattle.std.proofs.lemmas.List.Kept.{IsStrictlyIncreasing-filter}
 use Rattle.std.proofs.lemmas.List.Elements.{All-nil, All-cons, All-head, All-tail, All-filter}
 use Rattle.std.proofs.lemmas.List.Sums.{sum_by-cons, length-filter, count_by-le-length}
 use Rattle.std.proofs.lemmas.Option.{none-some}
-use Rattle.price_certificate.specs.Problem.{Problem, IsProblem, IsRow, items_of, bins_of, before_of}
+use Rattle.price_certificate.specs.Problem.{Problem, IsProblem, IsRow, items_of, bins_of}
 use Rattle.price_certificate.specs.Derived.{bare, capped, open_bins}
 
 -- what is open of a row is a row

@@ -9,7 +9,7 @@ use Rattle.price_certificate.specs.Problem.{items_of, row_of, weight_of}
 use Rattle.price_certificate.specs.Faults.{PriceFaultIsLeast, bin_at, fault_unless, first_below, or_else, price_fault, price_fault_at, row_fault}
 use Rattle.price_certificate.specs.declared.verdict.Fault.TheVariants.{PriceTooLow}
 use Rattle.price_certificate.proofs.First.{none_below, unless_none}
-use Rattle.price_certificate.proofs.Rows.{is_row}
+use Rattle.price_certificate.proofs.InstanceRows.{is_row}
 
 -- where the first of a list of places stands
 record IsFirst {A : Type 0} (f : ℕ → Option A) (n : ℕ) (x : A) : Type 0 where

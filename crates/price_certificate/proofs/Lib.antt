@@ -3,7 +3,7 @@ pub mod DocumentForm
 pub mod DocumentParts
 pub mod DocumentValues
 pub mod Sums
-pub mod Rows
+pub mod InstanceRows
 pub mod Weights
 pub mod Duality
 pub mod Optimal
@@ -17,3 +17,4 @@ pub mod Marking
 pub mod InstanceLemmas
 pub mod DerivedLemmas
 pub mod Sharing
+pub mod RowLemmas

@@ -13,7 +13,7 @@ use Rattle.price_certificate.proofs.Duality.{allowed_item, duality}
 use Rattle.price_certificate.specs.Faults.{weight_sum}
 use Rattle.price_certificate.specs.declared.version.Version.{Version}
 use Rattle.price_certificate.specs.declared.version.Version.TheVariants.{One, Two}
-use Rattle.price_certificate.proofs.Rows.{allowed_bin}
+use Rattle.price_certificate.proofs.InstanceRows.{allowed_bin}
 use Rattle.price_certificate.proofs.Weights.{levels-apart}
 use Rattle.price_certificate.proofs.Sums.{sum_below-le, sum_by_key}
 

@@ -11,7 +11,8 @@ use Rattle.std.proofs.lemmas.Slice.Eq.{slice_eq-Decides}
 use Rattle.lists.proofs.RisingLemmas.{all_from}
 use Rattle.price_certificate.specs.Faults.{first_below, or_else}
 use Rattle.price_certificate.specs.Problem.{Problem, IsProblem, items_of, row_of}
-use Rattle.price_certificate.specs.Reach.{Sharing, may_share, pairs_of, place_at, place_of, row_at, shared_rows, sharing_below, sharing_of, with_place}
+use Rattle.price_certificate.specs.Rows.{row_at}
+use Rattle.price_certificate.specs.Reach.{Sharing, may_share, pairs_of, place_at, place_of, shared_rows, sharing_below, sharing_of, with_place}
 
 -- ---- the first that there is
 
@@ -31,7 +32,7 @@ chosen : (b : Bool) (number x : ℕ) → cond b (Some number) None ≡ Some x �
 chosen true number x e = (refl, cc)
 chosen false number x e = cc
 
-same_number : (a b : ℕ) → Decides (nat_eq a b) (a ≡ b)
+pub same_number : (a b : ℕ) → Decides (nat_eq a b) (a ≡ b)
 same_number a b = (λ t. eqb-true a b t, λ e. eq-eqb a b e)
 
 pub place_is : (p : Problem) (firsts : List ℕ) (item number : ℕ) → place_of p firsts item ≡ Some number → (number < length firsts) × (row_of p (get_or firsts number 0) ≡ row_of p item)

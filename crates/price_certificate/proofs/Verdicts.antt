@@ -13,7 +13,7 @@ use Rattle.price_certificate.specs.Certificate.{IsCertified, value_of}
 use Rattle.price_certificate.specs.Faults.{pair_at, stands_in, is_allowed, bin_at, length_fault, number_fault, number_fault_at, repeat_fault, repeat_fault_at, reach_fault, reach_fault_at, limit_fault, limit_fault_at, row_fault, price_fault_at, price_fault, sum_fault, weight_sum, fault_of}
 use Rattle.price_certificate.specs.declared.verdict.Fault.TheVariants.{WrongLengths, BadNumber, ItemTwice, OutOfReach, OverLimit, PriceTooLow, SumsDiffer}
 use Rattle.price_certificate.proofs.Duality.{allowed_item}
-use Rattle.price_certificate.proofs.Rows.{allowed_bin}
+use Rattle.price_certificate.proofs.InstanceRows.{allowed_bin}
 use Rattle.price_certificate.proofs.Optimal.{worth_parts}
 use Rattle.price_certificate.proofs.First.{first_none, none_below, or_else_none, both_none, unless_true, unless_none}
 

@@ -1,5 +1,5 @@
 -- Instances that are made of another: one with nothing before, and one with caps.
-use Rattle.std.specs.Prelude.{ℕ, Bool, List, Option, None, filter, map, replicate, nat_lt, slice_index}
+use Rattle.std.specs.Prelude.{ℕ, List, None, filter, map, replicate, nat_lt, slice_index}
 use Rattle.price_certificate.specs.Problem.{Problem, items_of}
 
 -- nothing was anywhere before, so that only what is covered and what is left counts

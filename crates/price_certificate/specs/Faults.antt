@@ -1,8 +1,9 @@
 -- The checker's verdict: the first fault of a plan, in the order of the kinds, each looked for through the whole plan
 -- before the next.
-use Rattle.std.specs.Prelude.{ℕ, zero, suc, Bool, true, false, List, Option, Some, None, ◌≡◌, ◌<◌, ◌≤◌, ◌↔◌, ◌⊎◌, ◌+◌, ◌-◌, ◌*◌, ◌==◌, ◌&&◌, not, nat_lt, nat_le, length, slice_index, slice_index_or, take, if◌then◌else◌}
+use Rattle.std.specs.Prelude.{ℕ, zero, suc, Bool, true, false, List, All, Option, Some, None, ◌≡◌, ◌<◌, ◌≤◌, ◌↔◌, ◌⊎◌, ◌+◌, ◌-◌, ◌*◌, ◌==◌, ◌&&◌, not, nat_lt, nat_le, length, slice_index, slice_index_or, take, if◌then◌else◌}
 use Rattle.std.specs.List.{list_any}
-use Rattle.price_certificate.specs.Problem.{Problem, IsAllowed, IsProblem, items_of, bins_of, row_of, capacity_of, cover_worth, steady_worth, weight_of}
+use Rattle.price_certificate.specs.Problem.{Problem, IsAllowed, IsProblem, items_of, bins_of, row_of, capacity_of, cover_worth, steady_worth, weight_of, worth_at}
+use Rattle.price_certificate.specs.Rows.{row_at}
 use Rattle.price_certificate.specs.Assignment.{uses_of_bin, covered, left, kept, moved}
 use Rattle.price_certificate.specs.Certificate.{IsCertified, value_of, worth_of}
 use Rattle.price_certificate.specs.declared.verdict.Fault.{Fault}
@@ -77,6 +78,18 @@ row_fault p item_prices bin_prices item = first_below (price_fault_at p item_pri
 
 unfoldable pub price_fault : Problem → List ℕ → List ℕ → Option Fault
 price_fault p item_prices bin_prices = first_below (row_fault p item_prices bin_prices) (items_of p)
+
+-- a price is enough for an item with these bins, unless it was at one of them
+abbrev pub IsEnough : Problem → List ℕ → ℕ → List ℕ → Type 0
+IsEnough p bin_prices price row = All (λ bin. worth_at p bin ≤ price + slice_index bin_prices bin) row
+
+-- for each list of bins such a price
+abbrev pub AreEnough : Problem → List ℕ → List ℕ → List (List ℕ) → Type 0
+AreEnough p bin_prices prices lists = (number : ℕ) → IsEnough p bin_prices (slice_index prices number) (row_at lists number)
+
+-- for each item, by the number of its list
+abbrev pub IsEnoughForEach : Problem → List ℕ → List ℕ → List ℕ → Type 0
+IsEnoughForEach p bin_prices prices list_of = (item : ℕ) → item < items_of p → IsEnough p bin_prices (slice_index prices (slice_index list_of item)) (row_of p item)
 
 -- the worth of the pairs level by level: what they cover, what of that is not left at draining bins, and what they keep
 abbrev pub weight_sum : Problem → List (ℕ × ℕ) → ℕ

@@ -8,3 +8,4 @@ pub mod Plan
 pub mod Instances
 pub mod Derived
 pub mod Reach
+pub mod Rows

@@ -1,20 +1,17 @@
 -- The member `reach` of a document. It is an array with a list of bins for each item; or, where items share their lists, an object: `rows` has
 -- the lists, and `row_of` for each item the number of its list among them, from 0.
-use Rattle.std.specs.Prelude.{ℕ, zero, suc, ◌<◌, List, [], ◌∷◌, ◌++◌, Bool, true, false, ◌&&◌, nat_eq, nat_le, nat_lt, min, length, map, sum_by, slice_index, slice_index_or, Option, Some, None, option_and_then, codes, if◌then◌else◌}
+use Rattle.std.specs.Prelude.{ℕ, zero, suc, List, [], ◌∷◌, ◌++◌, Bool, true, false, ◌&&◌, nat_eq, nat_le, nat_lt, min, length, map, sum_by, slice_index, Option, Some, None, option_and_then, codes, if◌then◌else◌}
 use Rattle.std.specs.List.{list_all}
 use Rattle.std.specs.Cmp.Lexicographic.{pointwise}
 use Rattle.serde_json.specs.Data.{Data, object, no_members, member}
 use Rattle.json_values.specs.Spelling.{number_in, list_in, member_in, number_data, list_data}
 use Rattle.price_certificate.specs.Faults.{first_below}
 use Rattle.price_certificate.specs.Problem.{Problem, items_of, row_of}
+use Rattle.price_certificate.specs.Rows.{row_at}
 use Rattle.price_certificate.specs.declared.shape.TheConstants.{MOST_ITEMS, MOST_PAIRS}
 use Rattle.price_certificate.specs.declared.document.sharing.TheConstants.{MOST_SHARED}
 
 -- ---- what is read
-
--- the list of this number
-abbrev pub row_at : List (List ℕ) → ℕ → List ℕ
-row_at rows number = slice_index_or rows number []
 
 -- how many pairs are allowed to items with lists of these numbers
 abbrev pub pairs_of : List (List ℕ) → List ℕ → ℕ

@@ -65,7 +65,7 @@ fn first_fault(
     if let Some(fault) = find_over_limit(alloc, instance, pairs)? {
         return Ok(Some(fault));
     }
-    if let Some(fault) = find_price_too_low(instance, item_prices, bin_prices) {
+    if let Some(fault) = find_price_too_low(alloc, instance, item_prices, bin_prices)? {
         return Ok(Some(fault));
     }
     Ok(find_different_sums(instance, pairs, item_prices, bin_prices))

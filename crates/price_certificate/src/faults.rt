@@ -1,15 +1,16 @@
 //! Each kind of fault, looked for through the whole plan.
 
-ghost use Rattle.std.specs.Prelude.{◌≡◌, ◌==◌, ◌+◌, ◌*◌, ◌<◌, ◌≤◌, ℕ, Option, None, false, IfOk, length, replicate, slice_index, sum};
+ghost use Rattle.std.specs.Prelude.{◌≡◌, ◌==◌, ◌+◌, ◌*◌, ◌<◌, ◌≤◌, ℕ, Option, None, true, false, IfOk, IsTrue, length, replicate, slice_index, sum};
 ghost use Rattle.std.specs.List.{list_any};
-ghost use Rattle.price_certificate.specs.Problem.{items_of, bins_of, capacity_of};
+ghost use Rattle.price_certificate.specs.Problem.{items_of, bins_of, capacity_of, row_of, was_in, weight_of, worth_at};
 ghost use Rattle.price_certificate.specs.Assignment.{left, kept};
 ghost use Rattle.price_certificate.specs.Certificate.{sum_below};
-ghost use Rattle.price_certificate.specs.Faults.{pair_at, length_fault, number_fault, repeat_fault, reach_fault, limit_fault, row_fault, price_fault, sum_fault, weight_sum, IsCounted};
+ghost use Rattle.price_certificate.specs.Faults.{pair_at, length_fault, number_fault, repeat_fault, reach_fault, limit_fault, row_fault, price_fault, sum_fault, weight_sum, AreEnough, IsCounted, IsEnough, IsEnoughForEach};
 
 use crate::instance::Instance;
 use crate::shape::{MOST_ITEMS, no_marks};
 use crate::verdict::Fault;
+use lists::List;
 use std::alloc::{AllocError, Global};
 
 /// A price list that is too short or too long.
@@ -142,23 +143,143 @@ fn find_full_bin(instance: &Instance, pairs: &[(u32, u32)], counts: &[usize]) ->
     None
 }
 
-/// The least item, and of that the least bin, that are priced below their weight.
-#[tactic(auto, unfolding(crate::specs::Faults::price_fault))]
+/// The least item, and of that the least bin, that are priced below their weight. A list of bins that items share is looked at
+/// once, where none of them is.
 pub(crate) fn find_price_too_low(
+    alloc: Global,
     instance: &Instance,
+    item_prices: &[u32],
+    bin_prices: &[u32],
+) -> Result<Option<Fault>, AllocError>
+    requires items { length item_prices.now ≡ items_of instance.now }
+    requires bins { length bin_prices.now ≡ bins_of instance.now }
+    ensures { IfOk result (λ f. f ≡ price_fault instance.now item_prices.now bin_prices.now) }
+{
+    let rows = instance.rows();
+    let enough = enough_prices(alloc, instance, rows.lists.as_slice(), bin_prices)?;
+    Ok(find_low_item(
+        instance,
+        rows.list_of.as_slice(),
+        enough.as_slice(),
+        item_prices,
+        bin_prices,
+    ))
+}
+
+/// For each list of bins a price that is enough for each item with that list, unless it was at one of these bins.
+fn enough_prices(
+    alloc: Global,
+    instance: &Instance,
+    lists: &[List<u32>],
+    bin_prices: &[u32],
+) -> Result<Vec<u64>, AllocError>
+    ensures { IfOk result (λ v. AreEnough instance.now bin_prices.now v.items lists.now) }
+{
+    let mut prices = Vec::with_capacity(alloc, lists.len())?;
+    for row in lists {
+        prices.push(enough_price(instance, row.as_slice(), bin_prices))?;
+    }
+    Ok(prices)
+}
+
+/// A price that is enough for each item with these bins, unless it was at one of them.
+fn enough_price(instance: &Instance, row: &[u32], bin_prices: &[u32]) -> u64
+    ensures { IsEnough instance.now bin_prices.now result row.now }
+{
+    let mut price = 0;
+    for bin in row {
+        let lack = lack(instance, *bin, bin_prices);
+        if lack > price {
+            price = lack;
+        }
+    }
+    price
+}
+
+/// What a bin's price lacks of what the bin is worth with an item that was elsewhere.
+fn lack(instance: &Instance, bin: u32, bin_prices: &[u32]) -> u64
+    ensures { worth_at instance.now bin ≤ result + slice_index bin_prices.now bin }
+{
+    let worth = instance.worth_at(bin as usize);
+    match bin_prices.get(bin as usize) {
+        Some(price) => u64::from(worth.saturating_sub(*price)),
+        None => u64::from(worth),
+    }
+}
+
+/// The least item that is priced too low, and of that the least bin.
+#[tactic(auto, unfolding(crate::specs::Faults::price_fault))]
+fn find_low_item(
+    instance: &Instance,
+    list_of: &[u32],
+    enough: &[u64],
     item_prices: &[u32],
     bin_prices: &[u32],
 ) -> Option<Fault>
     requires items { length item_prices.now ≡ items_of instance.now }
     requires bins { length bin_prices.now ≡ bins_of instance.now }
+    requires enough { IsEnoughForEach instance.now bin_prices.now enough.now list_of.now }
     ensures { result ≡ price_fault instance.now item_prices.now bin_prices.now }
 {
     for item in 0..instance.items() {
-        if let Some(fault) = find_low_pair(instance, item, item_prices, bin_prices) {
+        let enough = enough_for(list_of, enough, item);
+        if let Some(fault) = find_low_bin(instance, item, enough, item_prices, bin_prices) {
             return Some(fault);
         }
     }
     None
+}
+
+/// The price that is enough for an item's list.
+fn enough_for(list_of: &[u32], enough: &[u64], item: usize) -> u64
+    ensures { result ≡ slice_index enough.now (slice_index list_of.now item) }
+{
+    let number = match list_of.get(item) {
+        Some(number) => *number,
+        None => 0,
+    };
+    match enough.get(number as usize) {
+        Some(price) => *price,
+        None => 0,
+    }
+}
+
+/// The least bin that is priced below its weight with this item. The bins are looked at where the item's price is not enough, or where
+/// it was at one of them.
+fn find_low_bin(
+    instance: &Instance,
+    item: usize,
+    enough: u64,
+    item_prices: &[u32],
+    bin_prices: &[u32],
+) -> Option<Fault>
+    requires item { item < items_of instance.now }
+    requires items { length item_prices.now ≡ items_of instance.now }
+    requires bins { length bin_prices.now ≡ bins_of instance.now }
+    requires enough { IsEnough instance.now bin_prices.now enough (row_of instance.now item) }
+    ensures { result ≡ row_fault instance.now item_prices.now bin_prices.now item }
+{
+    let price = item_prices[item];
+    if enough <= u64::from(price) && is_home_priced(instance, item, price, bin_prices) {
+        return None;
+    }
+    find_low_pair(instance, item, item_prices, bin_prices)
+}
+
+/// Whether an item and the bin where it was are priced at their weight or above.
+fn is_home_priced(instance: &Instance, item: usize, price: u32, bin_prices: &[u32]) -> bool
+    ensures { IsTrue result → (bin : ℕ) → was_in instance.now item bin ≡ true → weight_of instance.now item bin ≤ price + slice_index bin_prices.now bin }
+{
+    match instance.before(item) {
+        None => true,
+        Some(bin) => {
+            let weight = u64::from(instance.weight(item, bin as usize));
+            match bin_prices.get(bin as usize) {
+                Some(other) => weight <= u64::from(price) + u64::from(*other),
+                None => weight <= u64::from(price),
+            }
+        }
+    }
 }
 
 /// The least bin that is priced below its weight with this item.

@@ -1,10 +1,12 @@
 //! Instances: what is asked of a plan.
 ghost use Rattle.std.specs.Prelude.{◌≡◌, ◌↔◌, ◌<◌, ◌≤◌, IsTrue, List, [], Some, IfOk, slice_index, count_by, is_some, if◌then◌else◌};
-ghost use Rattle.price_certificate.specs.Problem.{Problem, IsProblem, IsShaped, IsProblemOf, items_of, bins_of, drains, row_of, before_of, before_count, capacity_by, capacity_of, cover_worth, steady_worth, was_in, weight_of, top_weight};
+ghost use Rattle.price_certificate.specs.Problem.{Problem, IsProblem, IsShaped, IsProblemOf, items_of, bins_of, drains, row_of, before_of, before_count, capacity_by, capacity_of, cover_worth, steady_worth, was_in, weight_of, worth_at, top_weight};
+ghost use Rattle.price_certificate.specs.Rows.{rows_of};
 ghost use Rattle.price_certificate.specs.declared.version.Version.TheVariants.{One, Two};
 
 mod derived;
 
+use crate::rows::{Rows, one_each, row, same_rows};
 use crate::shape::{InstanceError, MOST_BINS, MOST_ITEMS, has_reach, is_row, marks, places};
 use crate::version::Version;
 use lists::{List, Plain};
@@ -17,18 +19,19 @@ pub struct Instance {
     version: Version,
     limits: List<u32>,
     draining: List<bool>,
-    rows: List<List<u32>>,
+    rows: Rows,
     before: List<Option<u32>>,
 }
 
 impl Model for Instance {
     ghost use Rattle.price_certificate.specs.Problem.{Problem, IsProblem};
+    ghost use Rattle.price_certificate.specs.Rows.{rows_of};
 
     ghost Value = { Problem };
 
-    ghost view = { λ i. record { version = i.version; limits = i.limits; draining = i.draining; rows = i.rows; before = i.before } };
+    ghost view = { λ i. record { version = i.version; limits = i.limits; draining = i.draining; rows = rows_of i.rows; before = i.before } };
 
-    ghost invariant = { λ i. IsProblem (record { version = i.version; limits = i.limits; draining = i.draining; rows = i.rows; before = i.before }) };
+    ghost invariant = { λ i. IsProblem (record { version = i.version; limits = i.limits; draining = i.draining; rows = rows_of i.rows; before = i.before }) };
 }
 
 impl Instance {
@@ -44,7 +47,7 @@ impl Instance {
         ensures ok { IfOk result (λ i. IsShaped limits [] rows before × IsProblemOf i One limits [] rows before) }
         ensures shape { result ≡ Err InstanceError.Shape → ¬ IsShaped limits [] rows before }
     {
-        Instance::of_version(alloc, Version::One, limits, &[], rows, before)
+        Instance::of_lists(alloc, Version::One, limits, &[], rows, before)
     }
 
     /// The instance of version 2 with these limits of bins, these bins that drain, in ascending order, and rows and pairs
@@ -59,6 +62,27 @@ impl Instance {
         ensures ok { IfOk result (λ i. IsShaped limits draining rows before × IsProblemOf i Two limits draining rows before) }
         ensures shape { result ≡ Err InstanceError.Shape → ¬ IsShaped limits draining rows before }
     {
+        Instance::of_lists(
+            alloc,
+            Version::Two,
+            limits,
+            draining.as_slice(),
+            rows,
+            before,
+        )
+    }
+
+    /// The instance of version 2 whose items may share their rows.
+    pub fn new_shared(
+        alloc: Global,
+        limits: List<u32>,
+        draining: List<u32>,
+        rows: Rows,
+        before: List<(u32, u32)>,
+    ) -> Result<Instance, InstanceError>
+        ensures ok { IfOk result (λ i. IsShaped limits draining (rows_of rows) before × IsProblemOf i Two limits draining (rows_of rows) before) }
+        ensures shape { result ≡ Err InstanceError.Shape → ¬ IsShaped limits draining (rows_of rows) before }
+    {
         Instance::of_version(
             alloc,
             Version::Two,
@@ -69,8 +93,8 @@ impl Instance {
         )
     }
 
-    /// The instance of a version.
-    pub(crate) fn of_version(
+    /// The instance of a version where each item has a row of its own.
+    fn of_lists(
         alloc: Global,
         version: Version,
         limits: List<u32>,
@@ -82,14 +106,36 @@ impl Instance {
         ensures ok { IfOk result (λ i. IsShaped limits draining.now rows before × IsProblemOf i version limits draining.now rows before) }
         ensures shape { result ≡ Err InstanceError.Shape → ¬ IsShaped limits draining.now rows before }
     {
-        if !has_reach(limits.as_slice(), rows.as_slice()) {
+        match one_each(alloc, rows) {
+            Ok(rows) => Instance::of_version(alloc, version, limits, draining, rows, before),
+            Err(_) => {
+                drop((limits, before));
+                Err(InstanceError::Memory)
+            }
+        }
+    }
+
+    /// The instance of a version.
+    pub(crate) fn of_version(
+        alloc: Global,
+        version: Version,
+        limits: List<u32>,
+        draining: &[u32],
+        rows: Rows,
+        before: List<(u32, u32)>,
+    ) -> Result<Instance, InstanceError>
+        requires { version ≡ One → draining.now ≡ [] }
+        ensures ok { IfOk result (λ i. IsShaped limits draining.now (rows_of rows) before × IsProblemOf i version limits draining.now (rows_of rows) before) }
+        ensures shape { result ≡ Err InstanceError.Shape → ¬ IsShaped limits draining.now (rows_of rows) before }
+    {
+        if !has_reach(limits.as_slice(), &rows) {
             return Err(InstanceError::Shape);
         }
         if !is_row(limits.len(), draining) {
             return Err(InstanceError::Shape);
         }
         let draining = marks(alloc, limits.len(), draining)?;
-        let before = places(alloc, rows.len(), limits.len(), before.as_slice())?;
+        let before = places(alloc, rows.list_of.len(), limits.len(), before.as_slice())?;
         Ok(Instance {
             version,
             limits,
@@ -111,7 +157,7 @@ impl Instance {
         ensures count { result ≡ items_of self.now }
         ensures most { result ≤ MOST_ITEMS }
     {
-        self.rows.len()
+        self.rows.list_of.len()
     }
 
     /// How many bins there are, at most 16,384.
@@ -158,10 +204,14 @@ impl Instance {
     pub fn row(&self, item: usize) -> &[u32]
         ensures { result.now ≡ row_of self.now item }
     {
-        match self.rows.as_slice().get(item) {
-            Some(row) => row.as_slice(),
-            None => &[],
-        }
+        row(&self.rows, item)
+    }
+
+    /// The rows of all items.
+    pub(crate) fn rows(&self) -> &Rows
+        ensures { rows_of result.now ≡ self.now.rows }
+    {
+        &self.rows
     }
 
     /// The bin where an item was; none past the last item.
@@ -202,12 +252,20 @@ impl Instance {
     pub fn weight(&self, item: usize, bin: usize) -> u32
         ensures { result ≡ weight_of self.now item bin }
     {
-        let place = match self.version {
+        self.worth_at(bin) + self.kept_worth(item, bin)
+    }
+
+    /// What the pair of a bin and an item that was elsewhere is worth.
+    #[tactic(auto, unfolding(crate::specs::Problem::weight_by))]
+    pub(crate) fn worth_at(&self, bin: usize) -> u32
+        ensures worth { result ≡ worth_at self.now bin }
+        ensures most { result ≤ 268484610 }
+    {
+        match self.version {
             Version::One => self.cover_worth(),
             Version::Two if self.drains(bin) => self.cover_worth(),
             Version::Two => self.cover_worth() + self.steady_worth(),
-        };
-        place + self.kept_worth(item, bin)
+        }
     }
 
     /// What keeping an item where it was is worth, where that is this bin.
@@ -272,7 +330,7 @@ impl Plain for Instance {
         self.version == other.version
             && self.limits.same(&other.limits)
             && self.draining.same(&other.draining)
-            && self.rows.same(&other.rows)
+            && same_rows(&self.rows, &other.rows)
             && self.before.same(&other.before)
     }
 }

@@ -8,6 +8,7 @@ mod faults;
 mod instance;
 mod laws;
 mod plan;
+mod rows;
 mod shape;
 mod verdict;
 mod version;
@@ -23,6 +24,7 @@ pub use laws::{
     certified_is_optimal, no_fault_is_certified, price_fault_is_least, worth_is_by_level,
 };
 pub use plan::Plan;
+pub use rows::Rows;
 pub use shape::{InstanceError, MOST_BINS, MOST_ITEMS, MOST_PAIRS};
 pub use verdict::{Fault, Verdict};
 pub use version::Version;

@@ -1,9 +1,10 @@
 //! The parts of an instance: what fits together, and the tables that are made of them.
-ghost use Rattle.std.specs.Prelude.{◌≡◌, ◌↔◌, ◌≤◌, ◌<◌, List, Option, None, false, replicate, All, IsTrue, IfOk, length, sum_by, is_some};
+ghost use Rattle.std.specs.Prelude.{◌≡◌, ◌↔◌, ◌≤◌, ◌<◌, List, Option, None, false, replicate, All, IsTrue, IfOk, length};
 ghost use Rattle.price_certificate.specs.Problem.{IsRow, IsReach, IsPreceding, IsPlaced, IsMarked};
+ghost use Rattle.price_certificate.specs.Rows.{rows_of};
 ghost use Rattle.price_certificate.specs.declared.shape.InstanceError.TheVariants.{Memory};
 
-use lists::List;
+use crate::rows::{Rows, has_few_pairs, has_rows};
 use std::alloc::{AllocError, Global};
 use thiserror::Error;
 
@@ -35,42 +36,16 @@ pub const MOST_BINS: usize = 16384;
 pub const MOST_PAIRS: usize = 4194304;
 
 /// Whether the limits and the rows are those of an instance.
-pub(crate) fn has_reach(limits: &[u32], rows: &[List<u32>]) -> bool
-    ensures { IsTrue result ↔ IsReach limits.now rows.now }
+pub(crate) fn has_reach(limits: &[u32], rows: &Rows) -> bool
+    ensures { IsTrue result ↔ IsReach limits.now (rows_of rows.now) }
 {
-    if rows.len() > MOST_ITEMS || limits.len() > MOST_BINS {
+    if rows.list_of.len() > MOST_ITEMS || limits.len() > MOST_BINS {
         return false;
     }
-    if !has_few_pairs(rows) {
+    if !has_few_pairs(rows.lists.as_slice(), rows.list_of.as_slice()) {
         return false;
     }
-    are_rows(limits.len(), rows)
-}
-
-/// Whether the rows have no more than the most pairs.
-fn has_few_pairs(rows: &[List<u32>]) -> bool
-    ensures { IsTrue result ↔ (sum_by length rows.now ≤ MOST_PAIRS) }
-{
-    let mut left = MOST_PAIRS;
-    for row in rows {
-        if row.len() > left {
-            return false;
-        }
-        left -= row.len();
-    }
-    true
-}
-
-/// Whether each row is one of an instance with so many bins.
-fn are_rows(bins: usize, rows: &[List<u32>]) -> bool
-    ensures { IsTrue result ↔ All (IsRow bins) rows.now }
-{
-    for row in rows {
-        if !is_row(bins, row.as_slice()) {
-            return false;
-        }
-    }
-    true
+    has_rows(limits.len(), rows)
 }
 
 /// Whether the bins ascend and are below the number of bins.

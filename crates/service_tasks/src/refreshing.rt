@@ -6,6 +6,7 @@ use crate::source::{Listed, Source};
 use crate::sources::Sources;
 use crate::told_source::ToldSource;
 use alloc_desk::{Leftover, Pass};
+use allocation_core::Forgotten;
 use file_configs::{ReadFiles, patterns_of};
 use fleet_events::Event;
 use http_get::{Asker, Cause, FetchFault, FetchSeveral, Get, Listing, Next, Reply, get_of_source};
@@ -44,14 +45,20 @@ pub struct Watch<S> {
     /// The jobs of the configuration.
     pub(crate) jobs: Arc<List<Job>>,
     pub(crate) sources: Sources,
-    /// What is left of the desk before.
+    /// What is left of the desk before, and of its fleet, if that was renewed.
     pub(crate) left: Option<Leftover>,
+    pub(crate) forgotten: Option<Forgotten>,
 }
 
 impl<S> Watch<S> {
     /// Takes what is left of a desk, which goes once the sources are asked for the next one: nobody waits for them.
     pub fn leave(&mut self, left: Leftover) {
         drop(std::mem::replace(&mut self.left, Some(left)));
+    }
+
+    /// Takes what a renewal forgot, which goes likewise.
+    pub(crate) fn leave_fleet(&mut self, forgotten: Forgotten) {
+        drop(std::mem::replace(&mut self.forgotten, Some(forgotten)));
     }
 }
 
@@ -167,7 +174,7 @@ impl<R: Wait + Clock + Eprint + Copy, L: Ledger, B: Ledger, N: JournalName> Shar
         pass: &mut Pass<L, B, N>,
         watch: &mut Watch<S>,
     ) {
-        drop(watch.left.take());
+        drop((watch.left.take(), watch.forgotten.take()));
         for _ in self.rt.forever() {
             match self.refresh_by(pass, watch) {
                 Ok(()) => return,

@@ -7,6 +7,7 @@ ghost use Rattle.service_tasks.specs.Later.{IsLater, IsRenewed};
 use crate::configuration::Configuration;
 use crate::journal::Journal;
 use crate::logging::{log_error, log_error_of, log_info, log_warning, log_warning_of};
+use crate::refreshing::Watch;
 use crate::service::Service;
 use crate::service_context::{ServiceContext, sources_of};
 use crate::source::Source;
@@ -49,7 +50,8 @@ where
     let epoch = context.next_epoch(rt);
     if !context.schedule.is_read {
         let journal = &mut context.journal;
-        return renewed(rt, alloc, service, archive, journal, epoch, core);
+        let watch = &mut context.watch;
+        return renewed(rt, alloc, service, archive, journal, watch, epoch, core);
     }
     context.schedule.is_read = false;
     match context.schedule.configuration.service() {
@@ -90,12 +92,14 @@ where
         return Ok(core);
     };
     let journal = &mut context.journal;
+    let watch = &mut context.watch;
     match under(
         rt,
         alloc,
         &next,
         archive,
         journal,
+        watch,
         jobs,
         report_rounds,
         epoch,
@@ -184,12 +188,13 @@ fn copied_jobs(alloc: Global, core: &Core) -> Result<Vec<JobSpec>, AllocError> {
 /// The allocator under the jobs of a service, with reports booked of so many rounds, and whether it is: it is as it was where both are
 /// its own, and else renewed.
 #[tactic(auto, using(crate::proofs::Laters::later_refl))]
-fn under<R: Clock + Eprint + Copy, F: Device + Drop, A: Archive<F>>(
+fn under<R: Clock + Eprint + Copy, S, F: Device + Drop, A: Archive<F>>(
     rt: &R,
     alloc: Global,
     service: &Service,
     archive: &mut A,
     journal: &mut Journal<F>,
+    watch: &mut Watch<S>,
     jobs: Vec<JobSpec>,
     report_rounds: ReportRounds,
     epoch: u64,
@@ -211,6 +216,7 @@ fn under<R: Clock + Eprint + Copy, F: Device + Drop, A: Archive<F>>(
         service,
         archive,
         journal,
+        watch,
         jobs,
         report_rounds,
         epoch,
@@ -220,12 +226,13 @@ fn under<R: Clock + Eprint + Copy, F: Device + Drop, A: Archive<F>>(
 
 /// The allocator renewed under its own jobs, with reports booked of as many rounds as before.
 #[tactic(auto, using(crate::proofs::Laters::later_refl))]
-fn renewed<R: Clock + Eprint + Copy, F: Device + Drop, A: Archive<F>>(
+fn renewed<R: Clock + Eprint + Copy, S, F: Device + Drop, A: Archive<F>>(
     rt: &R,
     alloc: Global,
     service: &Service,
     archive: &mut A,
     journal: &mut Journal<F>,
+    watch: &mut Watch<S>,
     epoch: u64,
     core: Core,
 ) -> io::Result<Core>
@@ -245,6 +252,7 @@ fn renewed<R: Clock + Eprint + Copy, F: Device + Drop, A: Archive<F>>(
         service,
         archive,
         journal,
+        watch,
         jobs,
         report_rounds,
         epoch,
@@ -256,12 +264,13 @@ fn renewed<R: Clock + Eprint + Copy, F: Device + Drop, A: Archive<F>>(
 /// The allocator renewed under some jobs, with its journal begun anew, in this epoch, where there is one, and whether it is. Where it is not
 /// renewed it is as it was.
 #[tactic(auto, using(crate::proofs::Laters::renewed_is_later, crate::proofs::Laters::later_refl))]
-fn renewed_under<R: Clock + Eprint + Copy, F: Device + Drop, A: Archive<F>>(
+fn renewed_under<R: Clock + Eprint + Copy, S, F: Device + Drop, A: Archive<F>>(
     rt: &R,
     alloc: Global,
     service: &Service,
     archive: &mut A,
     journal: &mut Journal<F>,
+    watch: &mut Watch<S>,
     jobs: Vec<JobSpec>,
     report_rounds: ReportRounds,
     epoch: u64,
@@ -276,13 +285,15 @@ fn renewed_under<R: Clock + Eprint + Copy, F: Device + Drop, A: Archive<F>>(
     let _pairs = core.allocation().len();
     match core.renew(jobs, report_rounds) {
         Ok(renewed) => {
+            watch.leave_fleet(renewed.forgotten);
+            let core = renewed.core;
             journal.epoch = epoch;
-            if let Err(error) = begin_journal(rt, alloc, service, archive, journal, &renewed) {
-                drop(renewed);
+            if let Err(error) = begin_journal(rt, alloc, service, archive, journal, &core) {
+                drop(core);
                 return Err(error);
             }
             log_info(rt, "the allocator is renewed");
-            Ok((renewed, true))
+            Ok((core, true))
         }
         Err(NotRenewed { core, why }) => {
             log_warning_of(rt, "the allocator is not renewed", &why);

@@ -15,7 +15,7 @@ use Rattle.price_certificate.specs.Derived.{bare}
 use Rattle.price_certificate.proofs.DerivedLemmas.{bare_problem}
 use Rattle.price_certificate.proofs.Duality.{allowed_item}
 use Rattle.price_certificate.proofs.First.{none_below, or_else_none}
-use Rattle.price_certificate.proofs.Rows.{allowed_bin}
+use Rattle.price_certificate.proofs.InstanceRows.{allowed_bin}
 use Rattle.price_certificate.proofs.Sums.{sum_below-le, sum_below-same, sum_by_key}
 use Rattle.price_certificate.proofs.Verdicts.{fault_none}
 use Rattle.spread_certificate.specs.Within.{IsWithin}

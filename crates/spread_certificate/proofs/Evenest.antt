@@ -8,7 +8,7 @@ use Rattle.price_certificate.specs.Problem.{Problem, IsProblem, IsAllowed, bins_
 use Rattle.price_certificate.specs.Assignment.{IsFeasible, left}
 use Rattle.price_certificate.specs.Certificate.{sum_below, worth_by}
 use Rattle.price_certificate.proofs.Duality.{duality}
-use Rattle.price_certificate.proofs.Rows.{allowed_bin}
+use Rattle.price_certificate.proofs.InstanceRows.{allowed_bin}
 use Rattle.price_certificate.proofs.Sums.{sum_below-same, sum_below-le, sum_below-add, sum_by_key}
 use Rattle.spread_certificate.specs.Loads.{group_of, load_of, worth_at, IsLevelled, IsEvenest}
 

@@ -9,7 +9,7 @@ use Rattle.price_certificate.specs.Problem.{Problem, IsProblem, IsAllowed, bins_
 use Rattle.price_certificate.specs.Assignment.{IsFeasible, IsOptimal, covered, kept, left, uses_of_item, uses_of_bin}
 use Rattle.price_certificate.specs.Derived.{bare}
 use Rattle.price_certificate.specs.Faults.{IsCounted}
-use Rattle.price_certificate.proofs.Rows.{allowed_bin}
+use Rattle.price_certificate.proofs.InstanceRows.{allowed_bin}
 use Rattle.spread_engine.specs.Witness.{AreNear, Held, IsShifted, MayShift, MovesFew, one_if, pair_at}
 use Rattle.spread_certificate.specs.Within.{IsBestWithin, IsWithin}
 use Rattle.spread_certificate.proofs.WithinLemmas.{to_bare, from_bare, none_before}

@@ -8,7 +8,7 @@ ghost use Rattle.allocation_core.specs.Renewed.{IsWhyNot, renewal_refusal, renew
 
 use super::Core;
 use crate::limits::LAST_ROUND;
-use crate::renewal::{NotRenewed, RenewalError};
+use crate::renewal::{Forgotten, NotRenewed, RenewalError, Renewed};
 use crate::report_rounds::ReportRounds;
 use fleet::{Fleet, JobSpec};
 use fleet_renewal::{RenewError, fleet_refusal, renew_fleet};
@@ -22,8 +22,12 @@ impl Core {
     /// neither live nor held nor in a list that was served last, older allocations, who took which, and booked reports. The rest goes on, the targets numbered anew
     /// from 0 in their old order. Rounds before the next one are closed. Where it is refused the core comes back as it was.
     #[tactic(auto, unfolding(crate::specs::Renewed::renewed))]
-    pub fn renew(self, jobs: Vec<JobSpec>, report_rounds: ReportRounds) -> Result<Core, NotRenewed>
-        ensures renewed { IfOk result (λ c. c ≡ renewed self jobs.items report_rounds) }
+    pub fn renew(
+        self,
+        jobs: Vec<JobSpec>,
+        report_rounds: ReportRounds,
+    ) -> Result<Renewed, NotRenewed>
+        ensures renewed { IfOk result (λ r. r.core ≡ renewed self jobs.items report_rounds) }
         ensures granted { OnOk result (renewal_refusal self jobs.items ≡ None) }
         ensures back { IfErr result (λ n. n.core ≡ self) }
         ensures refused { IfErr result (λ n. IsWhyNot (renewal_refusal self jobs.items) n.why) }
@@ -93,23 +97,22 @@ impl Core {
         }
     }
 
-    /// The core with these in place of its own, in the next round, with nothing booked.
+    /// The core with these in place of its own, which are given back, in the next round, with nothing booked.
     fn with_fleet(
         self,
         fleet: Fleet,
         holders: Holders,
         served: ServedLists,
         report_rounds: ReportRounds,
-    ) -> Core
+    ) -> Renewed
         requires kept { IsFleet fleet }
         requires few_slots { length served.slots ≤ length fleet.known }
         requires given_slots { All (λ (collector : ℕ). collector ≤ fleet.last_collector) served.slots }
         requires few { length holders.published ≤ 1 }
         requires left { self.round < LAST_ROUND }
-        ensures { result ≡ record self { fleet = fleet; published = holders.published; taken = holders.taken; served = served; round = self.round + 1; booked = []; begun = self.round + 1; report_rounds = report_rounds } }
+        ensures { result.core ≡ record self { fleet = fleet; published = holders.published; taken = holders.taken; served = served; round = self.round + 1; booked = []; begun = self.round + 1; report_rounds = report_rounds } }
     {
-        drop((self.fleet, self.holders, self.served, self.books));
-        Core {
+        let core = Core {
             alloc: self.alloc,
             fleet,
             holders,
@@ -120,6 +123,13 @@ impl Core {
             books: Books::open(self.alloc),
             begun: self.round + 1,
             report_rounds,
-        }
+        };
+        let forgotten = Forgotten {
+            fleet: self.fleet,
+            holders: self.holders,
+            served: self.served,
+            books: self.books,
+        };
+        Renewed { core, forgotten }
     }
 }

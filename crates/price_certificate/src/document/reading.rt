@@ -5,12 +5,14 @@ ghost use Rattle.price_certificate.specs.Problem.{Problem};
 ghost use Rattle.json_values.specs.Texts.{ReadsAs, IsJson};
 ghost use Rattle.json_values.specs.Spelling.{number_in, member_in};
 ghost use Rattle.price_certificate.specs.Document.{draining_in, version_number, SpellsParts, SpellsPlan, SpellsInstance};
+ghost use Rattle.price_certificate.specs.Rows.{rows_of};
 ghost use Rattle.price_certificate.specs.declared.version.Version.{Version};
 
 use super::reach::rows_in;
 use crate::document::DocumentError;
 use crate::instance::Instance;
 use crate::plan::Plan;
+use crate::rows::Rows;
 use crate::shape::InstanceError;
 use crate::version::Version;
 use json_values::{FromJson, member, parse};
@@ -24,7 +26,7 @@ struct Parts {
     version: Version,
     limits: List<u32>,
     draining: List<u32>,
-    rows: List<List<u32>>,
+    rows: Rows,
     before: List<(u32, u32)>,
 }
 
@@ -60,7 +62,7 @@ pub(crate) fn instance_in(alloc: Global, value: &Value) -> Result<Option<Instanc
 }
 
 fn parts_in(alloc: Global, value: &Value) -> Result<Option<Parts>, AllocError>
-    ensures some { IfOk result (λ o. IfSome o (λ s. SpellsParts (view value.now) s.version s.limits s.draining s.rows s.before)) }
+    ensures some { IfOk result (λ o. IfSome o (λ s. SpellsParts (view value.now) s.version s.limits s.draining (rows_of s.rows) s.before)) }
     ensures none { IfOk result
         (λ o. IfNone o ((version : Version) (limits draining : List ℕ) (rows : List (List ℕ)) (before : List (ℕ × ℕ))
         → ¬ SpellsParts (view value.now) version limits draining rows before)) }

@@ -1,7 +1,7 @@
 use Rattle.std.proofs.Common.{ℕ, List, arith, ◌∙◌, sym, subst}
 use Rattle.price_certificate.specs.Certificate.{IsCertified}
 use Rattle.price_certificate.proofs.Optimal.{optimal}
-use Rattle.price_certificate.proofs.Rows.{allowed_bin}
+use Rattle.price_certificate.proofs.InstanceRows.{allowed_bin}
 use Rattle.assign_engine.specs.Seats.{pairs_of}
 use Rattle.assign_engine.proofs.Certify.{certified}
 use Rattle.assign_engine.proofs.Ordered.{ordered}

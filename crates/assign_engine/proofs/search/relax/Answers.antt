@@ -1,7 +1,7 @@
 use Rattle.std.proofs.Common.{◌≡◌, ℕ, List, get_or, arith, sym, ap, ◌∙◌}
 use Rattle.std.proofs.lemmas.List.{get_or_read}
 use Rattle.price_certificate.specs.Problem.{row_of}
-use Rattle.price_certificate.proofs.Rows.{allowed_bin}
+use Rattle.price_certificate.proofs.InstanceRows.{allowed_bin}
 use Rattle.assign_engine.proofs.Relaxing.{allowed_in, relaxed_same, relaxed_lower}
 use Rattle.assign_engine.proofs.search.relax.Goals as goal
 use Rattle.assign_engine.proofs.search.relax.Goals.{then-distance+in_ok-note, else-distance}

@@ -1,6 +1,6 @@
 use Rattle.std.proofs.Common.{ℕ, List, Contains, inl, inr, arith, sym, ◌∙◌, subst}
 use Rattle.std.proofs.lemmas.List.Elements.{Contains-push_cases}
-use Rattle.price_certificate.proofs.Rows.{allowed_bin}
+use Rattle.price_certificate.proofs.InstanceRows.{allowed_bin}
 use Rattle.assign_engine.specs.Exact.{HasTables, IsOnWay}
 use Rattle.assign_engine.specs.declared.walks.Walks.{Walks}
 use Rattle.assign_engine.proofs.Exact.{entered_way, entered_on, entered_bins, entered_marks}

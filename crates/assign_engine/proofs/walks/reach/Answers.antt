@@ -1,5 +1,5 @@
 use Rattle.std.proofs.Common.{arith}
-use Rattle.price_certificate.proofs.Rows.{allowed_bin}
+use Rattle.price_certificate.proofs.InstanceRows.{allowed_bin}
 use Rattle.assign_engine.proofs.Relaxing.{allowed_in}
 use Rattle.assign_engine.proofs.walks.reach.Goals as goal
 

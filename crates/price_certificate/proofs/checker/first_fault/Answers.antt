@@ -28,13 +28,13 @@ pub returns-in-Some-3 : goal.returns-in-Some-3
 unfolding fault_of
 returns-in-Some-3 c = sym (not_here _ _ (sym c.in_default.ensures) ∙ not_here _ _ (sym c.in_default-find_bad_number.ensures) ∙ not_here _ _ (sym c.in_ok-fault.ensures ∙ c.in_default-2.is) ∙ not_here _ _ (sym c.in_default-find_out_of_reach.ensures) ∙ found_here _ _ _ (sym c.in_ok-fault-2.ensures ∙ c.in-Some-3.is))
 
-pub returns-in-Some-find_price_too_low : goal.returns-in-Some-find_price_too_low
+pub returns-in-Some-4 : goal.returns-in-Some-4
 unfolding fault_of
-returns-in-Some-find_price_too_low c = sym (not_here _ _ (sym c.in_default.ensures) ∙ not_here _ _ (sym c.in_default-find_bad_number.ensures) ∙ not_here _ _ (sym c.in_ok-fault.ensures ∙ c.in_default-2.is) ∙ not_here _ _ (sym c.in_default-find_out_of_reach.ensures) ∙ not_here _ _ (sym c.in_ok-fault-2.ensures ∙ c.in_default-3.is) ∙ found_here _ _ _ (sym c.in-Some-find_price_too_low.ensures))
+returns-in-Some-4 c = sym (not_here _ _ (sym c.in_default.ensures) ∙ not_here _ _ (sym c.in_default-find_bad_number.ensures) ∙ not_here _ _ (sym c.in_ok-fault.ensures ∙ c.in_default-2.is) ∙ not_here _ _ (sym c.in_default-find_out_of_reach.ensures) ∙ not_here _ _ (sym c.in_ok-fault-2.ensures ∙ c.in_default-3.is) ∙ found_here _ _ _ (sym c.in_ok-fault-3.ensures ∙ c.in-Some-4.is))
 
 pub find_different_sums-requires-clause-pairs : goal.find_different_sums-requires-clause-pairs
 find_different_sums-requires-clause-pairs c = covered-most c.args.instance.now c.args.pairs.now (feasible_fine c.args.instance.now c.args.pairs.now c.is_problem.ensures (sym c.in_ok-fault.ensures ∙ c.in_default-2.is) (sym c.in_default-find_out_of_reach.ensures) (sym c.in_ok-fault-2.ensures ∙ c.in_default-3.is))
 
 pub returns : goal.returns
 unfolding fault_of
-returns c = c.find_different_sums.ensures ∙ sym (not_here _ _ (sym c.in_default.ensures) ∙ not_here _ _ (sym c.in_default-find_bad_number.ensures) ∙ not_here _ _ (sym c.in_ok-fault.ensures ∙ c.in_default-2.is) ∙ not_here _ _ (sym c.in_default-find_out_of_reach.ensures) ∙ not_here _ _ (sym c.in_ok-fault-2.ensures ∙ c.in_default-3.is) ∙ not_here _ _ (sym c.in_default-find_price_too_low.ensures))
+returns c = c.find_different_sums.ensures ∙ sym (not_here _ _ (sym c.in_default.ensures) ∙ not_here _ _ (sym c.in_default-find_bad_number.ensures) ∙ not_here _ _ (sym c.in_ok-fault.ensures ∙ c.in_default-2.is) ∙ not_here _ _ (sym c.in_default-find_out_of_reach.ensures) ∙ not_here _ _ (sym c.in_ok-fault-2.ensures ∙ c.in_default-3.is) ∙ not_here _ _ (sym c.in_ok-fault-3.ensures ∙ c.in_default-4.is))

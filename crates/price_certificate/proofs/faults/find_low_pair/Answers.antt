@@ -1,7 +1,7 @@
 use Rattle.std.proofs.Common.{◌<◌, ℕ, List, get_or, length, ap, arith}
 use Rattle.std.proofs.lemmas.List.Elements.{All-get_or}
 use Rattle.price_certificate.specs.Problem.{bins_of, row_of}
-use Rattle.price_certificate.proofs.Rows.{is_row}
+use Rattle.price_certificate.proofs.InstanceRows.{is_row}
 use Rattle.price_certificate.proofs.Finding.{low_as}
 use Rattle.price_certificate.proofs.faults.find_low_pair.Goals as goal
 

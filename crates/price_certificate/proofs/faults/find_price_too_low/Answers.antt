@@ -1,9 +1,13 @@
-use Rattle.std.proofs.Common.{sym, ◌∙◌, arith}
-use Rattle.price_certificate.specs.Problem.{items_of}
-use Rattle.price_certificate.specs.Faults.{row_fault, price_fault}
-use Rattle.price_certificate.proofs.First.{first_found}
+use Rattle.std.proofs.Common.{List, ℕ, sym, subst}
+use Rattle.price_certificate.specs.Faults.{AreEnough, IsEnoughForEach}
+use Rattle.price_certificate.proofs.RowLemmas.{enough_each}
 use Rattle.price_certificate.proofs.faults.find_price_too_low.Goals as goal
 
-pub returns-in-Some : goal.returns-in-Some
-unfolding price_fault
-returns-in-Some c = sym (first_found (row_fault c.args.instance.now c.args.item_prices.now c.args.bin_prices.now) (items_of c.args.instance.now) c.loop-item.item c.in-Some.fault (omega arith) c.loop-item.invariant (sym c.find_low_pair.ensures ∙ c.in-Some.is))
+pub find_low_item-requires-clause-enough : goal.find_low_item-requires-clause-enough
+find_low_item-requires-clause-enough c =
+    let instance = c.args.instance.now in
+    let vs = c.args.bin_prices.now in
+    let rows = c.rows-rows.result.now in
+    let enough : AreEnough instance vs c.in_ok-enough.enough.items rows.lists = subst (AreEnough instance vs c.in_ok-enough.enough.items) c.as_slice.ensures c.in_ok-enough.ensures in
+    let each : IsEnoughForEach instance vs c.in_ok-enough.enough.items rows.list_of = enough_each instance vs c.in_ok-enough.enough.items rows.lists rows.list_of enough (sym c.rows-rows.ensures) in
+    subst (λ (prices : List ℕ). IsEnoughForEach instance vs prices c.as_slice-2.result.now) (sym c.as_slice-3.ensures.value) (subst (IsEnoughForEach instance vs c.in_ok-enough.enough.items) (sym c.as_slice-2.ensures) each)

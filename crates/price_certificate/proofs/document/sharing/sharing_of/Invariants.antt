@@ -1,5 +1,5 @@
 use Rattle.std.proofs.Common.{◌≡◌, ◌≤◌, length}
-use Rattle.price_certificate.specs.Reach.{Sharing, sharing_below}
+use Rattle.price_certificate.specs.Reach.{sharing_below}
 use Rattle.price_certificate.proofs.document.sharing.sharing_of.Given as goal
 
 abbrev pub invariant-loop-item : goal.invariant-loop-item
