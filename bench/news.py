@@ -1,5 +1,5 @@
 #!/usr/bin/env python3
-"""What news costs the service, and what is no news: news.py [PROGRAM ..]     (ALLOCD_PROGRAM, or dist/allocd)
+"""What news costs the service, and what is no news: news.py [changes] [PROGRAM ..]     (ALLOCD_PROGRAM, or dist/allocd; `changes`: changed targets alone)
 
 A fleet of 16,384 targets of 16 jobs, from sources over HTTP, and of 256 collectors with the same three rules, or with eight kinds of them by which a collector
 reaches some of eight zones. A column for each program, one after the other on one machine: what a changed target costs, a refresh of one source of all targets, a
@@ -24,8 +24,10 @@ import allocd_service
 from allocd_service import Service, comes
 
 JOBS, TARGETS, COLLECTORS = 16, 16_384, 256
-SECONDS, ASKED, ROUNDS = 15, 4_000, 3
+SECONDS, ASKED, ROUNDS = 10, 4_000, 3
 ZONES = 8
+IS_SHORT = sys.argv[1:2] == ["changes"]
+WORDS = sys.argv[2 if IS_SHORT else 1 :]
 RULES = [
     {"allow": False, "test": "equals", "label": "zone", "value": "none"},
     {"allow": True, "test": "equals", "label": "zone", "value": "other"},
@@ -211,6 +213,8 @@ def measured(top, program, reports):
         yield f"a changed target, {rules}: processor milliseconds", spent
         yield f"a changed target, {rules}: kilobytes of the journal", journal / 1000
         yield f"a changed target, {rules}: kilobytes of memory", memory
+    if IS_SHORT:
+        return
     yield "a refresh of a list that is the same: processor milliseconds", refreshed(f"{top}/same", False)
     yield "a refresh of a list with another target: processor milliseconds", refreshed(f"{top}/moving", True)
     yield "a list that is asked for: bytes kept", asked_for(f"{top}/asked")
@@ -221,7 +225,7 @@ def measured(top, program, reports):
 
 
 def main():
-    programs = [os.path.abspath(it) for it in sys.argv[1:]] or [allocd_service.PROGRAM]
+    programs = [os.path.abspath(it) for it in WORDS] or [allocd_service.PROGRAM]
     columns = []
     with tempfile.TemporaryDirectory() as top:
         reports = f"{top}/reports"
