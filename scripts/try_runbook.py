@@ -12,7 +12,7 @@ import sys
 import told_rows
 from allocd_service import ROOT
 
-CRATES = ("service_tasks", "serve_command", "serve_configuration", "journal_files", "log_queue", "daemon", "etcd_archive", "standby")
+CRATES = ("service_tasks", "serve_command", "serve_configuration", "journal_files", "log_queue", "daemon", "etcd_archive", "standby", "command_faults")
 LEVELS = {"log_info": "info", "log_warning": "warn", "log_error": "error", "info!": "info", "warn!": "warn", "error!": "error"}
 CALL = re.compile(r"(?<![\w!])(log_info|log_warning|log_error|info!|warn!|error!)(_of)?\(")
 OF_COLLECTOR = re.compile(r"(?<![\w.])log_of_(?:name|number)\(&self\.rt, Level::(\w+),")
@@ -21,6 +21,8 @@ OF_ANSWER = re.compile(r'(?<!\w)log!\([^;]*; level,[^;]*; "([^"]*[^"{}][^"]* [^"
 LITERAL = re.compile(r'"((?:[^"\\]|\\.)*)"')
 # What stands in place of a text that changes.
 HOLE = ".."
+# What names the command that ended, which here is the service.
+ENDED = ("the .. ended: ..", "the service ended: ..")
 # Lines of the configuration's members, which docs/understand/FORMATS.md has.
 OF_FORMATS = ("{path}: no JSON", "{path}: scrape_configs[", "{path}: {way}: not followed")
 
@@ -62,7 +64,7 @@ def log_lines():
             literals = LITERAL.findall(behind(text, call.end() - 1))
             if not literals or literals[-1] in ("{line}", "{line}: {why}"):
                 continue
-            line = pattern_of(literals[-1]) + (f": {HOLE}" if call.group(2) else "")
+            line = pattern_of(literals[-1]).replace(*ENDED) + (f": {HOLE}" if call.group(2) else "")
             found[LEVELS[call.group(1)], line] = name
         for level, line in lines_of_collectors(text):
             found[level, line] = name
