@@ -1,5 +1,6 @@
 //! Final targets, and how a label set is finished to one.
-ghost use Rattle.std.specs.Prelude.{◌≡◌, ◌++◌, IfOk, IsTrue, OnOk};
+ghost use Rattle.std.specs.Prelude.{◌≡◌, ◌++◌, IfOk, IsTrue, IsUtf8, OnOk};
+ghost use Rattle.json.specs.Lex.{tokens};
 ghost use Rattle.serde_json.specs.View.{view};
 ghost use Rattle.json_values.specs.Texts.{ReadsTokens, tokens_of};
 ghost use Rattle.label_sets.specs.Finish.{finished};
@@ -58,9 +59,13 @@ impl Target {
         &self.labels
     }
 
-    /// The group's text, which is the target's identity within a job.
+    /// The group's text, which is the target's identity within a job, and which is read as the group again.
     pub fn text(&self) -> &str
-        ensures { result.now ≡ target_text self.now }
+        ensures text { result.now ≡ target_text self.now }
+        ensures utf8 { IsUtf8 (target_text self.now) }
+        ensures tokens { tokens (target_text self.now) ≡ tokens_of (target_data self.now) }
+        ensures reads { ReadsTokens (target_data self.now) }
+        ensures is_final { IsFinal self.now }
     {
         self.text.as_str()
     }
