@@ -14,10 +14,17 @@ use serde_json::Value;
 use std::alloc::{AllocError, Global};
 use std::convert::AsStr;
 use std::marker::Model;
+use std::sync::Arc;
 
-/// A final target. Contracts see its address and the labels of its group's text.
+/// A final target, of which copies share what it is made of. Contracts see its address and the labels of its group's text.
 #[derive(Debug, Drop)]
 pub struct Target {
+    parts: Arc<Parts>,
+}
+
+/// What a target is made of.
+#[derive(Debug, Drop)]
+struct Parts {
     labels: Labels,
     address: Text,
     text: Text,
@@ -25,13 +32,15 @@ pub struct Target {
 
 impl Model for Target {
     ghost use Rattle.std.specs.Prelude.{◌≡◌};
-    ghost use Rattle.label_sets.specs.Target.{FinalTarget, IsFinal, target_text};
+    ghost use Rattle.std.specs.Arc.{arc_value};
+    ghost use Rattle.label_sets.specs.Parts.{AreFinal, target_of};
+    ghost use Rattle.label_sets.specs.Target.{FinalTarget};
 
     ghost Value = { FinalTarget };
 
-    ghost view = { λ t. record { address = t.address; labels = t.labels } };
+    ghost view = { λ t. target_of (arc_value t.parts) };
 
-    ghost invariant = { λ t. (t.text ≡ target_text (record { address = t.address; labels = t.labels })) × IsFinal (record { address = t.address; labels = t.labels }) };
+    ghost invariant = { λ t. AreFinal (arc_value t.parts) };
 }
 
 impl Target {
@@ -46,9 +55,14 @@ impl Target {
     {
         let text = text_of_target(alloc, labels.entries(), address.as_str())?;
         Ok(Target {
-            labels,
-            address,
-            text,
+            parts: Arc::new(
+                alloc,
+                Parts {
+                    labels,
+                    address,
+                    text,
+                },
+            )?,
         })
     }
 
@@ -56,7 +70,7 @@ impl Target {
     pub fn labels(&self) -> &Labels
         ensures { result.now ≡ self.now.labels }
     {
-        &self.labels
+        &self.parts.labels
     }
 
     /// The group's text, which is the target's identity within a job, and which is read as the group again.
@@ -67,7 +81,7 @@ impl Target {
         ensures reads { ReadsTokens (target_data self.now) }
         ensures is_final { IsFinal self.now }
     {
-        self.text.as_str()
+        self.parts.text.as_str()
     }
 
     /// The group as a JSON value.
@@ -75,7 +89,7 @@ impl Target {
         ensures form { IfOk result (λ v. view v ≡ target_data self.now) }
         ensures is_final { IsFinal self.now }
     {
-        value_of_target(alloc, self.labels.entries(), self.address.as_str())
+        value_of_target(alloc, self.parts.labels.entries(), self.parts.address.as_str())
     }
 
     /// Writes the group's text.
@@ -85,7 +99,7 @@ impl Target {
         ensures reads { ReadsTokens (target_data self.now) }
         ensures is_final { IsFinal self.now }
     {
-        put_target(out, self.labels.entries(), self.address.as_str())
+        put_target(out, self.parts.labels.entries(), self.parts.address.as_str())
     }
 
     /// The text of a label of the group or of `__address__`, and else the empty text.
@@ -93,27 +107,22 @@ impl Target {
         ensures { result.now ≡ target_label self.now (N.text name) }
     {
         if name.as_str() == "__address__" {
-            self.address.as_str()
+            self.parts.address.as_str()
         } else {
-            self.labels.get(name)
+            self.parts.labels.get(name)
         }
     }
 }
 
 impl Plain for Target {
     fn copy(&self) -> Result<Target, AllocError> {
-        let labels = self.labels.copy()?;
-        let address = self.address.copy()?;
-        let text = self.text.copy()?;
         Ok(Target {
-            labels,
-            address,
-            text,
+            parts: Arc::try_clone(&self.parts)?,
         })
     }
 
     fn same(&self, other: &Target) -> bool {
-        self.text.same(&other.text)
+        self.parts.text.same(&other.parts.text)
     }
 }
 
