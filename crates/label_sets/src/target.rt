@@ -89,7 +89,11 @@ impl Target {
         ensures form { IfOk result (λ v. view v ≡ target_data self.now) }
         ensures is_final { IsFinal self.now }
     {
-        value_of_target(alloc, self.parts.labels.entries(), self.parts.address.as_str())
+        value_of_target(
+            alloc,
+            self.parts.labels.entries(),
+            self.parts.address.as_str(),
+        )
     }
 
     /// Writes the group's text.
@@ -99,7 +103,11 @@ impl Target {
         ensures reads { ReadsTokens (target_data self.now) }
         ensures is_final { IsFinal self.now }
     {
-        put_target(out, self.parts.labels.entries(), self.parts.address.as_str())
+        put_target(
+            out,
+            self.parts.labels.entries(),
+            self.parts.address.as_str(),
+        )
     }
 
     /// The text of a label of the group or of `__address__`, and else the empty text.
