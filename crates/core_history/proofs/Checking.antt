@@ -1,5 +1,5 @@
 -- What the checks of a history come to.
-use Rattle.std.proofs.Common.{◌≡◌, ◌==◌, ◌<◌, ◌≤◌, ◌+◌, ◌-◌, ℕ, zero, suc, Bool, true, false, not, cond, ◌&&◌, List, [], ◌∷◌, map, length, get_or, All, AllPairs, Option, Some, None, option_map, option_and_then, Result, Ok, Err, refl, sym, ap, inl, inr, ◌∙◌, ne_eqb, arith}
+use Rattle.std.proofs.Common.{◌≡◌, ◌==◌, ◌<◌, ◌≤◌, ◌+◌, ◌-◌, ℕ, zero, suc, Bool, true, false, not, cond, List, [], ◌∷◌, map, length, get_or, All, AllPairs, Option, Some, None, option_map, option_and_then, Result, Ok, Err, refl, sym, ap, inl, inr, ◌∙◌, ne_eqb, arith}
 use Rattle.std.specs.Prelude.{nat_le}
 use Rattle.std.specs.List.{list_all}
 use Rattle.std.proofs.lemmas.Bool.{and_from, and_parts, cases_lt, eqb-true, le-leb, leb-true}
@@ -13,7 +13,7 @@ use Rattle.fleet.specs.Parts.{fleet_of, parts_fault}
 use Rattle.fleet.specs.declared.error.PartsError.{PartsError}
 use Rattle.served_lists.specs.Served.{slot_of, tabulated}
 use Rattle.served_lists.proofs.SlotLemmas.{is_tabulated, length-tabulated, slot_past}
-use Rattle.allocation_core.specs.State.{State, current_pairs, restored}
+use Rattle.allocation_core.specs.State.{State}
 use Rattle.serde_json.specs.Data.{Data}
 use Rattle.json_values.specs.Spelling.{number_in, pair_in, list_in}
 use Rattle.fleet.specs.declared.fleet_parts.FleetParts.{FleetParts}

@@ -10,9 +10,8 @@ use Rattle.price_certificate.specs.Document.{shared_document_data}
 use Rattle.price_certificate.proofs.DocumentForm.{has_float-shared_document_data, levels-shared_document_data}
 use Rattle.fleet.specs.Fleet.{FleetState}
 use Rattle.fleet.specs.declared.collector.Collector.{Collector}
-use Rattle.fleet.specs.declared.job.JobSpec.{JobSpec}
 use Rattle.fleet.specs.declared.known_target.KnownTarget.{KnownTarget}
-use Rattle.fleet_events.proofs.Forms.{target_no_float, reach_no_float, limits_no_float, target_levels, reach_levels, limits_levels}
+use Rattle.fleet_events.proofs.Forms.{reach_no_float, limits_no_float, reach_levels, limits_levels}
 use Rattle.allocation_core.specs.State.{State, current_pairs}
 use Rattle.core_history.specs.Parts.{job_data, known_data, collector_data, fleet_data}
 use Rattle.core_history.specs.History.{history_by, history_data, slots_said}
@@ -20,7 +19,7 @@ use Rattle.core_history.specs.History.{history_by, history_data, slots_said}
 -- ---- no float
 
 known_no_float : (known : KnownTarget) → has_float (known_data known) ≡ false
-known_no_float known = or_from _ _ (target_no_float known.target) refl
+known_no_float known = refl
 
 collector_no_float : (c : Collector) → has_float (collector_data c) ≡ false
 collector_no_float c = or_from _ _ (limits_no_float c.limits) (or_from _ _ (reach_no_float c.reach) refl)
@@ -43,8 +42,8 @@ history_no_float m = rest_no_float m (slots_said m.served.slots)
 
 -- ---- few levels
 
-known_levels : (known : KnownTarget) → depth (known_data known) ≤ 3
-known_levels known = omega (arith, target_levels known.target)
+known_levels : (known : KnownTarget) → depth (known_data known) ≤ 1
+known_levels known = omega arith
 
 collector_levels : (c : Collector) → depth (collector_data c) ≤ 3
 collector_levels c = omega (arith, limits_levels c.limits, reach_levels c.reach)
@@ -57,7 +56,7 @@ sources_levels sources = omega (arith, levels (list_data number_data) 1 numbers_
 
 fleet_levels : (fleet : FleetState) → depth (fleet_data fleet) ≤ 5
 fleet_levels fleet =
-    omega (arith, levels collector_data 3 collector_levels fleet.collectors, levels job_data 1 (λ job. omega arith) fleet.jobs, levels (list_data (list_data number_data)) 2 sources_levels fleet.listed, levels known_data 3 known_levels fleet.known)
+    omega (arith, levels collector_data 3 collector_levels fleet.collectors, levels job_data 1 (λ job. omega arith) fleet.jobs, levels (list_data (list_data number_data)) 2 sources_levels fleet.listed, levels known_data 1 known_levels fleet.known)
 
 rest_levels : (m : State) (slots : Option (List ℕ)) → depth (history_by (list_data pair_data (current_pairs m)) (shared_document_data m.problem m.plan.pairs m.plan.item_prices m.plan.bin_prices) (fleet_data m.fleet) (number_data m.round) slots) ≤ max_depth
 rest_levels m None = omega (arith, levels pair_data 1 (λ q. omega arith) (current_pairs m), levels-shared_document_data m.problem m.plan.pairs m.plan.item_prices m.plan.bin_prices, fleet_levels m.fleet)

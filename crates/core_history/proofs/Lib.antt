@@ -1,3 +1,4 @@
 mod Forms
+mod KnownTargets
 pub mod Checking
 mod RenewedWhole

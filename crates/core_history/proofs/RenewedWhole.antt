@@ -1,6 +1,6 @@
 -- A renewed state's allocation names known targets, in ascending order, and live collectors.
-use Rattle.std.proofs.Common.{◌≡◌, ◌<◌, ◌+◌, ◌==◌, ◌&&◌, ◌||◌, ℕ, Bool, true, List, [], ◌∷◌, map, length, get_or, nat_lt, All, AllPairs, Option, Result, Ok, refl, sym, ap, ap₂, subst, ◌∙◌, arith}
-use Rattle.std.specs.List.{list_all, list_any}
+use Rattle.std.proofs.Common.{◌≡◌, ◌<◌, ◌+◌, ◌==◌, ◌&&◌, ◌||◌, ℕ, Bool, true, List, [], ◌∷◌, map, length, get_or, nat_lt, All, AllPairs, Result, Ok, refl, sym, ap, ◌∙◌, arith}
+use Rattle.std.specs.List.{list_any}
 use Rattle.std.proofs.lemmas.Bool.{and_from, lt-ltb}
 use Rattle.lists.proofs.RisingLemmas.{all_from}
 use Rattle.handover.specs.Handover.{last_of, only}
@@ -14,10 +14,10 @@ use Rattle.fleet_renewal.proofs.Gets.{kept_all}
 use Rattle.fleet_renewal.proofs.Moving.{known_count, survivor_within}
 use Rattle.allocation_core.specs.Renewed.{renewed}
 use Rattle.allocation_core.specs.State.{State, current_pairs, restored}
-use Rattle.core_history.specs.History.{ReadsBack, is_allocation, slots_of, slots_said}
+use Rattle.core_history.specs.History.{is_allocation, slots_of, slots_said}
 use Rattle.core_history.specs.Laws.{RenewedReadBack}
 use Rattle.core_history.specs.declared.error.HistoryError.{HistoryError}
-use Rattle.core_history.proofs.Checking.{pairs_rise, targets_of, whole_said}
+use Rattle.core_history.proofs.Checking.{pairs_rise, whole_said}
 use Rattle.fleet_renewal.proofs.SlotLemmas.{renewed_slots_fit}
 
 last_only : (pairs : List (ℕ × ℕ)) → last_of (only pairs) ≡ pairs

@@ -1,9 +1,10 @@
 -- The parts of a fleet as JSON values: objects, in which other members don't matter.
-use Rattle.std.specs.Prelude.{ℕ, List, Bool, Option, option_map, option_and_then, codes}
-use Rattle.serde_json.specs.Data.{Data, boolean, string, object, no_members, member}
-use Rattle.serde_json.specs.Find.{get, as_bool, as_number, as_str, as_u64}
+use Rattle.std.specs.Prelude.{ℕ, List, Bool, Option, Some, None, option_map, option_and_then, codes}
+use Rattle.serde_json.specs.Data.{Data, boolean, string, array, object, Items, no_items, item, no_members, member}
+use Rattle.serde_json.specs.Find.{get, as_array, as_bool, as_number, as_str, as_u64}
 use Rattle.json_values.specs.Spelling.{number_in, list_in, member_in, number_data, list_data}
-use Rattle.label_sets.specs.Target.{FinalTarget, target_data}
+use Rattle.json_values.specs.Texts.{json_of}
+use Rattle.label_sets.specs.Target.{FinalTarget, target_text}
 use Rattle.reach_rules.specs.Name.{name_in}
 use Rattle.reach_rules.specs.OwnLimits.{LimitList, limits_in, limits_data}
 use Rattle.reach_rules.specs.Spelling.{reach_in, reach_data}
@@ -32,16 +33,36 @@ job_in d =
 abbrev pub job_data : JobSpec → Data
 job_data job = object (member (codes "name") (string job.name) (member (codes "sources") (number_data job.sources) (member (codes "target_limit") (number_data job.target_limit) no_members)))
 
--- ---- a target, by the number of its job and its group
+-- ---- a target, by the number of its job and the text of its group; of earlier versions an object with the number and the group
 
 abbrev pub known_of : ℕ → FinalTarget → KnownTarget
 known_of job target = record { job = job; target = target }
 
+-- the target that a text says
+unfoldable pub target_said : List ℕ → Option FinalTarget
+target_said text = option_and_then target_in (json_of text)
+
+abbrev pub known_pair : Data → Data → Option KnownTarget
+known_pair job text = option_and_then (λ j. option_map (known_of j) (option_and_then target_said (as_str text))) (count_in job)
+
+abbrev pub known_by_text : Items → Option KnownTarget
+known_by_text no_items = None
+known_by_text (item job no_items) = None
+known_by_text (item job (item text no_items)) = known_pair job text
+known_by_text (item job (item text (item other more))) = None
+
+abbrev pub known_by_group : Data → Option KnownTarget
+known_by_group d = option_and_then (λ job. option_map (known_of job) (member_in target_in (codes "target") d)) (member_in count_in (codes "job") d)
+
+abbrev pub known_by : Option Items → Data → Option KnownTarget
+known_by (Some pair) d = known_by_text pair
+known_by None d = known_by_group d
+
 unfoldable pub known_in : Data → Option KnownTarget
-known_in d = option_and_then (λ job. option_map (known_of job) (member_in target_in (codes "target") d)) (member_in count_in (codes "job") d)
+known_in d = known_by (as_array d) d
 
 abbrev pub known_data : KnownTarget → Data
-known_data known = object (member (codes "job") (number_data known.job) (member (codes "target") (target_data known.target) no_members))
+known_data known = array (item (number_data known.job) (item (string (target_text known.target)) no_items))
 
 -- ---- a collector
 

@@ -65,6 +65,7 @@ where
             {
                 let served = self.run_others(listener, scheduler, schedule, refresher, watch);
                 is_last.store(true, Ordering::SeqCst);
+                self.shared.wake_keeper();
                 served
             },
         );

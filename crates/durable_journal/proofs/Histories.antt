@@ -18,7 +18,7 @@ use Rattle.fleet.specs.Fleet.{FleetState}
 use Rattle.fleet.specs.declared.collector.Collector.{Collector}
 use Rattle.fleet.specs.declared.job.JobSpec.{JobSpec}
 use Rattle.fleet.specs.declared.known_target.KnownTarget.{KnownTarget}
-use Rattle.fleet_events.proofs.Forms.{target_levels, reach_levels, limits_levels}
+use Rattle.fleet_events.proofs.Forms.{reach_levels, limits_levels}
 use Rattle.allocation_core.specs.Renewed.{renewed}
 use Rattle.allocation_core.specs.State.{IsCount, State, counted, current_pairs, restored, with_rounds}
 use Rattle.core_history.specs.Parts.{job_data, known_data, collector_data, fleet_data}
@@ -38,8 +38,8 @@ use Rattle.durable_journal.proofs.Opening.{opened_data, opened_parts, shallow}
 
 -- ---- how deep it is
 
-known_levels : (known : KnownTarget) → depth (known_data known) ≤ 3
-known_levels known = omega (arith, target_levels known.target)
+known_levels : (known : KnownTarget) → depth (known_data known) ≤ 1
+known_levels known = omega arith
 
 collector_levels : (c : Collector) → depth (collector_data c) ≤ 3
 collector_levels c = omega (arith, limits_levels c.limits, reach_levels c.reach)
@@ -52,7 +52,7 @@ sources_levels sources = omega (arith, levels (list_data number_data) 1 numbers_
 
 fleet_levels : (fleet : FleetState) → depth (fleet_data fleet) ≤ 5
 fleet_levels fleet =
-    omega (arith, levels collector_data 3 collector_levels fleet.collectors, levels job_data 1 (λ job. omega arith) fleet.jobs, levels (list_data (list_data number_data)) 2 sources_levels fleet.listed, levels known_data 3 known_levels fleet.known)
+    omega (arith, levels collector_data 3 collector_levels fleet.collectors, levels job_data 1 (λ job. omega arith) fleet.jobs, levels (list_data (list_data number_data)) 2 sources_levels fleet.listed, levels known_data 1 known_levels fleet.known)
 
 rest_levels : (m : State) (slots : Option (List ℕ)) → depth (history_by (list_data pair_data (current_pairs m)) (shared_document_data m.problem m.plan.pairs m.plan.item_prices m.plan.bin_prices) (fleet_data m.fleet) (number_data m.round) slots) ≤ 6
 rest_levels m None = omega (arith, levels pair_data 1 (λ q. omega arith) (current_pairs m), levels-shared_document_data m.problem m.plan.pairs m.plan.item_prices m.plan.bin_prices, fleet_levels m.fleet)

@@ -179,6 +179,12 @@ impl<N: JournalName> Kept<N> {
         self.progress.lock(rt).is_broken
     }
 
+    /// Ends `wait_for_wish`, now and later: nobody is left who could wait for an entry.
+    pub fn wake(&self, rt: &impl Wait) {
+        self.progress.lock(rt).wanted = u64::MAX;
+        self.changed.notify_all();
+    }
+
     /// Waits so long, or until somebody waits for an entry that is not kept.
     pub fn wait_for_wish<R: Wait + Clock>(&self, rt: &R, time: Duration) {
         let (_progress, _) = self.changed.wait_timeout_while(

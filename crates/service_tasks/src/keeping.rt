@@ -39,6 +39,13 @@ impl<R: Wait + Clock + Eprint + Copy, L: Ledger, B: Ledger, N: JournalName> Shar
         }
     }
 
+    /// All others have ended, so the thread that keeps the journal need not look whether they have.
+    pub fn wake_keeper(&self) {
+        if let Some(kept) = &self.kept {
+            kept.wake(&self.rt);
+        }
+    }
+
     /// Writes what is new in the journal, until all others have ended or the device fails. What finds no memory is tried again. A device in which nothing would be
     /// found is noticed though nothing is new: what is told would be of a journal that nobody goes on with.
     fn keep_journal<F: Device>(

@@ -24,7 +24,7 @@ use std::sync::{Arc, Wait};
 use std::time::{Clock, Duration};
 
 /// How long it is waited at most for answers before it is looked whether the desk is to be closed.
-const LOOK_MILLIS: u64 = 50;
+const LOOK_MILLIS: u64 = 10;
 
 /// How long no source is asked where none can be.
 const PAUSE_MILLIS: u64 = 1_000;

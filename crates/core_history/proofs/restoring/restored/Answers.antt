@@ -1,4 +1,4 @@
-use Rattle.std.proofs.Common.{◌≡◌, ◌+◌, ◌<◌, ◌≤◌, ℕ, true, List, Result, Ok, All, AllPairs, length, sym, ap, arith, subst, ◌∙◌}
+use Rattle.std.proofs.Common.{◌≡◌, ◌<◌, ◌≤◌, ℕ, true, List, Result, Ok, All, AllPairs, length, sym, ap, arith, subst, ◌∙◌}
 use Rattle.fleet.specs.Parts.{fleet_of}
 use Rattle.allocation_core.specs.State.{State, restored}
 use Rattle.core_history.specs.History.{are_slots, is_allocation, slots_of, state_of}

@@ -1,13 +1,13 @@
-use Rattle.std.proofs.Common.{◌≡◌, ℕ, List, Option, Some, None, true, false, ap, sym, ◌∙◌, codes}
+use Rattle.std.proofs.Common.{◌≡◌, ℕ, List, Option, Some, ap, sym, ◌∙◌, codes}
 use Rattle.std.specs.Prelude.{◌==◌}
 use Rattle.std.specs.List.{list_all}
 use Rattle.serde_json.specs.Data.{Data, Members, member, no_members, object, put}
-use Rattle.serde_json.specs.View.{members_view, view}
+use Rattle.serde_json.specs.View.{view}
 use Rattle.json_values.specs.Spelling.{list_data, number_data, pair_data}
 use Rattle.price_certificate.specs.Document.{shared_document_data}
 use Rattle.fleet.specs.Fleet.{FleetState}
 use Rattle.core_history.specs.Parts.{fleet_data, parts_of}
-use Rattle.core_history.specs.History.{certificate_of, history_by, history_of, parts_in, slots_said}
+use Rattle.core_history.specs.History.{certificate_of, history_by, history_of, parts_in}
 use Rattle.allocation_core.specs.State.{current_pairs}
 use Rattle.core_history.proofs.Checking.{nothing_said, object_same, parts_back, served_object_same, served_parts_back, something_said}
 use Rattle.core_history.proofs.writing.put_parts.Goals as goal
