@@ -144,7 +144,7 @@ int main(int count, char **words) {
         refused += !is_good;
         lists += is_list;
         reports += !is_list;
-        booked += !is_list && it.answer.find("Booked") != std::string::npos;
+        booked += !is_list && it.answer.find("\"Booked\"") != std::string::npos;
         if (is_list && is_good && it.reports) add_reports(it, it.answer);
         it.questions.pop_front();
         it.is_open = false;

@@ -21,12 +21,23 @@ fill_room() {
     find "$1/crates" -name out -prune -o \( -name '*.rt.txt' -o -name '*.antt.txt' \) -exec sh -c 'mv "$1" "${1%.txt}"' sh {} \;
 }
 
+# Prints the path of a program, which is proved and built first where that is due: then it is run with these words, and must end.
+# usage: bench_program NAME SAMPLE WORD ..
+bench_program() {
+    local name=$1 sample=$2
+    local room=${XDG_CACHE_HOME:-$HOME/.cache}/allocd/bench
+    local folder=$room/crates/$name
+    shift 2
+    fill_room "$room"
+    is_made "$room" "$folder/out/$name" "$folder/out/$name.made" || build_program "$room" "$name" "$sample" "$@" || return 1
+    echo "$folder/out/$name"
+}
+
 # the first argument of what it prints says which program: see bench/programs/bench_programs/src/main.rt.txt
 bench_programs() {
-    local room=${XDG_CACHE_HOME:-$HOME/.cache}/allocd/bench
-    local folder=$room/crates/bench_programs
-    fill_room "$room"
-    is_made "$room" "$folder/out/bench_programs" "$folder/out/bench_programs.made" ||
-        build_program "$room" bench_programs "$folder/stdin" relabel 3 || return 1
-    echo "$folder/out/bench_programs"
+    bench_program bench_programs "$root/bench/programs/bench_programs/stdin" relabel 3
+}
+
+bare_server() {
+    bench_program bare_server /dev/null 0 0 0 0
 }

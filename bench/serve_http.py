@@ -2,8 +2,8 @@
 """Requests to `allocd serve` beside nginx, which gives the same bytes from a file: serve_http.py [SECONDS [TURNS [PART ..]]]
 
 Parts: rates (requests a second, latencies and processor time with 1, 32, 256 and 2,000 connections, by turns of so many seconds each, of which the middle one
-counts), strangers (a good client beside idle and slow ones), memory (64 of the largest pages at once). It needs Debian's packages wrk and nginx-light, and the
-program (ALLOCD_PROGRAM, or dist/allocd)."""
+counts), bare (the same of a program that has the event loops and hyper alone, beside nginx: bare_server.sh), strangers (a good client beside idle and slow ones),
+memory (64 of the largest pages at once). It needs Debian's packages wrk and nginx-light, and the program (ALLOCD_PROGRAM, or dist/allocd)."""
 
 import contextlib
 import http.client
@@ -126,12 +126,27 @@ def rates_of(name, ours, theirs, path, page, size, counts=CONNECTIONS):
             own.append(Turn([pid], port, path, count))
             other.append(Turn(peers, static, page, count))
         middle = lambda turns, what: statistics.median(getattr(it, what) for it in turns)
-        cells = [name, f"{count:,}", f"{size:,}"]
+        cells = [str(name), f"{count:,}", f"{size:,}"]
         for turns in (own, other):
             cells += [f"{middle(turns, 'rate'):,.0f}", f"{middle(turns, 'middle'):.2f}", f"{middle(turns, 'most'):.1f}", f"{middle(turns, 'each'):,.1f}"]
         cells += [f"{middle(own, 'rate') / middle(other, 'rate'):.2f}", f"{middle(own, 'each') / middle(other, 'each'):.2f}"]
         wrong = " ".join(sorted({f"{who}: {it.wrong}" for who, turns in (("allocd", own), ("nginx", other)) for it in turns if it.wrong}))
         print("| " + " | ".join(cells) + " |", wrong, flush=True)
+
+
+def bare(top):
+    """Rows of what answers each request alike, with as many bytes and fields as the jobs and a list have."""
+    print("| fields beside those of hyper | connections | bytes | loops and hyper, a second | median, ms | 99 %, ms | us each | nginx, a second | median, ms | 99 %, ms | us each | a second, ratio | us, ratio |")
+    print("|---|---|---|---|---|---|---|---|---|---|---|---|---|")
+    sizes = {"small": 10_467, "jobs": 39}
+    with nginx(f"{top}/nginx", {name: b"x" * size for name, size in sizes.items()}) as (static, peers):
+        for page, fields in (("jobs", 1), ("small", 1), ("small", 12)):
+            port = free_port()
+            it = subprocess.Popen([os.environ["BARE_SERVER"], str(port), str(sizes[page]), str(fields), "4"])
+            time.sleep(1)
+            rates_of(fields, (it.pid, port), (peers, static), "/", f"/{page}", sizes[page])
+            it.kill()
+            it.wait()
 
 
 def rates(top):
@@ -232,9 +247,9 @@ def memory(top):
                 client.close()
 
 
-PARTS = {part.__name__: part for part in (rates, strangers, memory)}
+PARTS = {part.__name__: part for part in (rates, bare, strangers, memory)}
 more_descriptors(4096)
 with tempfile.TemporaryDirectory() as folder:
     os.chmod(folder, 0o755)
-    for word in WORDS or PARTS:
+    for word in WORDS or ("rates", "strangers", "memory"):
         PARTS[word](folder)
