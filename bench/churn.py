@@ -56,6 +56,8 @@ class Sources:
                 pass
 
         self.server = http.server.ThreadingHTTPServer(("127.0.0.1", 0), Handler)
+        # (the service ends while a list is on its way)
+        self.server.handle_error = lambda *words: None
         self.port = self.server.server_address[1]
         threading.Thread(target=self.server.serve_forever, daemon=True).start()
 

@@ -18,6 +18,8 @@
 #include <unistd.h>
 #include <vector>
 
+#include "answers.h"
+
 using Clock = std::chrono::steady_clock;
 
 static double seconds_since(Clock::time_point began) { return std::chrono::duration<double>(Clock::now() - began).count(); }
@@ -63,12 +65,6 @@ static std::string field(const std::string &answer, const char *name) {
     if (at == std::string::npos) return "";
     at += strlen(name);
     return answer.substr(at, answer.find("\r\n", at) - at);
-}
-
-// An answer is whole once its head is there, and as many bytes behind that as the head says.
-static bool is_whole(const std::string &answer) {
-    size_t body = answer.find("\r\n\r\n"), length = answer.find("content-length: ");
-    return body != std::string::npos && length < body && answer.size() >= body + 4 + atol(answer.c_str() + length + 16);
 }
 
 static void add_reports(Collector &it, const std::string &list) {
@@ -128,8 +124,10 @@ int main(int count, char **words) {
             it.halves++;
         }
         if (it.questions.empty()) {
-            working -= it.halves == halves && it.due >= 0;
-            if (it.halves == halves) it.due = -1;
+            if (it.halves == halves && it.due >= 0) {
+                it.due = -1;
+                working--;
+            }
             return;
         }
         it.asked = now;

@@ -11,6 +11,8 @@
 #include <unistd.h>
 #include <vector>
 
+#include "answers.h"
+
 struct Client {
     int socket;
     int next, end;
@@ -29,12 +31,6 @@ static int connected(int port) {
     }
     setsockopt(made, IPPROTO_TCP, TCP_NODELAY, &yes, sizeof yes);
     return made;
-}
-
-// An answer is whole once its head is there, and as many bytes behind that as the head says.
-static bool is_whole(const std::string &answer) {
-    size_t body = answer.find("\r\n\r\n"), length = answer.find("content-length: ");
-    return body != std::string::npos && length < body && answer.size() >= body + 4 + atol(answer.c_str() + length + 16);
 }
 
 int main(int count, char **words) {
