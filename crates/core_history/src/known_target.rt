@@ -1,21 +1,18 @@
 //! Known targets as JSON values: the number of the job, and the text of the target's group. An object of the number and the group is read too,
 //! as earlier versions wrote it.
-ghost use Rattle.std.specs.Prelude.{◌≡◌, ◌++◌, IfOk, OnOk, Some, codes, option_map};
+ghost use Rattle.std.specs.Prelude.{◌≡◌, IfOk, Some, codes, string_bytes};
 ghost use Rattle.serde_json.specs.View.{items_view, view};
 ghost use Rattle.json_values.specs.Spelling.{member_in, number_data};
 ghost use Rattle.serde_json.specs.Data.{array, item, no_items, string};
-ghost use Rattle.json_values.specs.Texts.{ReadsTokens, tokens_of};
-ghost use Rattle.label_sets.specs.Target.{target_data, target_text};
+ghost use Rattle.label_sets.specs.Target.{target_text};
 ghost use Rattle.fleet_events.specs.Targets.{target_in};
 ghost use Rattle.core_history.specs.Parts.{known_by_group, known_by_text, known_data, known_in, known_pair, target_said};
 
 use crate::part::{Part, part_member};
 use fleet::KnownTarget;
 use fleet_events::read_target;
-use json::Writer;
-use json_values::{parse, written_text};
+use json_values::parse;
 use label_sets::{Target, finishes_again, map_laws};
-use lists::Text;
 use serde_json::Value;
 use std::alloc::{AllocError, Global};
 
@@ -99,37 +96,21 @@ fn target_member(alloc: Global, value: &Value) -> Result<Option<Target>, AllocEr
 }
 
 /// The text of a target's group, which says the target again.
-fn group_text(alloc: Global, target: &Target) -> Result<Text, AllocError>
-    ensures form { IfOk result (λ t. t ≡ target_text target.now) }
-    ensures reads_back { IfOk result (λ t. target_said t ≡ Some target.now) }
-{
-    let mut out = Writer::new(Vec::new(alloc));
-    match put_group(&mut out, target) {
-        Ok(()) => written_text(out),
-        Err(error) => {
-            drop(out);
-            Err(error)
-        }
-    }
-}
-
-fn put_group(out: &mut Writer, target: &Target) -> Result<(), AllocError>
-    ensures tokens { OnOk result (out.new.tokens ≡ out.old.tokens ++ tokens_of (target_data target.now)) }
-    ensures before { out.new.before ≡ out.old.before }
-    ensures reads { ReadsTokens (target_data target.now) }
-    ensures said { target_in (target_data target.now) ≡ Some target.now }
+fn group_text(alloc: Global, target: &Target) -> Result<String, AllocError>
+    ensures form { IfOk result (λ t. string_bytes t ≡ target_text target.now) }
+    ensures reads_back { target_said (target_text target.now) ≡ Some target.now }
 {
     map_laws();
     finishes_again();
-    target.write(out)
+    String::from_str(alloc, target.text())
 }
 
 /// The list of a job's number and a group's text.
-fn pair_value(alloc: Global, job: usize, text: Text) -> Result<Value, AllocError>
-    ensures { IfOk result (λ v. view v ≡ array (item (number_data job) (item (string text) no_items))) }
+fn pair_value(alloc: Global, job: usize, text: String) -> Result<Value, AllocError>
+    ensures { IfOk result (λ v. view v ≡ array (item (number_data job) (item (string (string_bytes text)) no_items))) }
 {
     let mut pair = Vec::with_capacity(alloc, 2)?;
     pair.push(Value::from(job))?;
-    pair.push(Value::String(text.into_string()))?;
+    pair.push(Value::String(text))?;
     Ok(Value::Array(pair))
 }

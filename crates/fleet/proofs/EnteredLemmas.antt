@@ -1,5 +1,5 @@
 -- What entering a job's list comes to.
-use Rattle.std.proofs.Common.{◌≡◌, ℕ, zero, suc, ◌+◌, ◌||◌, List, [], ◌∷◌, ◌++◌, Bool, true, false, cond, eqb, refl, sym, ap, ◌∙◌, arith, append_assoc}
+use Rattle.std.proofs.Common.{◌≡◌, ℕ, zero, suc, ◌+◌, ◌||◌, List, [], ◌∷◌, ◌++◌, Bool, true, false, cond, eqb, length, take, refl, sym, ap, ◌∙◌, arith, append_assoc}
 use Rattle.std.specs.Prelude.{not}
 use Rattle.std.specs.List.{AllZip, list_any, position_or_len}
 use Rattle.std.specs.Str.{bytes_eq}
@@ -51,6 +51,22 @@ same_with known job [] k n e = e
 same_with known job (t ∷ targets) k n e =
     let entered : KnownTarget = record { job = job; target = t } in
     same_with (with_known known entered) job targets k n (with_by (list_any (same_known entered) known) known k entered n e)
+
+-- the first ones stay where one more is known
+still_first : (first known more : List KnownTarget) → take (length first) known ≡ first → take (length first) (known ++ more) ≡ first
+still_first [] known more e = refl
+still_first (x ∷ first) [] more e = absurd (cc e)
+still_first (x ∷ first) (y ∷ known) more e =
+    let here : y ≡ x = cc e in
+    let rest : take (length first) known ≡ first = cc e in
+    ap (λ (ks : List KnownTarget). y ∷ ks) (still_first first known more rest) ∙ ap (λ (k : KnownTarget). k ∷ first) here
+
+first_by : (some : Bool) (first known : List KnownTarget) (k : KnownTarget) → take (length first) known ≡ first → take (length first) (cond some known (known ++ k ∷ [])) ≡ first
+first_by true first known k e = e
+first_by false first known k e = still_first first known (k ∷ []) e
+
+pub first_with : (first known : List KnownTarget) (k : KnownTarget) → take (length first) known ≡ first → take (length first) (with_known known k) ≡ first
+first_with first known k e = first_by (list_any (same_known k) known) first known k e
 
 -- those that were known stay in front
 record Front (known entered : List KnownTarget) : Type 0 where

@@ -7,7 +7,7 @@ use Rattle.std.proofs.lemmas.List.{length-map, map-append, take-append-drop}
 use Rattle.label_sets.specs.Target.{FinalTarget}
 use Rattle.reach_rules.specs.declared.rule.ReachRule.{ReachRule}
 use Rattle.reach_rules.specs.Rules.{reaches}
-use Rattle.reach_rules.specs.Table.{ReachRow, answers, is_reached_at, row_as, row_of, rows_without}
+use Rattle.reach_rules.specs.Table.{ReachRow, answers, is_reached_at, reached_in, row_as, row_like, row_of, rows_without}
 use Rattle.fleet.specs.Reached.{reach_rows, reaches_in, rows_with, target_at, targets_at, targets_of}
 use Rattle.fleet.specs.declared.known_target.KnownTarget.{KnownTarget}
 use Rattle.fleet.specs.declared.collector.Collector.{Collector}
@@ -98,4 +98,17 @@ pub row_from :
 row_from id rules rows collectors others known place numbers all same targets =
     let reached : map (is_reached_at rows place) numbers ≡ answers rules (targets_of known) =
     rw all (told_at rules collectors others place numbers same ∙ ap (λ (os : List (Option FinalTarget)). map (told rules) os) targets ∙ told_all rules (targets_of known)) in
+    ap (λ (bits : List Bool). (let row : ReachRow = record { id = id; rules = rules; reached = bits } in row)) reached
+
+reached_there : (collectors : List Collector) (known : List KnownTarget) (place : ℕ) (rules : List ReachRule) → option_map (λ (c : Collector). c.reach) (slice_get collectors place) ≡ Some rules → reached_in (reach_rows collectors known) place ≡ answers rules (targets_of known)
+reached_there [] known place rules e = absurd (cc e)
+reached_there (c ∷ collectors) known zero rules e =
+    let same : c.reach ≡ rules = cc e in
+    ap (λ (r : List ReachRule). answers r (targets_of known)) same
+reached_there (c ∷ collectors) known (suc place) rules e = reached_there collectors known place rules e
+
+-- the row of a collector with the rules of one that joined before
+pub row_copied : (id : ℕ) (rules : List ReachRule) (rows : List ReachRow) (collectors : List Collector) (known : List KnownTarget) (place : ℕ) → rows ≡ reach_rows collectors known → option_map (λ (c : Collector). c.reach) (slice_get collectors place) ≡ Some rules → row_like id rules rows place ≡ row_of id rules (targets_of known)
+row_copied id rules rows collectors known place all same =
+    let reached : reached_in rows place ≡ answers rules (targets_of known) = rw all (reached_there collectors known place rules same) in
     ap (λ (bits : List Bool). (let row : ReachRow = record { id = id; rules = rules; reached = bits } in row)) reached

@@ -141,9 +141,32 @@ impl Fleet {
     {
         let mut table = ReachTable::open(self.alloc);
         for place in 0..collectors.len() {
-            self.join_at(&mut table, &collectors[place], known, place, numbers)?;
+            let joined = &collectors[..place];
+            self.join_behind(&mut table, joined, &collectors[place], known, numbers)?;
         }
         Ok(table)
+    }
+
+    /// A collector joins a table behind others. Where the last of them has its rules, it reaches what that one does.
+    fn join_behind(
+        &self,
+        table: &mut ReachTable,
+        joined: &[Collector],
+        collector: &Collector,
+        known: &[KnownTarget],
+        numbers: &[usize],
+    ) -> Result<(), AllocError>
+        requires joined { table.old.rows ≡ reach_rows joined.now known.now }
+        requires targets { targets_at self.now.known numbers.now ≡ map Some (targets_of known.now) }
+        ensures { OnOk result (table.new.rows ≡ table.old.rows ++ row_of collector.now.id collector.now.reach (targets_of known.now) ∷ []) }
+    {
+        let place = joined.len();
+        let reach = &collector.reach;
+        if place > 0 && has_reach(joined, place - 1, reach) {
+            table.join_like(collector.id, reach, place - 1)
+        } else {
+            self.join_at(table, collector, known, place, numbers)
+        }
     }
 
     /// A collector joins a table. It is not asked where the one at the place here has its rules.

@@ -120,7 +120,7 @@ known_below (x ∷ known) zero k e = omega arith
 known_below (x ∷ known) (suc number) k e = omega (arith, known_below known number k e)
 
 -- the place that is found first
-position_is :
+pub position_is :
     (p : Collector → Bool) (i place : ℕ) (cs : List Collector) (c : Collector) → slice_get cs place ≡ Some c → p c ≡ true → ((k : ℕ) (x : Collector) → k < place → slice_get cs k ≡ Some x → p x ≡ false) → position_from p i cs ≡ Some (i + place)
 position_is p i place [] c found pass fails = cc
 position_is p i zero (x ∷ cs) c found pass fails =

@@ -1,20 +1,67 @@
--- The table of the places of collectors has what is looked for.
-use Rattle.std.proofs.Common.{◌≡◌, ℕ, ◌+◌, ◌<◌, List, [], ◌∷◌, Option, Some, None, cond, eqb, get_or, length, refl, sym, ap, ◌∙◌, arith}
-use Rattle.std.specs.List.{position_from}
-use Rattle.std.proofs.lemmas.List.{get_or_default}
-use Rattle.fleet.proofs.ChangeLemmas.{position_below}
+-- A binary search by number finds the place of a collector, since the numbers ascend.
+use Rattle.std.proofs.Common.{◌≡◌, ℕ, ◌+◌, ◌<◌, ◌≤◌, List, Some, Result, Ok, Err, Ordering, Less, Equal, Greater, ◌⊎◌, inl, inr, eqb, get_or, length, refl, sym, ap, ◌∙◌, arith}
+use Rattle.std.specs.Prelude.{AllPairs, IfSome}
+use Rattle.std.specs.List.Sorted.{IsBinarySearchResult, IsNonDecreasingBy, IsSearchInRange}
+use Rattle.std.specs.Ordering.{MatchOrdering, nat_cmp, ordering_index}
+use Rattle.std.specs.Result.{result_ok}
+use Rattle.std.proofs.lemmas.Bool.{cases_eq, cases_lt, eq-eqb, ne_eqb}
+use Rattle.std.proofs.lemmas.Cmp.{ranked}
+use Rattle.std.proofs.lemmas.Option.{get_or_from_slice_get, slice_get_cases, slice_get_within}
 use Rattle.fleet.specs.declared.collector.Collector.{Collector}
-use Rattle.fleet_assignment.specs.Beside.{beside}
 use Rattle.fleet_assignment.specs.Instance.{place_of}
-use Rattle.fleet_assignment.specs.Tables.{ArePlaced, numbered_from}
+use Rattle.fleet_assignment.proofs.FitLemmas.{position_is, position_none}
 
-beside_numbered : (collectors : List Collector) (place id : ℕ) → beside (numbered_from place collectors) id ≡ position_from (λ (c : Collector). eqb c.id id) place collectors
-beside_numbered [] place id = refl
-beside_numbered (c ∷ collectors) place id = ap (λ (o : Option ℕ). cond (eqb c.id id) (Some place) o) (beside_numbered collectors (place + 1) id)
+abbrev Ascend : List Collector → Type 0
+Ascend collectors = AllPairs (λ (a b : Collector). a.id < b.id) collectors
 
--- by the option that the code found there
-pub looked_up : (collectors : List Collector) (places : List (Option ℕ)) (id : ℕ) (o : Option ℕ) → ArePlaced (numbered_from 0 collectors) places → id < length places → o ≡ get_or places id o → o ≡ place_of collectors id
-looked_up collectors places id o placed l e = e ∙ get_or_default places id o None l ∙ placed.at id l ∙ beside_numbered collectors 0 id
+index_rises : (x y id : ℕ) → x ≤ y → ordering_index (nat_cmp x id) ≤ ordering_index (nat_cmp y id)
+index_rises x y id l = go (nat_cmp x id) (nat_cmp y id) (ranked x id _ refl) (ranked y id _ refl)
+  where
+    go : (o p : Ordering) → MatchOrdering o (x < id) (x ≡ id) (id < x) → MatchOrdering p (y < id) (y ≡ id) (id < y) → ordering_index o ≤ ordering_index p
+    go Less p h k = omega arith
+    go Equal Less h k = absurd (omega (arith, h, k))
+    go Equal Equal h k = omega arith
+    go Equal Greater h k = omega arith
+    go Greater Less h k = absurd (omega (arith, h, k))
+    go Greater Equal h k = absurd (omega (arith, h, k))
+    go Greater Greater h k = omega arith
 
-pub place_below : (collectors : List Collector) (id place : ℕ) → Some place ≡ place_of collectors id → place < length collectors
-place_below collectors id place e = omega (arith, position_below (λ (c : Collector). eqb c.id id) 0 place collectors (sym e))
+-- the comparisons with a number rise, as a binary search asks
+rising : (collectors : List Collector) (id : ℕ) → Ascend collectors → IsNonDecreasingBy (λ (c : Collector). ordering_index (nat_cmp c.id id)) collectors
+rising collectors id ascend i j d le within = go (cases_eq i j)
+  where
+    go : (i ≡ j) ⊎ (i ≡ j → ⊥) → ordering_index (nat_cmp (get_or collectors i d).id id) ≤ ordering_index (nat_cmp (get_or collectors j d).id id)
+    go (inl e) = rw e (omega arith)
+    go (inr ne) = (let l : (get_or collectors i d).id < (get_or collectors j d).id = ascend i j d (omega arith) within in index_rises _ _ id (omega arith))
+
+-- what a binary search answers
+pub searched : (collectors : List Collector) (id : ℕ) (r : Result ℕ ℕ) → Ascend collectors → IsSearchInRange r (length collectors) → IsBinarySearchResult (λ (c : Collector). nat_cmp c.id id) collectors r → result_ok r ≡ place_of collectors id
+searched collectors id (Ok i) ascend within tied = elim (slice_get_cases collectors i).1 [
+  | inl f ↦
+      let x = f.0 in
+      let read : (get_or collectors i x).id ≡ x.id = ap (λ (c : Collector). c.id) f.3 in
+      let tie : (get_or collectors i x).id ≡ id = ranked _ id Equal (sym (tied x)) in
+      sym
+      (position_is (λ (c : Collector). eqb c.id id) 0 i collectors x f.2 (eq-eqb x.id id (sym read ∙ tie))
+      (λ k y l e.
+      let less : (get_or collectors k x).id < (get_or collectors i x).id = ascend k i x l f.1 in
+      let here : (get_or collectors k x).id ≡ y.id = ap (λ (c : Collector). c.id) (get_or_from_slice_get collectors k y x e) in
+      ne_eqb y.id id (λ s. absurd (omega (arith, less, here, tie, s))))
+      ∙ ap (λ (n : ℕ). Some n) (let r : 0 + i ≡ i = omega arith in r))
+  | inr past ↦ absurd (omega (arith, within, past.0))
+]
+searched collectors id (Err i) ascend within parted =
+    let parts = parted (rising collectors id ascend) in
+    sym
+    (position_none (λ (c : Collector). eqb c.id id) 0 collectors
+    (λ k y e.
+    let here : (get_or collectors k y).id ≡ y.id = ap (λ (c : Collector). c.id) (get_or_from_slice_get collectors k y y e) in
+    ne_eqb y.id id
+    (λ s. elim (cases_lt k i) [
+      | inl l ↦ (let less : (get_or collectors k y).id < id = ranked _ id Less (sym (parts.0 k y (omega arith) l)) in absurd (omega (arith, less, here, s)))
+      | inr g ↦ (let more : id < (get_or collectors k y).id = ranked _ id Greater (sym (parts.1 k y (omega arith) (slice_get_within collectors k y e))) in absurd (omega (arith, more, here, s)))
+    ])))
+
+pub in_range : (r : Result ℕ ℕ) (n : ℕ) → IsSearchInRange r n → IfSome (result_ok r) (λ p. p < n)
+in_range (Ok i) n within = within
+in_range (Err i) n within = tt

@@ -5,6 +5,7 @@ use Rattle.std.specs.Option.{option_map_or}
 use Rattle.std.proofs.lemmas.Bool.{cases_lt}
 use Rattle.std.proofs.lemmas.List.{get_or_append_left, get_or_push, get_or-map, length-map, map-append}
 use Rattle.std.proofs.lemmas.List.Elements.{All-append, All-cons, All-head, All-nil, All-tail, All-weaker}
+use Rattle.std.proofs.lemmas.Option.{same_Some, slice_get_within}
 use Rattle.price_certificate.specs.Rows.{row_at}
 use Rattle.reach_rules.specs.Rules.{reaches}
 use Rattle.reach_rules.specs.declared.rule.ReachRule.{ReachRule}
@@ -17,16 +18,13 @@ use Rattle.fleet_assignment.specs.Sharing.{AreAsked, IsAsked, IsListOf, IsSharin
 
 -- ---- the collectors that are asked
 
-at_more : {X : Type 0} (xs : List X) (x d : X) (i : ℕ) → i < length xs → get_or (xs ++ x ∷ []) i d ≡ get_or xs i d
-at_more xs x d i l = get_or_append_left xs (x ∷ []) d i l
-
 pub asked_more : (collectors : List Collector) (asked : List ℕ) (one place : ℕ) → IsAsked collectors asked place → IsAsked collectors (asked ++ one ∷ []) place
 asked_more collectors asked one place h = record {
   number = h.number;
   within = omega (arith, h.within, length-append asked (one ∷ []));
   one = h.one;
   other = h.other;
-  there = ap (λ (p : ℕ). slice_get collectors p) (at_more asked one 0 h.number h.within) ∙ h.there;
+  there = ap (λ (p : ℕ). slice_get collectors p) (get_or_append_left asked (one ∷ []) 0 h.number h.within) ∙ h.there;
   here = h.here;
   same = h.same;
 }
@@ -77,21 +75,13 @@ asked_of fleet place number c k there is =
     ap (λ (found : Option Collector). option_map_or (λ (d : Collector). option_map_or (λ (t : KnownTarget). reaches d.reach t.target) (slice_get fleet.known number) false) found false) there
     ∙ ap (λ (found : Option KnownTarget). option_map_or (λ (t : KnownTarget). reaches c.reach t.target) found false) is
 
-within_some : {X : Type 0} (xs : List X) (i : ℕ) (x : X) → slice_get xs i ≡ Some x → i < length xs
-within_some [] i x e = cc
-within_some (y ∷ xs) zero x e = omega arith
-within_some (y ∷ xs) (suc i) x e = omega (arith, within_some xs i x e)
-
-some_same : {X : Type 0} (x y : X) → Some x ≡ Some y → x ≡ y
-some_same x y e = cc
-
 alike_all :
     (fleet : FleetState) (asked : List ℕ) (first number : ℕ) (k m : KnownTarget) → AreAsked fleet.collectors asked → slice_get fleet.known first ≡ Some k → slice_get fleet.known number ≡ Some m
     → ((i : ℕ) → i < length asked → reaches_at fleet (get_or asked i 0) first ≡ reaches_at fleet (get_or asked i 0) number) → ReachedAlike fleet.collectors k m
 unfolding ReachedAlike
 alike_all fleet asked first number k m all one other same place c e =
-    let h = all place (within_some fleet.collectors place c e) in
-    let is : h.other ≡ c = some_same h.other c (sym h.here ∙ e) in
+    let h = all place (slice_get_within fleet.collectors place c e) in
+    let is : h.other ≡ c = same_Some h.other c (sym h.here ∙ e) in
     let rules : h.one.reach ≡ c.reach = h.same ∙ ap (λ (d : Collector). d.reach) is in
     ap (λ (r : List ReachRule). reaches r k.target) (sym rules)
     ∙ sym (asked_of fleet (get_or asked h.number 0) first h.one k h.there one)
@@ -112,7 +102,7 @@ rows_stay : (lists : List (List ℕ)) (row : List ℕ) (numbers : List ℕ) → 
 rows_stay lists row [] below = refl
 rows_stay lists row (number ∷ numbers) below =
     let P = λ (n : ℕ). n < length lists in
-    ap (λ (x : List ℕ). x ∷ map (row_at (lists ++ row ∷ [])) numbers) (at_more lists row [] number (All-head P number numbers below))
+    ap (λ (x : List ℕ). x ∷ map (row_at (lists ++ row ∷ [])) numbers) (get_or_append_left lists (row ∷ []) [] number (All-head P number numbers below))
     ∙ ap (λ (xs : List (List ℕ)). row_at lists number ∷ xs) (rows_stay lists row numbers (All-tail P number numbers below))
 
 -- its list is there

@@ -1,18 +1,12 @@
 -- Tables that are filled from lists of pairs. No public contract cites them.
 use Rattle.std.specs.Prelude.{◌≡◌, ◌<◌, slice_index_or, ℕ, ◌+◌, ◌==◌, List, [], ◌∷◌, ◌++◌, Option, None, Some, if◌then◌else◌, length}
 use Rattle.std.specs.Option.{option_map, option_to_list}
-use Rattle.fleet.specs.declared.collector.Collector.{Collector}
 use Rattle.fleet_assignment.specs.Beside.{beside}
 
 -- the bins before, as pairs of an item and a bin
 abbrev pub preceding_from : (ℕ → Option ℕ) → ℕ → List ℕ → List (ℕ × ℕ)
 preceding_from bin item [] = []
 preceding_from bin item (target ∷ targets) = option_to_list (option_map (λ (b : ℕ). (item, b)) (bin target)) ++ preceding_from bin (item + 1) targets
-
--- the numbers of collectors with their places, from a place on
-abbrev pub numbered_from : ℕ → List Collector → List (ℕ × ℕ)
-numbered_from place [] = []
-numbered_from place (c ∷ collectors) = (c.id, place) ∷ numbered_from (place + 1) collectors
 
 -- what stands beside each number
 pub record ArePlaced (pairs : List (ℕ × ℕ)) (places : List (Option ℕ)) : Type 0 where

@@ -1,16 +1,17 @@
 //! The assignment problem of a fleet: items are its live targets, bins each collector's share of each job. The way back, from a
 //! plan to an allocation, is in `allocation.rt`.
-ghost use Rattle.std.specs.Prelude.{◌≡◌, ◌<◌, ◌≤◌, ◌*◌, ◌+◌, ◌++◌, ℕ, None, Some, false, All, length, map, option_and_then, slice_get, slice_index_or, IfOk, IfSome, OnOk};
+ghost use Rattle.std.specs.Prelude.{◌≡◌, ◌<◌, ◌≤◌, ◌*◌, ◌+◌, ◌++◌, ℕ, None, Some, false, All, AllPairs, length, map, option_and_then, slice_get, slice_index_or, IfOk, IfSome, OnOk};
 ghost use Rattle.price_certificate.specs.Problem.{IsShaped, IsProblemOf};
 ghost use Rattle.price_certificate.specs.Document.{marked_from};
 ghost use Rattle.price_certificate.specs.Rows.{rows_of};
 ghost use Rattle.price_certificate.specs.declared.version.Version.TheVariants.{Two};
 ghost use Rattle.fleet.specs.Fleet.{live_of};
 ghost use Rattle.fleet.specs.ShareLimit.{share_limit};
+ghost use Rattle.fleet.specs.declared.collector.Collector.{Collector};
 ghost use Rattle.fleet.specs.declared.job.JobSpec.{JobSpec};
 ghost use Rattle.fleet.specs.declared.known_target.KnownTarget.{KnownTarget};
 ghost use Rattle.fleet_assignment.specs.Instance.{instance_of, limits_for, draining_for, row_in, place_of, bin_in, problem_of};
-ghost use Rattle.fleet_assignment.specs.Tables.{ArePlaced, numbered_from, preceding_from};
+ghost use Rattle.fleet_assignment.specs.Tables.{preceding_from};
 
 use crate::bin::bin_of;
 use crate::rows::rows;
@@ -21,9 +22,6 @@ use fleet::{
 use lists::List;
 use price_certificate::{Instance, InstanceError, Rows};
 use std::alloc::{AllocError, Global};
-
-/// Collectors with numbers below this one are looked up in a table.
-const MOST_TABLED: usize = 65_536;
 
 /// The assignment problem of a fleet, of which the live targets are given, and of a preceding allocation.
 #[tactic(auto, unfolding(crate::specs::Instance::instance_of))]
@@ -63,13 +61,13 @@ fn instance(
     requires collectors { length collectors.now ≤ MOST_COLLECTORS }
     requires live { length live.now ≤ MOST_LIVE_TARGETS }
     requires numbers { All (λ n. n < length known.now) live.now }
+    requires ascending { AllPairs (λ (a b : Collector). a.id < b.id) collectors.now }
     requires rows { rows_of rows ≡ map (row_in (length jobs.now) collectors.now known.now) live.now }
     ensures { IfOk result (λ i. i ≡ problem_of jobs.now collectors.now known.now live.now pairs.now) }
 {
     let limits = limits(alloc, jobs, collectors)?;
     let draining = draining(alloc, jobs.len(), collectors)?;
     let holders = placed(alloc, known.len(), pairs)?;
-    let places = places(alloc, collectors)?;
     let before = preceding(
         alloc,
         jobs.len(),
@@ -77,9 +75,7 @@ fn instance(
         known,
         live,
         holders.as_slice(),
-        places.as_slice(),
     )?;
-    drop(places);
     let instance = made(alloc, limits, draining, rows, before)?;
     Ok(instance)
 }
@@ -152,56 +148,15 @@ fn drains(jobs: usize, collectors: &[Collector], bin: usize) -> bool
     collectors[bin / jobs].draining
 }
 
-/// The place of a live collector.
+/// The place of a live collector: they are in order of number.
 fn place_of(collectors: &[Collector], id: u32) -> Option<usize>
+    requires { AllPairs (λ (a b : Collector). a.id < b.id) collectors.now }
     ensures place { result ≡ place_of collectors.now id }
     ensures within { IfSome result (λ p. p < length collectors.now) }
 {
-    collectors.iter().position(|collector| collector.id == id)
-}
-
-/// The place of a live collector, which is looked up where the table has its number.
-fn place_by(collectors: &[Collector], places: &[Option<u32>], id: u32) -> Option<usize>
-    requires { ArePlaced (numbered_from 0 collectors.now) places.now }
-    ensures place { result ≡ place_of collectors.now id }
-    ensures within { IfSome result (λ p. p < length collectors.now) }
-{
-    match places.get(id as usize) {
-        Some(Some(place)) => Some(*place as usize),
-        Some(None) => None,
-        None => place_of(collectors, id),
-    }
-}
-
-/// The places of the live collectors by their numbers, where these are small enough.
-fn places(alloc: Global, collectors: &[Collector]) -> Result<Vec<Option<u32>>, AllocError>
-    requires { length collectors.now ≤ MOST_COLLECTORS }
-    ensures { IfOk result (λ v. ArePlaced (numbered_from 0 collectors.now) v.items) }
-{
-    let numbered = numbered(alloc, collectors)?;
-    let places = placed(alloc, tabled(collectors), numbered.as_slice());
-    drop(numbered);
-    places
-}
-
-/// The numbers of the live collectors, with their places.
-fn numbered(alloc: Global, collectors: &[Collector]) -> Result<Vec<(u32, u32)>, AllocError>
-    requires { length collectors.now ≤ MOST_COLLECTORS }
-    ensures { IfOk result (λ v. v.items ≡ numbered_from 0 collectors.now) }
-{
-    let mut pairs = Vec::with_capacity(alloc, collectors.len())?;
-    for place in 0..collectors.len() {
-        pairs.push((collectors[place].id, place as u32))?;
-    }
-    Ok(pairs)
-}
-
-/// How many numbers of collectors the table has: collectors are in order of number.
-fn tabled(collectors: &[Collector]) -> usize {
-    match collectors.last() {
-        Some(last) => (last.id as usize).min(MOST_TABLED - 1) + 1,
-        None => 0,
-    }
+    collectors
+        .binary_search_by(|collector| collector.id.cmp(&id))
+        .ok()
 }
 
 /// The bin of a target at a collector, where that is live.
@@ -209,20 +164,19 @@ fn bin_in(
     jobs: usize,
     collectors: &[Collector],
     known: &[KnownTarget],
-    places: &[Option<u32>],
     number: usize,
     collector: u32,
 ) -> Option<u32>
     requires homes { All (λ (k : KnownTarget). k.job < jobs) known.now }
     requires bins { jobs * length collectors.now ≤ MOST_BINS }
-    requires places { ArePlaced (numbered_from 0 collectors.now) places.now }
+    requires ascending { AllPairs (λ (a b : Collector). a.id < b.id) collectors.now }
     ensures { result ≡ bin_in jobs collectors.now known.now number collector }
 {
     if number >= known.len() {
         return None;
     }
     let job = known[number].job;
-    match place_by(collectors, places, collector) {
+    match place_of(collectors, collector) {
         None => None,
         Some(place) => Some(bin_of(jobs, collectors.len(), place, job)),
     }
@@ -236,17 +190,16 @@ fn preceding(
     known: &[KnownTarget],
     live: &[usize],
     holders: &[Option<u32>],
-    places: &[Option<u32>],
 ) -> Result<Vec<(u32, u32)>, AllocError>
     requires homes { All (λ (k : KnownTarget). k.job < jobs) known.now }
     requires bins { jobs * length collectors.now ≤ MOST_BINS }
-    requires places { ArePlaced (numbered_from 0 collectors.now) places.now }
+    requires ascending { AllPairs (λ (a b : Collector). a.id < b.id) collectors.now }
     requires live { length live.now ≤ MOST_LIVE_TARGETS }
     ensures { IfOk result (λ v. v.items ≡ preceding_from (λ (t : ℕ). option_and_then (bin_in jobs collectors.now known.now t) (slice_index_or holders.now t None)) 0 live.now) }
 {
     let mut pairs = Vec::new(alloc);
     for item in 0..live.len() {
-        if let Some(bin) = bin_held(jobs, collectors, known, places, holders, live[item]) {
+        if let Some(bin) = bin_held(jobs, collectors, known, holders, live[item]) {
             pairs.push((item as u32, bin))?;
         }
     }
@@ -258,13 +211,12 @@ fn bin_held(
     jobs: usize,
     collectors: &[Collector],
     known: &[KnownTarget],
-    places: &[Option<u32>],
     holders: &[Option<u32>],
     number: usize,
 ) -> Option<u32>
     requires homes { All (λ (k : KnownTarget). k.job < jobs) known.now }
     requires bins { jobs * length collectors.now ≤ MOST_BINS }
-    requires places { ArePlaced (numbered_from 0 collectors.now) places.now }
+    requires ascending { AllPairs (λ (a b : Collector). a.id < b.id) collectors.now }
     ensures { result ≡ option_and_then (bin_in jobs collectors.now known.now number) (slice_index_or holders.now number None) }
 {
     if number >= holders.len() {
@@ -272,6 +224,6 @@ fn bin_held(
     }
     match holders[number] {
         None => None,
-        Some(collector) => bin_in(jobs, collectors, known, places, number, collector),
+        Some(collector) => bin_in(jobs, collectors, known, number, collector),
     }
 }

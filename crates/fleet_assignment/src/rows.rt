@@ -12,15 +12,15 @@ use price_certificate::Rows;
 use std::alloc::{AllocError, Global};
 
 /// How many collectors are asked of a target at the most. Where more differ in their rules, no target shares a list.
-const MOST_ASKED: usize = 32;
+const MOST_ASKED_COLLECTORS: usize = 32;
 
-/// How many lists are remembered, each in one of these slots.
-const SLOTS: usize = 32_768;
+/// How many slots there are at the most. Each remembers one list.
+const MOST_SLOTS: usize = 32_768;
 
 /// In how many slots a list is looked for.
 const TRIES: usize = 4;
 
-/// The slot of no list.
+/// What stands in a slot that remembers no list.
 const NOTHING: u32 = u32::MAX;
 
 /// The lists so far, the target that each was made for, and for each target so far the number of its list. `slots` says by what is asked of a
@@ -38,9 +38,9 @@ struct Sharing {
 pub(crate) fn rows(alloc: Global, fleet: &Fleet, live: &[usize]) -> Result<Rows, AllocError>
     ensures { IfOk result (λ r. rows_of r ≡ map (row_for fleet.now) live.now) }
 {
-    let mut sharing = nothing_shared(alloc, live.len())?;
-    match asked(alloc, fleet.collectors()) {
-        Ok(asked) => {
+    let asked = asked(alloc, fleet.collectors())?;
+    match nothing_shared(alloc, live.len(), asked.len()) {
+        Ok(mut sharing) => {
             let shared = share_all(alloc, fleet, asked.as_slice(), live, &mut sharing);
             drop(asked);
             match shared {
@@ -52,18 +52,18 @@ pub(crate) fn rows(alloc: Global, fleet: &Fleet, live: &[usize]) -> Result<Rows,
             }
         }
         Err(error) => {
-            drop(sharing);
+            drop(asked);
             Err(error)
         }
     }
 }
 
-/// No target yet.
-fn nothing_shared(alloc: Global, targets: usize) -> Result<Sharing, AllocError>
+/// No target yet, with slots for so many targets.
+fn nothing_shared(alloc: Global, targets: usize, asked: usize) -> Result<Sharing, AllocError>
     ensures { IfOk result (λ s. (s.lists.items ≡ []) × (s.firsts.items ≡ []) × (s.list_of.items ≡ [])) }
 {
     let list_of = Vec::with_capacity(alloc, targets)?;
-    match vec![in alloc; NOTHING; SLOTS] {
+    match vec![in alloc; NOTHING; slot_count(targets, asked)] {
         Ok(slots) => Ok(Sharing {
             lists: Vec::new(alloc),
             firsts: Vec::new(alloc),
@@ -76,6 +76,14 @@ fn nothing_shared(alloc: Global, targets: usize) -> Result<Sharing, AllocError>
             Err(error)
         }
     }
+}
+
+/// How many slots there are: enough for a list of each target, as far as there may be so many, and none where no target shares a list.
+fn slot_count(targets: usize, asked: usize) -> usize {
+    if asked > MOST_ASKED_COLLECTORS {
+        return 0;
+    }
+    targets.min(MOST_SLOTS).next_power_of_two()
 }
 
 /// The rows of all targets.
@@ -97,7 +105,8 @@ fn rows_in(sharing: Sharing) -> Rows
     }
 }
 
-/// The places of collectors of which one has the rules of each, if they are not too many, and else all places.
+/// The places of collectors of which one has the rules of each: all but those that have the rules of one of the first
+/// `MOST_ASKED_COLLECTORS` of them.
 fn asked(alloc: Global, collectors: &[Collector]) -> Result<Vec<usize>, AllocError>
     ensures { IfOk result (λ v. AreAsked collectors.now v.items) }
 {
@@ -116,7 +125,7 @@ fn is_asked(collectors: &[Collector], asked: &[usize], place: usize) -> bool
     ensures { IsTrue result → IsAsked collectors.now asked.now place }
 {
     let reach = &collectors[place].reach;
-    for i in 0..asked.len().min(MOST_ASKED) {
+    for i in 0..asked.len().min(MOST_ASKED_COLLECTORS) {
         if let Some(other) = collectors.get(asked[i]) {
             if other.reach.same(reach) {
                 return true;
@@ -198,9 +207,10 @@ fn add_list(
     Ok(list)
 }
 
-/// Where the list of a target may be remembered, by its job and by which of the collectors that are asked reach it.
+/// Where the list of a target is remembered, by its job and by which of the collectors that are asked reach it: in the slot of
+/// this number, where slots are counted round and round, or in one of the next.
 fn slot_of(fleet: &Fleet, asked: &[usize], number: usize) -> usize {
-    if asked.len() > MOST_ASKED {
+    if asked.len() > MOST_ASKED_COLLECTORS {
         return 0;
     }
     let mut seen = match fleet.known().get(number) {
@@ -210,7 +220,7 @@ fn slot_of(fleet: &Fleet, asked: &[usize], number: usize) -> usize {
     for place in asked {
         seen = (seen << 1).wrapping_add(u64::from(fleet.reaches(*place, number)));
     }
-    (seen.wrapping_mul(0x9E37_79B9_7F4A_7C15) >> 49) as usize
+    (seen.wrapping_mul(0x9E37_79B9_7F4A_7C15) >> 32) as usize
 }
 
 /// The number of a list of this target among those that are remembered there, if it has one.
@@ -234,12 +244,12 @@ fn list_in(
     None
 }
 
-/// What is remembered in a slot.
+/// What a slot remembers.
 fn at_slot(slots: &[u32], slot: usize) -> u32 {
-    match slots.get(slot) {
-        Some(list) => *list,
-        None => NOTHING,
+    if slots.is_empty() {
+        return NOTHING;
     }
+    slots[slot % slots.len()]
 }
 
 /// Remembers a list in the first free slot from one on, or else in place of what is there.
@@ -255,18 +265,19 @@ fn remember(slots: &mut [u32], slot: usize, list: u32) {
 }
 
 fn put(slots: &mut [u32], slot: usize, list: u32) {
-    if slot < slots.len() {
-        slots[slot] = list;
+    if !slots.is_empty() {
+        let count = slots.len();
+        slots[slot % count] = list;
     }
 }
 
-/// Whether the list of this number is there, and a target may use its bins.
+/// Whether there is a list of this number, and it was made for a target of the same job that the same collectors reach.
 fn is_list_of(fleet: &Fleet, asked: &[usize], firsts: &[usize], list: u32, number: usize) -> bool
     requires { AreAsked fleet.now.collectors asked.now }
     ensures { IsTrue result → IsListOf fleet.now firsts.now list number }
 {
     match firsts.get(list as usize) {
-        Some(first) => asked.len() <= MOST_ASKED && are_alike(fleet, asked, *first, number),
+        Some(first) => are_alike(fleet, asked, *first, number),
         None => false,
     }
 }

@@ -1,4 +1,4 @@
 mod OneLine
 pub mod Said
-pub mod Plain
+pub mod Whole
 pub mod Steps

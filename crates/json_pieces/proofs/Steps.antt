@@ -1,5 +1,5 @@
 -- One more item of an array, and one more member of an object.
-use Rattle.std.proofs.Common.{◌≡◌, ◌≤◌, ℕ, Bool, true, false, cond, List, [], ◌∷◌, ◌++◌, Some, IsUtf8, fold, option_map, refl, sym, ap, ap₂, ◌∙◌, subst, arith, append_assoc, append-nil}
+use Rattle.std.proofs.Common.{◌≡◌, ◌≤◌, ℕ, Bool, true, false, List, [], ◌∷◌, ◌++◌, Some, IsUtf8, fold, option_map, refl, sym, ap, ap₂, ◌∙◌, arith, append_assoc, append-nil}
 use Rattle.std.specs.Prelude.{option_and_then}
 use Rattle.std.proofs.lemmas.List.Sums.{fold-append}
 use Rattle.std.proofs.lemmas.Str.{IsUtf8-append, IsUtf8-nil}
@@ -10,7 +10,7 @@ use Rattle.json.specs.Tree as tree
 use Rattle.json.proofs.Printed.Tokens.{print_from-append}
 use Rattle.json.proofs.Printed.Utf8.{IsUtf8-are_ascii}
 use Rattle.serde_json.specs.Data.{Data, Items, no_items, item, Members, no_members, member, array, object, items_depth, members_depth}
-use Rattle.serde_json.specs.Read.{of_json, of_items, of_members}
+use Rattle.serde_json.specs.Read.{of_items, of_members}
 use Rattle.serde_json.specs.Written.{blank_items, blank_members, items_outline, members_outline, comma_if}
 use Rattle.json_pieces.specs.Texts.{WritesValue}
 

@@ -1,8 +1,8 @@
 //! Writing a value piece by piece.
-ghost use Rattle.std.specs.Prelude.{◌≡◌, ◌++◌, ℕ, List, IsUtf8, OnOk, IfOk};
+ghost use Rattle.std.specs.Prelude.{◌≡◌, ◌≤◌, ◌++◌, ℕ, List, IsTrue, IsUtf8, OnOk, IfOk};
 ghost use Rattle.json.specs.Print.{token_text};
 ghost use Rattle.json.specs.Token.{key as name_token};
-ghost use Rattle.serde_json.specs.Data.{Data, array, object, depth};
+ghost use Rattle.serde_json.specs.Data.{Data, array, object, depth, items_depth};
 ghost use Rattle.serde_json.specs.View.{view, items_view, members_view};
 ghost use Rattle.serde_json.specs.Written.{comma_if};
 ghost use Rattle.json_pieces.specs.Texts.{IsTextOf, WritesValue};
@@ -13,8 +13,8 @@ use serde_json::{Map, Value};
 use std::alloc::{AllocError, Global};
 use std::io;
 
-/// Writes the compact text of a value. No piece has more than one name or plain value. After an `Err` a beginning of the text may have been
-/// taken.
+/// Writes the compact text of a value. No piece has more than one name, or one plain value or one array of such values. After an `Err` a beginning
+/// of the text may have been taken.
 pub fn write_value<P: Pieces>(alloc: Global, value: &Value, out: &mut P) -> io::Result<()>
     ensures { OnOk result ((text : List ℕ) × P.grows out.old out.new text × IsTextOf (view value.now) text) }
 {
@@ -26,10 +26,11 @@ fn write<P: Pieces>(alloc: Global, value: &Value, out: &mut P) -> io::Result<()>
     ensures { OnOk result ((text : List ℕ) × P.grows out.old out.new text × WritesValue (view value.now) text) }
 {
     match value {
+        Value::Array(items) if are_plain(items.as_slice()) => write_whole(alloc, value, out),
         Value::Array(items) => write_items(alloc, items, out),
         Value::Object(members) => write_members(alloc, members, out),
         Value::Null | Value::Bool(_) | Value::Number(_) | Value::String(_) => {
-            write_plain(alloc, value, out)
+            write_whole(alloc, value, out)
         }
     }
 }
@@ -94,9 +95,30 @@ fn name_text(alloc: Global, is_later: bool, name: &str) -> Result<Vec<u8>, Alloc
     Ok(writer.into_inner())
 }
 
-/// Writes a value that is no array and no object.
-fn write_plain<P: Pieces>(alloc: Global, value: &Value, out: &mut P) -> io::Result<()>
-    requires { depth (view value.now) ≡ 0 }
+/// Whether none of the values is an array or an object.
+fn are_plain(values: &[Value]) -> bool
+    ensures { IsTrue result → items_depth (items_view values.now) ≡ 0 }
+{
+    for value in values {
+        if !is_plain(value) {
+            return false;
+        }
+    }
+    true
+}
+
+fn is_plain(value: &Value) -> bool
+    ensures { IsTrue result → depth (view value.now) ≡ 0 }
+{
+    match value {
+        Value::Array(_) | Value::Object(_) => false,
+        Value::Null | Value::Bool(_) | Value::Number(_) | Value::String(_) => true,
+    }
+}
+
+/// Writes a plain value, or an array of such values, in one piece.
+fn write_whole<P: Pieces>(alloc: Global, value: &Value, out: &mut P) -> io::Result<()>
+    requires { depth (view value.now) ≤ 1 }
     ensures { OnOk result ((text : List ℕ) × P.grows out.old out.new text × WritesValue (view value.now) text) }
 {
     let text = value.to_vec(alloc)?;

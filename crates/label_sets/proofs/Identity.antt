@@ -1,9 +1,12 @@
 -- A target's text decides the target: the text is read back as the JSON that it was written for.
 use Rattle.std.specs.Prelude.{IsTrue, Bool, ◌↔◌}
 use Rattle.std.proofs.Common.{◌≡◌, ℕ, List, [], ◌∷◌, Some, refl, sym, ap, ◌∙◌, arith}
-use Rattle.json.specs.Tree.{MembersHaveNumbers, members_depth}
+use Rattle.json.specs.Tree.{HasNumbers, MembersHaveNumbers, members_depth}
 use Rattle.json.specs.Json.{document}
-use Rattle.json.proofs.Printed.Trees.{document-print}
+use Rattle.json.specs.Lex.{tokens}
+use Rattle.json.proofs.Printed.Tokens.{tokens-print}
+use Rattle.json.proofs.Printed.Trees.{ArePrintable-json_tokens, document-print}
+use Rattle.json_values.specs.Texts.{tokens_of}
 use Rattle.serde_json.specs.Written.{outline, members_outline}
 use Rattle.serde_json.proofs.Texts.{print-outline}
 use Rattle.label_sets.specs.Labels.{LabelList}
@@ -29,11 +32,18 @@ same_labels (l ∷ a) (m ∷ b) e =
     let texts : l.1 ≡ m.1 = cc in
     λ i. (names i, texts i) ∷ rest i
 
+numbered : (target : FinalTarget) → HasNumbers (outline (target_data target))
+numbered target = (has_numbers target.labels, (((tt, tt), tt)))
+
+-- the text of a target has the tokens that its group is written with
+pub target_tokens : (target : FinalTarget) → tokens (target_text target) ≡ tokens_of (target_data target)
+target_tokens target = ap tokens (sym (print-outline (target_data target))) ∙ tokens-print (tokens_of (target_data target)) (ArePrintable-json_tokens (outline (target_data target)) (numbered target))
+
 -- the text of a target is read as its own outline
 read_back : (target : FinalTarget) → document (target_text target) ≡ Some (outline (target_data target))
 read_back target =
     ap document (sym (print-outline (target_data target)))
-    ∙ document-print (outline (target_data target)) (has_numbers target.labels, (((tt, tt), tt))) (omega (arith, is_shallow target.labels))
+    ∙ document-print (outline (target_data target)) (numbered target) (omega (arith, is_shallow target.labels))
 
 same_outlines : (a b : FinalTarget) → target_text a ≡ target_text b → Some (outline (target_data a)) ≡ Some (outline (target_data b))
 same_outlines a b e = sym (read_back a) ∙ ap document e ∙ read_back b

@@ -5,3 +5,4 @@ pub mod Written
 pub mod Target
 pub mod Finish
 pub mod inner
+pub mod Parts

@@ -1,5 +1,6 @@
 //! Final targets, and how a label set is finished to one.
-ghost use Rattle.std.specs.Prelude.{◌≡◌, ◌++◌, IfOk, IsTrue, OnOk};
+ghost use Rattle.std.specs.Prelude.{◌≡◌, ◌++◌, IfOk, IsTrue, IsUtf8, OnOk};
+ghost use Rattle.json.specs.Lex.{tokens};
 ghost use Rattle.serde_json.specs.View.{view};
 ghost use Rattle.json_values.specs.Texts.{ReadsTokens, tokens_of};
 ghost use Rattle.label_sets.specs.Finish.{finished};
@@ -13,10 +14,17 @@ use serde_json::Value;
 use std::alloc::{AllocError, Global};
 use std::convert::AsStr;
 use std::marker::Model;
+use std::sync::Arc;
 
-/// A final target. Contracts see its address and the labels of its group's text.
+/// A final target, of which copies share what it is made of. Contracts see its address and the labels of its group's text.
 #[derive(Debug, Drop)]
 pub struct Target {
+    parts: Arc<Parts>,
+}
+
+/// What a target is made of.
+#[derive(Debug, Drop)]
+struct Parts {
     labels: Labels,
     address: Text,
     text: Text,
@@ -24,13 +32,15 @@ pub struct Target {
 
 impl Model for Target {
     ghost use Rattle.std.specs.Prelude.{◌≡◌};
-    ghost use Rattle.label_sets.specs.Target.{FinalTarget, IsFinal, target_text};
+    ghost use Rattle.std.specs.Arc.{arc_value};
+    ghost use Rattle.label_sets.specs.Parts.{AreFinal, target_of};
+    ghost use Rattle.label_sets.specs.Target.{FinalTarget};
 
     ghost Value = { FinalTarget };
 
-    ghost view = { λ t. record { address = t.address; labels = t.labels } };
+    ghost view = { λ t. target_of (arc_value t.parts) };
 
-    ghost invariant = { λ t. (t.text ≡ target_text (record { address = t.address; labels = t.labels })) × IsFinal (record { address = t.address; labels = t.labels }) };
+    ghost invariant = { λ t. AreFinal (arc_value t.parts) };
 }
 
 impl Target {
@@ -45,9 +55,14 @@ impl Target {
     {
         let text = text_of_target(alloc, labels.entries(), address.as_str())?;
         Ok(Target {
-            labels,
-            address,
-            text,
+            parts: Arc::new(
+                alloc,
+                Parts {
+                    labels,
+                    address,
+                    text,
+                },
+            )?,
         })
     }
 
@@ -55,14 +70,18 @@ impl Target {
     pub fn labels(&self) -> &Labels
         ensures { result.now ≡ self.now.labels }
     {
-        &self.labels
+        &self.parts.labels
     }
 
-    /// The group's text, which is the target's identity within a job.
+    /// The group's text, which is the target's identity within a job, and which is read as the group again.
     pub fn text(&self) -> &str
-        ensures { result.now ≡ target_text self.now }
+        ensures text { result.now ≡ target_text self.now }
+        ensures utf8 { IsUtf8 (target_text self.now) }
+        ensures tokens { tokens (target_text self.now) ≡ tokens_of (target_data self.now) }
+        ensures reads { ReadsTokens (target_data self.now) }
+        ensures is_final { IsFinal self.now }
     {
-        self.text.as_str()
+        self.parts.text.as_str()
     }
 
     /// The group as a JSON value.
@@ -70,7 +89,11 @@ impl Target {
         ensures form { IfOk result (λ v. view v ≡ target_data self.now) }
         ensures is_final { IsFinal self.now }
     {
-        value_of_target(alloc, self.labels.entries(), self.address.as_str())
+        value_of_target(
+            alloc,
+            self.parts.labels.entries(),
+            self.parts.address.as_str(),
+        )
     }
 
     /// Writes the group's text.
@@ -80,7 +103,11 @@ impl Target {
         ensures reads { ReadsTokens (target_data self.now) }
         ensures is_final { IsFinal self.now }
     {
-        put_target(out, self.labels.entries(), self.address.as_str())
+        put_target(
+            out,
+            self.parts.labels.entries(),
+            self.parts.address.as_str(),
+        )
     }
 
     /// The text of a label of the group or of `__address__`, and else the empty text.
@@ -88,27 +115,22 @@ impl Target {
         ensures { result.now ≡ target_label self.now (N.text name) }
     {
         if name.as_str() == "__address__" {
-            self.address.as_str()
+            self.parts.address.as_str()
         } else {
-            self.labels.get(name)
+            self.parts.labels.get(name)
         }
     }
 }
 
 impl Plain for Target {
     fn copy(&self) -> Result<Target, AllocError> {
-        let labels = self.labels.copy()?;
-        let address = self.address.copy()?;
-        let text = self.text.copy()?;
         Ok(Target {
-            labels,
-            address,
-            text,
+            parts: Arc::try_clone(&self.parts)?,
         })
     }
 
     fn same(&self, other: &Target) -> bool {
-        self.text.same(&other.text)
+        self.parts.text.same(&other.parts.text)
     }
 }
 

@@ -26,7 +26,7 @@ reach_no_float : (shares : Bool) (p : Problem) → has_float (reach_data shares 
 reach_no_float false p = no_float (list_data number_data) (no_float number_data (λ n. refl)) p.rows
 reach_no_float true p =
     let numbers = no_float number_data (λ n. refl) in
-    or_from _ _ (numbers (sharing_of p).numbers) (or_from _ _ (no_float (list_data number_data) numbers (map (row_of p) (sharing_of p).firsts)) refl)
+    or_from _ _ (numbers (sharing_of p).list_of) (or_from _ _ (no_float (list_data number_data) numbers (map (row_of p) (sharing_of p).firsts)) refl)
 
 has_float-data : (shares : Bool) (p : Problem) (pairs : List (ℕ × ℕ)) (item_prices bin_prices : List ℕ) → has_float (data_by shares p pairs item_prices bin_prices) ≡ false
 has_float-data shares p pairs item_prices bin_prices =
@@ -45,7 +45,7 @@ rows_levels rows = omega (arith, levels (list_data number_data) 1 (λ row. omega
 
 reach_levels : (shares : Bool) (p : Problem) → depth (reach_data shares p) ≤ 3
 reach_levels false p = omega (arith, rows_levels p.rows)
-reach_levels true p = omega (arith, levels number_data 0 (λ n. omega arith) (sharing_of p).numbers, rows_levels (map (row_of p) (sharing_of p).firsts))
+reach_levels true p = omega (arith, levels number_data 0 (λ n. omega arith) (sharing_of p).list_of, rows_levels (map (row_of p) (sharing_of p).firsts))
 
 levels-data : (shares : Bool) (p : Problem) (pairs : List (ℕ × ℕ)) (item_prices bin_prices : List ℕ) → depth (data_by shares p pairs item_prices bin_prices) ≤ 4
 levels-data shares p pairs item_prices bin_prices =

@@ -147,9 +147,9 @@ old_marks version bins draining marks none marked e bin = elim (cases_lt bin bin
 ]
 
 -- What makes an instance makes it of what it was given.
-pub new_problem : (version : Version) (limits ls draining : List ℕ) (rows rs : List (List ℕ)) (pairs ps : List (ℕ × ℕ)) (made_marks marks : List Bool) (made places : List (Option ℕ)) (items bins : ℕ) → (version ≡ One → draining ≡ []) → ls ≡ limits → rs ≡ rows → ps ≡ pairs → items ≡ length rows → bins ≡ length limits → made_marks ≡ marks → made ≡ places → IsReach ls rs → IsRow (length limits) draining → IsMarked (length limits) draining marks → IsPreceding items bins ps × IsPlaced items ps places → IsProblem (record { version = version; limits = limits; draining = made_marks; rows = rows; before = made }) × (IsShaped limits draining rows pairs × IsProblemOf (record { version = version; limits = limits; draining = made_marks; rows = rows; before = made }) version limits draining rows pairs)
-new_problem version limits ls draining rows rs pairs ps made_marks marks made places items bins old ls_is rs_is ps_is items_is bins_is marks_is made_is reach row marked h =
-    let same_reach : IsReach limits rows = subst (λ (xs : List ℕ). IsReach xs rows) ls_is (subst (λ (xs : List (List ℕ)). IsReach ls xs) rs_is reach) in
+pub new_problem : (version : Version) (limits ls draining : List ℕ) (rows : List (List ℕ)) (pairs ps : List (ℕ × ℕ)) (made_marks marks : List Bool) (made places : List (Option ℕ)) (items bins : ℕ) → (version ≡ One → draining ≡ []) → ls ≡ limits → ps ≡ pairs → items ≡ length rows → bins ≡ length limits → made_marks ≡ marks → made ≡ places → IsReach ls rows → IsRow (length limits) draining → IsMarked (length limits) draining marks → IsPreceding items bins ps × IsPlaced items ps places → IsProblem (record { version = version; limits = limits; draining = made_marks; rows = rows; before = made }) × (IsShaped limits draining rows pairs × IsProblemOf (record { version = version; limits = limits; draining = made_marks; rows = rows; before = made }) version limits draining rows pairs)
+new_problem version limits ls draining rows pairs ps made_marks marks made places items bins old ls_is ps_is items_is bins_is marks_is made_is reach row marked h =
+    let same_reach : IsReach limits rows = subst (λ (xs : List ℕ). IsReach xs rows) ls_is reach in
     let same_marked : IsMarked (length limits) draining made_marks = subst (λ (xs : List Bool). IsMarked (length limits) draining xs) (sym marks_is) marked in
     let preceding : IsPreceding (length rows) (length limits) pairs = subst (λ (xs : List (ℕ × ℕ)). IsPreceding (length rows) (length limits) xs) ps_is (subst (λ (n : ℕ). IsPreceding n (length limits) ps) items_is (subst (λ (n : ℕ). IsPreceding items n ps) bins_is h.0)) in
     let placed : IsPlaced (length rows) pairs made = subst (λ (xs : List (Option ℕ)). IsPlaced (length rows) pairs xs) (sym made_is) (subst (λ (n : ℕ). IsPlaced n pairs places) items_is (subst (λ (xs : List (ℕ × ℕ)). IsPlaced items xs places) ps_is h.1)) in (

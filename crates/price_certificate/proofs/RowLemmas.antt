@@ -4,13 +4,13 @@ use Rattle.std.specs.Prelude.{nat_eq, not}
 use Rattle.std.specs.Cmp.Lexicographic.{pointwise}
 use Rattle.std.specs.List.{range_with_len}
 use Rattle.std.proofs.lemmas.Slice.Eq.{slice_eq-Decides}
-use Rattle.std.proofs.Math.ListN.{get_or-map}
+use Rattle.std.proofs.Math.ListN.{get_or-map as get_or-map-default}
 use Rattle.std.proofs.lemmas.Bool.{cases_lt, le-leb}
-use Rattle.std.proofs.lemmas.List.{get_or_past, take_all, take_more}
+use Rattle.std.proofs.lemmas.List.{get_or-map, get_or_past, length-map, map-id, take_all, take_more}
 use Rattle.std.proofs.lemmas.List.FromFn.{map-range_with_len_more}
 use Rattle.std.proofs.lemmas.List.Elements.{All-cons, All-get_or, All-head, All-nil, All-tail, All-weaker}
 use Rattle.std.proofs.lemmas.List.Sums.{sum_by-cons}
-use Rattle.price_certificate.specs.Problem.{Problem, IsRow, items_of, row_of, was_in, weight_of, weight_by, worth_at, drains}
+use Rattle.price_certificate.specs.Problem.{Problem, IsRow, items_of, row_of, was_in, weight_of, weight_by, bin_worth, drains}
 use Rattle.price_certificate.specs.Derived.{open_bins}
 use Rattle.price_certificate.specs.Faults.{IsEnough, AreEnough, IsEnoughForEach, bin_at, price_fault_at, row_fault}
 use Rattle.price_certificate.specs.Reach.{pairs_of}
@@ -35,33 +35,24 @@ rows_below lists (suc n) l =
     (map-range_with_len_more (row_at lists) 0 n n (omega arith) ∙ ap (λ (xs : List (List ℕ)). xs ++ row_at lists n ∷ []) (rows_below lists n (omega (arith, l))) ∙ sym (take_more lists n [] (omega (arith, l))))
 
 -- one number more
-id_map : (xs : List ℕ) → map (λ (x : ℕ). x) xs ≡ xs
-id_map [] = refl
-id_map (x ∷ xs) = ap (λ (ys : List ℕ). x ∷ ys) (id_map xs)
-
 pub numbers_more : (n : ℕ) → range_with_len 0 (n + 1) ≡ range_with_len 0 n ++ n ∷ []
-numbers_more n = sym (id_map (range_with_len 0 (n + 1))) ∙ map-range_with_len_more (λ (x : ℕ). x) 0 n n (omega arith) ∙ ap (λ (xs : List ℕ). xs ++ n ∷ []) (id_map (range_with_len 0 n))
+numbers_more n = sym (map-id (range_with_len 0 (n + 1))) ∙ map-range_with_len_more (λ (x : ℕ). x) 0 n n (omega arith) ∙ ap (λ (xs : List ℕ). xs ++ n ∷ []) (map-id (range_with_len 0 n))
 
 pub one_each : (lists : List (List ℕ)) → map (row_at lists) (range_with_len 0 (length lists)) ≡ lists
 one_each lists = rows_below lists (length lists) (omega arith) ∙ take_all (length lists) lists (omega arith)
 
 -- the row of an item is the list of its number
-pub row_by : (lists : List (List ℕ)) (numbers : List ℕ) (item : ℕ) → item < length numbers → get_or (map (row_at lists) numbers) item [] ≡ row_at lists (get_or numbers item 0)
-row_by lists numbers item l = get_or-map-here (row_at lists) numbers item 0 [] l
-  where
-    get_or-map-here : (f : ℕ → List ℕ) (xs : List ℕ) (i d : ℕ) (e : List ℕ) → i < length xs → get_or (map f xs) i e ≡ f (get_or xs i d)
-    get_or-map-here f [] i d e l = absurd (omega (arith, l))
-    get_or-map-here f (x ∷ xs) zero d e l = refl
-    get_or-map-here f (x ∷ xs) (suc i) d e l = get_or-map-here f xs i d e (omega (arith, l))
+pub row_by : (lists : List (List ℕ)) (list_of : List ℕ) (item : ℕ) → item < length list_of → get_or (map (row_at lists) list_of) item [] ≡ row_at lists (get_or list_of item 0)
+row_by lists list_of item l = get_or-map (row_at lists) list_of item 0 [] l
 
 -- how many pairs there are
-pub pairs_by : (lists : List (List ℕ)) (numbers : List ℕ) → sum_by (λ (row : List ℕ). length row) (map (row_at lists) numbers) ≡ pairs_of lists numbers
+pub pairs_by : (lists : List (List ℕ)) (list_of : List ℕ) → sum_by (λ (row : List ℕ). length row) (map (row_at lists) list_of) ≡ pairs_of lists list_of
 pairs_by lists [] = refl
-pairs_by lists (number ∷ numbers) = omega (
+pairs_by lists (number ∷ list_of) = omega (
   arith,
-  sum_by-cons (λ (row : List ℕ). length row) (row_at lists number) (map (row_at lists) numbers),
-  sum_by-cons (λ (n : ℕ). length (row_at lists n)) number numbers,
-  pairs_by lists numbers,
+  sum_by-cons (λ (row : List ℕ). length row) (row_at lists number) (map (row_at lists) list_of),
+  sum_by-cons (λ (n : ℕ). length (row_at lists n)) number list_of,
+  pairs_by lists list_of,
 )
 
 -- where each list is a row, so is that of each number
@@ -71,18 +62,14 @@ all_at P lists none all number = elim (cases_lt number (length lists)) [
   | inr g ↦ subst P (sym (get_or_past lists number [] (omega (arith, g)))) none
 ]
 
-pub all_by : (P : List ℕ → Type 0) (lists : List (List ℕ)) → P [] → All P lists → (numbers : List ℕ) → All P (map (row_at lists) numbers)
+pub all_by : (P : List ℕ → Type 0) (lists : List (List ℕ)) → P [] → All P lists → (list_of : List ℕ) → All P (map (row_at lists) list_of)
 all_by P lists none all [] = All-nil P
-all_by P lists none all (number ∷ numbers) = All-cons P (row_at lists number) (map (row_at lists) numbers) (all_at P lists none all number) (all_by P lists none all numbers)
+all_by P lists none all (number ∷ list_of) = All-cons P (row_at lists number) (map (row_at lists) list_of) (all_at P lists none all number) (all_by P lists none all list_of)
 
 -- a property of the lists of these numbers
-pub all_to : (P : List ℕ → Type 0) (lists : List (List ℕ)) (numbers : List ℕ) → All (λ number. P (row_at lists number)) numbers → All P (map (row_at lists) numbers)
-all_to P lists [] h = All-nil P
-all_to P lists (number ∷ numbers) h = All-cons P (row_at lists number) (map (row_at lists) numbers) (All-head (λ n. P (row_at lists n)) number numbers h) (all_to P lists numbers (All-tail (λ n. P (row_at lists n)) number numbers h))
-
-pub all_from : (P : List ℕ → Type 0) (lists : List (List ℕ)) (numbers : List ℕ) → All P (map (row_at lists) numbers) → All (λ number. P (row_at lists number)) numbers
+pub all_from : (P : List ℕ → Type 0) (lists : List (List ℕ)) (list_of : List ℕ) → All P (map (row_at lists) list_of) → All (λ number. P (row_at lists number)) list_of
 all_from P lists [] h = All-nil (λ n. P (row_at lists n))
-all_from P lists (number ∷ numbers) h = All-cons (λ n. P (row_at lists n)) number numbers (All-head P (row_at lists number) (map (row_at lists) numbers) h) (all_from P lists numbers (All-tail P (row_at lists number) (map (row_at lists) numbers) h))
+all_from P lists (number ∷ list_of) h = All-cons (λ n. P (row_at lists n)) number list_of (All-head P (row_at lists number) (map (row_at lists) list_of) h) (all_from P lists list_of (All-tail P (row_at lists number) (map (row_at lists) list_of) h))
 
 -- no bin is a row
 pub no_row : (bins : ℕ) → IsRow bins []
@@ -90,33 +77,29 @@ no_row bins = record { ascending = λ k l. absurd (omega (arith, l)); in_range =
 
 -- what is open of each list is open of each row
 open_at : (caps : List ℕ) (lists : List (List ℕ)) (number : ℕ) → row_at (map (open_bins caps) lists) number ≡ open_bins caps (row_at lists number)
-open_at caps lists number = get_or-map (open_bins caps) lists number []
+open_at caps lists number = get_or-map-default (open_bins caps) lists number []
 
-pub open_by : (caps : List ℕ) (lists : List (List ℕ)) (numbers : List ℕ) → map (row_at (map (open_bins caps) lists)) numbers ≡ map (open_bins caps) (map (row_at lists) numbers)
+pub open_by : (caps : List ℕ) (lists : List (List ℕ)) (list_of : List ℕ) → map (row_at (map (open_bins caps) lists)) list_of ≡ map (open_bins caps) (map (row_at lists) list_of)
 open_by caps lists [] = refl
-open_by caps lists (number ∷ numbers) =
-    ap (λ (x : List ℕ). x ∷ map (row_at (map (open_bins caps) lists)) numbers) (open_at caps lists number)
-    ∙ ap (λ (xs : List (List ℕ)). open_bins caps (row_at lists number) ∷ xs) (open_by caps lists numbers)
+open_by caps lists (number ∷ list_of) =
+    ap (λ (x : List ℕ). x ∷ map (row_at (map (open_bins caps) lists)) list_of) (open_at caps lists number)
+    ∙ ap (λ (xs : List (List ℕ)). open_bins caps (row_at lists number) ∷ xs) (open_by caps lists list_of)
 
 -- ---- prices that are enough
 
 pub enough_none : (p : Problem) (vs : List ℕ) (price : ℕ) → IsEnough p vs price []
-enough_none p vs price = All-nil (λ bin. worth_at p bin ≤ price + get_or vs bin 0)
+enough_none p vs price = All-nil (λ bin. bin_worth p bin ≤ price + get_or vs bin 0)
 
 pub enough_more : (p : Problem) (vs : List ℕ) (price other : ℕ) (row : List ℕ) → price ≤ other → IsEnough p vs price row → IsEnough p vs other row
-enough_more p vs price other row l h = All-weaker (λ bin. worth_at p bin ≤ price + get_or vs bin 0) (λ bin. worth_at p bin ≤ other + get_or vs bin 0) (λ bin m. omega (arith, l, m)) row h
+enough_more p vs price other row l h = All-weaker (λ bin. bin_worth p bin ≤ price + get_or vs bin 0) (λ bin. bin_worth p bin ≤ other + get_or vs bin 0) (λ bin m. omega (arith, l, m)) row h
 
-pub enough_each : (p : Problem) (vs prices : List ℕ) (lists : List (List ℕ)) (numbers : List ℕ) → AreEnough p vs prices lists → p.rows ≡ map (row_at lists) numbers → IsEnoughForEach p vs prices numbers
+pub enough_each : (p : Problem) (vs prices : List ℕ) (lists : List (List ℕ)) (list_of : List ℕ) → AreEnough p vs prices lists → p.rows ≡ map (row_at lists) list_of → IsEnoughForEach p vs prices list_of
 unfolding row_of
-enough_each p vs prices lists numbers h e item l =
-    let count : item < length numbers = omega (arith, l, ap (λ (xs : List (List ℕ)). length xs) e, length-by numbers) in
-    subst (IsEnough p vs (get_or prices (get_or numbers item 0) 0)) (sym (ap (λ (xs : List (List ℕ)). get_or xs item []) e ∙ row_by lists numbers item count)) (h (get_or numbers item 0))
-  where
-    length-by : (numbers : List ℕ) → length (map (row_at lists) numbers) ≡ length numbers
-    length-by [] = refl
-    length-by (x ∷ xs) = ap (λ (n : ℕ). suc n) (length-by xs)
+enough_each p vs prices lists list_of h e item l =
+    let count : item < length list_of = omega (arith, l, ap (λ (xs : List (List ℕ)). length xs) e, length-map list_of (row_at lists)) in
+    subst (IsEnough p vs (get_or prices (get_or list_of item 0) 0)) (sym (ap (λ (xs : List (List ℕ)). get_or xs item []) e ∙ row_by lists list_of item count)) (h (get_or list_of item 0))
 
-elsewhere : (p : Problem) (item bin : ℕ) → was_in p item bin ≡ false → weight_of p item bin ≡ worth_at p bin
+elsewhere : (p : Problem) (item bin : ℕ) → was_in p item bin ≡ false → weight_of p item bin ≡ bin_worth p bin
 elsewhere p item bin e = ap (λ (b : Bool). weight_by p.version (items_of p) (drains p bin) b) e
 
 pub row_priced : (p : Problem) (us vs : List ℕ) (item price : ℕ) → IsEnough p vs price (row_of p item) → price ≤ get_or us item 0 → ((bin : ℕ) → was_in p item bin ≡ true → weight_of p item bin ≤ get_or us item 0 + get_or vs bin 0) → row_fault p us vs item ≡ None
@@ -130,5 +113,5 @@ row_priced p us vs item price enough below home =
       arith,
       below,
       elsewhere p item (bin_at p item place) other,
-      All-get_or (λ bin. worth_at p bin ≤ price + get_or vs bin 0) (row_of p item) place 0 l enough,
+      All-get_or (λ bin. bin_worth p bin ≤ price + get_or vs bin 0) (row_of p item) place 0 l enough,
     )

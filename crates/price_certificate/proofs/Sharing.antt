@@ -49,9 +49,9 @@ is_place p firsts item number same = ap (λ (b : Bool). cond b (Some number) Non
 -- ---- the lists of the items so far
 
 record IsShared (p : Problem) (n : ℕ) (s : Sharing) : Type 0 where
-  each : length s.numbers ≡ n
-  below : All (λ (number : ℕ). number < length s.firsts) s.numbers
-  rows : map (row_at (map (row_of p) s.firsts)) s.numbers ≡ take n p.rows
+  each : length s.list_of ≡ n
+  below : All (λ (number : ℕ). number < length s.firsts) s.list_of
+  rows : map (row_at (map (row_of p) s.firsts)) s.list_of ≡ take n p.rows
 
 row_written : (p : Problem) (firsts : List ℕ) (number : ℕ) → number < length firsts → row_at (map (row_of p) firsts) number ≡ row_of p (get_or firsts number 0)
 row_written p firsts number l = get_or-map (row_of p) firsts number 0 [] l
@@ -66,12 +66,12 @@ take_suc rows n l =
     subst (λ (k : ℕ). take k rows ≡ take n rows ++ get_or rows n [] ∷ []) next (take_more rows n [] l)
 
 -- one list more stands behind the others
-rows_stay : (rows : List (List ℕ)) (row : List ℕ) (numbers : List ℕ) → All (λ (number : ℕ). number < length rows) numbers → map (row_at (rows ++ row ∷ [])) numbers ≡ map (row_at rows) numbers
+rows_stay : (rows : List (List ℕ)) (row : List ℕ) (list_of : List ℕ) → All (λ (number : ℕ). number < length rows) list_of → map (row_at (rows ++ row ∷ [])) list_of ≡ map (row_at rows) list_of
 rows_stay rows row [] below = refl
-rows_stay rows row (number ∷ numbers) below =
+rows_stay rows row (number ∷ list_of) below =
     let P = λ (k : ℕ). k < length rows in
-    let here : row_at (rows ++ row ∷ []) number ≡ row_at rows number = get_or-append rows (row ∷ []) [] number (All-head P number numbers below) in
-    ap (λ (x : List ℕ). x ∷ map (row_at (rows ++ row ∷ [])) numbers) here ∙ ap (λ (xs : List (List ℕ)). row_at rows number ∷ xs) (rows_stay rows row numbers (All-tail P number numbers below))
+    let here : row_at (rows ++ row ∷ []) number ≡ row_at rows number = get_or-append rows (row ∷ []) [] number (All-head P number list_of below) in
+    ap (λ (x : List ℕ). x ∷ map (row_at (rows ++ row ∷ [])) list_of) here ∙ ap (λ (xs : List (List ℕ)). row_at rows number ∷ xs) (rows_stay rows row list_of (All-tail P number list_of below))
 
 shared_more : (p : Problem) (n number : ℕ) (s : Sharing) → IsShared p n s → n < length p.rows → place_of p s.firsts n ≡ Some number → IsShared p (suc n) (with_place (Some number) n s)
 shared_more p n number s h l e =
@@ -80,10 +80,10 @@ shared_more p n number s h l e =
     let R = map (row_of p) s.firsts in
     let row : row_at R number ≡ get_or p.rows n [] = row_written p s.firsts number place.0 ∙ place.1 ∙ row_is p n in
     record {
-      each = omega (arith, length-append s.numbers (number ∷ []), h.each);
-      below = All-append P s.numbers (number ∷ []) h.below (All-cons P number [] place.0 (All-nil P));
+      each = omega (arith, length-append s.list_of (number ∷ []), h.each);
+      below = All-append P s.list_of (number ∷ []) h.below (All-cons P number [] place.0 (All-nil P));
       rows =
-          map-append (row_at R) s.numbers (number ∷ []) ∙ ap (λ (xs : List (List ℕ)). xs ++ row_at R number ∷ []) h.rows
+          map-append (row_at R) s.list_of (number ∷ []) ∙ ap (λ (xs : List (List ℕ)). xs ++ row_at R number ∷ []) h.rows
           ∙ ap (λ (x : List ℕ). take n p.rows ++ x ∷ []) row ∙ sym (take_suc p.rows n l);
     }
 
@@ -92,18 +92,18 @@ own_more p n s h l =
     let R = map (row_of p) s.firsts in
     let wide = length-append s.firsts (n ∷ []) in
     let all : map (row_of p) (s.firsts ++ n ∷ []) ≡ R ++ row_of p n ∷ [] = map-append (row_of p) s.firsts (n ∷ []) in
-    let few = All-weaker (λ (k : ℕ). k < length s.firsts) (λ (k : ℕ). k < length R) (λ k m. omega (arith, length-map s.firsts (row_of p))) s.numbers h.below in
+    let few = All-weaker (λ (k : ℕ). k < length s.firsts) (λ (k : ℕ). k < length R) (λ k m. omega (arith, length-map s.firsts (row_of p))) s.list_of h.below in
     let last : row_at (R ++ row_of p n ∷ []) (length s.firsts) ≡ row_of p n = get_or_push R (row_of p n) [] (length s.firsts) (length-map s.firsts (row_of p)) in
     record {
-      each = omega (arith, length-append s.numbers (length s.firsts ∷ []), h.each);
+      each = omega (arith, length-append s.list_of (length s.firsts ∷ []), h.each);
       below =
-          All-append (λ (k : ℕ). k < length (s.firsts ++ n ∷ [])) s.numbers (length s.firsts ∷ [])
-          (All-weaker (λ (k : ℕ). k < length s.firsts) (λ (k : ℕ). k < length (s.firsts ++ n ∷ [])) (λ k m. omega (arith, wide)) s.numbers h.below)
+          All-append (λ (k : ℕ). k < length (s.firsts ++ n ∷ [])) s.list_of (length s.firsts ∷ [])
+          (All-weaker (λ (k : ℕ). k < length s.firsts) (λ (k : ℕ). k < length (s.firsts ++ n ∷ [])) (λ k m. omega (arith, wide)) s.list_of h.below)
           (All-cons (λ (k : ℕ). k < length (s.firsts ++ n ∷ [])) (length s.firsts) [] (omega (arith, wide)) (All-nil (λ (k : ℕ). k < length (s.firsts ++ n ∷ []))));
       rows =
-          ap (λ (rows : List (List ℕ)). map (row_at rows) (s.numbers ++ length s.firsts ∷ [])) all
-          ∙ map-append (row_at (R ++ row_of p n ∷ [])) s.numbers (length s.firsts ∷ [])
-          ∙ ap (λ (xs : List (List ℕ)). xs ++ row_at (R ++ row_of p n ∷ []) (length s.firsts) ∷ []) (rows_stay R (row_of p n) s.numbers few ∙ h.rows)
+          ap (λ (rows : List (List ℕ)). map (row_at rows) (s.list_of ++ length s.firsts ∷ [])) all
+          ∙ map-append (row_at (R ++ row_of p n ∷ [])) s.list_of (length s.firsts ∷ [])
+          ∙ ap (λ (xs : List (List ℕ)). xs ++ row_at (R ++ row_of p n ∷ []) (length s.firsts) ∷ []) (rows_stay R (row_of p n) s.list_of few ∙ h.rows)
           ∙ ap (λ (x : List ℕ). take n p.rows ++ x ∷ []) (last ∙ row_is p n) ∙ sym (take_suc p.rows n l);
     }
 
@@ -125,18 +125,18 @@ allowed : (b : Bool) (rows : List (List ℕ)) → b ≡ true → cond b (Some ro
 allowed true rows e = refl
 allowed false rows e = cc
 
-pub reads_back : (p : Problem) → IsProblem p → shared_rows (map (row_of p) (sharing_of p).firsts) (sharing_of p).numbers ≡ Some p.rows
+pub reads_back : (p : Problem) → IsProblem p → shared_rows (map (row_of p) (sharing_of p).firsts) (sharing_of p).list_of ≡ Some p.rows
 reads_back p h =
     let s = sharing_of p in
     let R = map (row_of p) s.firsts in
     let is = shared_below p (items_of p) (omega arith) in
-    let whole : map (row_at R) s.numbers ≡ p.rows = is.rows ∙ take_all (items_of p) p.rows (omega arith) in
-    let few : pairs_of R s.numbers ≤ 4194304 = omega (arith, sum_written (row_at R) s.numbers, ap (sum_by (λ (row : List ℕ). length row)) whole, h.reach.pairs) in
-    let numbers = all_from (λ (k : ℕ). nat_lt k (length R)) (λ (k : ℕ). k < length s.firsts) (λ k l. lt-ltb k (length R) (omega (arith, l, length-map s.firsts (row_of p)))) s.numbers is.below in
-    let may : may_share R s.numbers ≡ true = and_from _ _ numbers (and_from _ _ (le-leb _ _ (omega (arith, is.each, h.reach.items))) (le-leb _ _ few)) in
-    allowed (may_share R s.numbers) (map (row_at R) s.numbers) may ∙ ap (λ (rows : List (List ℕ)). Some rows) whole
+    let whole : map (row_at R) s.list_of ≡ p.rows = is.rows ∙ take_all (items_of p) p.rows (omega arith) in
+    let few : pairs_of R s.list_of ≤ 4194304 = omega (arith, sum_written (row_at R) s.list_of, ap (sum_by (λ (row : List ℕ). length row)) whole, h.reach.pairs) in
+    let numbers = all_from (λ (k : ℕ). nat_lt k (length R)) (λ (k : ℕ). k < length s.firsts) (λ k l. lt-ltb k (length R) (omega (arith, l, length-map s.firsts (row_of p)))) s.list_of is.below in
+    let may : may_share R s.list_of ≡ true = and_from _ _ numbers (and_from _ _ (le-leb _ _ (omega (arith, is.each, h.reach.items))) (le-leb _ _ few)) in
+    allowed (may_share R s.list_of) (map (row_at R) s.list_of) may ∙ ap (λ (rows : List (List ℕ)). Some rows) whole
 
 -- ---- too many pairs
 
-pub too_many : (rows : List (List ℕ)) (numbers : List ℕ) (i left : ℕ) → i < length numbers → left + pairs_of rows (take i numbers) ≡ 4194304 → left < length (row_at rows (get_or numbers i 0)) → pairs_of rows numbers ≤ 4194304 → ⊥
-too_many rows numbers i left l so_far more few = absurd (omega (arith, so_far, more, few, sum_by_more_le (λ number. length (row_at rows number)) numbers i 0 l))
+pub too_many : (rows : List (List ℕ)) (list_of : List ℕ) (i left : ℕ) → i < length list_of → left + pairs_of rows (take i list_of) ≡ 4194304 → left < length (row_at rows (get_or list_of i 0)) → pairs_of rows list_of ≤ 4194304 → ⊥
+too_many rows list_of i left l so_far more few = absurd (omega (arith, so_far, more, few, sum_by_more_le (λ number. length (row_at rows number)) list_of i 0 l))

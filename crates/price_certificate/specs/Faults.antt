@@ -2,7 +2,7 @@
 -- before the next.
 use Rattle.std.specs.Prelude.{ℕ, zero, suc, Bool, true, false, List, All, Option, Some, None, ◌≡◌, ◌<◌, ◌≤◌, ◌↔◌, ◌⊎◌, ◌+◌, ◌-◌, ◌*◌, ◌==◌, ◌&&◌, not, nat_lt, nat_le, length, slice_index, slice_index_or, take, if◌then◌else◌}
 use Rattle.std.specs.List.{list_any}
-use Rattle.price_certificate.specs.Problem.{Problem, IsAllowed, IsProblem, items_of, bins_of, row_of, capacity_of, cover_worth, steady_worth, weight_of, worth_at}
+use Rattle.price_certificate.specs.Problem.{Problem, IsAllowed, IsProblem, items_of, bins_of, row_of, capacity_of, cover_worth, steady_worth, weight_of, bin_worth}
 use Rattle.price_certificate.specs.Rows.{row_at}
 use Rattle.price_certificate.specs.Assignment.{uses_of_bin, covered, left, kept, moved}
 use Rattle.price_certificate.specs.Certificate.{IsCertified, value_of, worth_of}
@@ -81,7 +81,7 @@ price_fault p item_prices bin_prices = first_below (row_fault p item_prices bin_
 
 -- a price is enough for an item with these bins, unless it was at one of them
 abbrev pub IsEnough : Problem → List ℕ → ℕ → List ℕ → Type 0
-IsEnough p bin_prices price row = All (λ bin. worth_at p bin ≤ price + slice_index bin_prices bin) row
+IsEnough p bin_prices price row = All (λ bin. bin_worth p bin ≤ price + slice_index bin_prices bin) row
 
 -- for each list of bins such a price
 abbrev pub AreEnough : Problem → List ℕ → List ℕ → List (List ℕ) → Type 0

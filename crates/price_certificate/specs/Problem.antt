@@ -75,8 +75,8 @@ abbrev pub weight_of : Problem → ℕ → ℕ → ℕ
 weight_of p item bin = weight_by p.version (items_of p) (drains p bin) (was_in p item bin)
 
 -- what the pair of a bin and an item that was elsewhere is worth
-abbrev pub worth_at : Problem → ℕ → ℕ
-worth_at p bin = weight_by p.version (items_of p) (drains p bin) false
+abbrev pub bin_worth : Problem → ℕ → ℕ
+bin_worth p bin = weight_by p.version (items_of p) (drains p bin) false
 
 -- no pair is worth more
 unfoldable pub top_weight : Problem → ℕ

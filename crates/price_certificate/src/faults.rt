@@ -2,7 +2,7 @@
 
 ghost use Rattle.std.specs.Prelude.{◌≡◌, ◌==◌, ◌+◌, ◌*◌, ◌<◌, ◌≤◌, ℕ, Option, None, true, false, IfOk, IsTrue, length, replicate, slice_index, sum};
 ghost use Rattle.std.specs.List.{list_any};
-ghost use Rattle.price_certificate.specs.Problem.{items_of, bins_of, capacity_of, row_of, was_in, weight_of, worth_at};
+ghost use Rattle.price_certificate.specs.Problem.{items_of, bins_of, capacity_of, row_of, was_in, weight_of, bin_worth};
 ghost use Rattle.price_certificate.specs.Assignment.{left, kept};
 ghost use Rattle.price_certificate.specs.Certificate.{sum_below};
 ghost use Rattle.price_certificate.specs.Faults.{pair_at, length_fault, number_fault, repeat_fault, reach_fault, limit_fault, row_fault, price_fault, sum_fault, weight_sum, AreEnough, IsCounted, IsEnough, IsEnoughForEach};
@@ -198,9 +198,9 @@ fn enough_price(instance: &Instance, row: &[u32], bin_prices: &[u32]) -> u64
 
 /// What a bin's price lacks of what the bin is worth with an item that was elsewhere.
 fn lack(instance: &Instance, bin: u32, bin_prices: &[u32]) -> u64
-    ensures { worth_at instance.now bin ≤ result + slice_index bin_prices.now bin }
+    ensures { bin_worth instance.now bin ≤ result + slice_index bin_prices.now bin }
 {
-    let worth = instance.worth_at(bin as usize);
+    let worth = instance.bin_worth(bin as usize);
     match bin_prices.get(bin as usize) {
         Some(price) => u64::from(worth.saturating_sub(*price)),
         None => u64::from(worth),
@@ -244,8 +244,8 @@ fn enough_for(list_of: &[u32], enough: &[u64], item: usize) -> u64
     }
 }
 
-/// The least bin that is priced below its weight with this item. The bins are looked at where the item's price is not enough, or where
-/// it was at one of them.
+/// The least bin that is priced below its weight with this item. The bins are looked at where the item's price is not enough for its
+/// list, or where the bin where it was, in the list or not, is priced below its weight with it.
 fn find_low_bin(
     instance: &Instance,
     item: usize,

@@ -1,6 +1,6 @@
 //! Instances: what is asked of a plan.
 ghost use Rattle.std.specs.Prelude.{◌≡◌, ◌↔◌, ◌<◌, ◌≤◌, IsTrue, List, [], Some, IfOk, slice_index, count_by, is_some, if◌then◌else◌};
-ghost use Rattle.price_certificate.specs.Problem.{Problem, IsProblem, IsShaped, IsProblemOf, items_of, bins_of, drains, row_of, before_of, before_count, capacity_by, capacity_of, cover_worth, steady_worth, was_in, weight_of, worth_at, top_weight};
+ghost use Rattle.price_certificate.specs.Problem.{Problem, IsProblem, IsShaped, IsProblemOf, items_of, bins_of, drains, row_of, before_of, before_count, capacity_by, capacity_of, cover_worth, steady_worth, was_in, weight_of, bin_worth, top_weight};
 ghost use Rattle.price_certificate.specs.Rows.{rows_of};
 ghost use Rattle.price_certificate.specs.declared.version.Version.TheVariants.{One, Two};
 
@@ -252,13 +252,13 @@ impl Instance {
     pub fn weight(&self, item: usize, bin: usize) -> u32
         ensures { result ≡ weight_of self.now item bin }
     {
-        self.worth_at(bin) + self.kept_worth(item, bin)
+        self.bin_worth(bin) + self.kept_worth(item, bin)
     }
 
     /// What the pair of a bin and an item that was elsewhere is worth.
     #[tactic(auto, unfolding(crate::specs::Problem::weight_by))]
-    pub(crate) fn worth_at(&self, bin: usize) -> u32
-        ensures worth { result ≡ worth_at self.now bin }
+    pub(crate) fn bin_worth(&self, bin: usize) -> u32
+        ensures worth { result ≡ bin_worth self.now bin }
         ensures most { result ≤ 268484610 }
     {
         match self.version {

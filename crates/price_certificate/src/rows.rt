@@ -35,9 +35,9 @@ pub(crate) fn one_each(alloc: Global, lists: List<List<u32>>) -> Result<Rows, Al
     ensures { IfOk result (λ r. rows_of r ≡ lists) }
 {
     match numbers_below(alloc, lists.len()) {
-        Ok(numbers) => Ok(Rows {
+        Ok(list_of) => Ok(Rows {
             lists,
-            list_of: List::from_vec(numbers),
+            list_of: List::from_vec(list_of),
         }),
         Err(error) => {
             drop(lists);
@@ -94,11 +94,11 @@ pub(crate) fn same_rows(rows: &Rows, others: &Rows) -> bool
 }
 
 /// Whether the items have no more than the most pairs.
-pub(crate) fn has_few_pairs(lists: &[List<u32>], numbers: &[u32]) -> bool
-    ensures { IsTrue result ↔ (pairs_of lists.now numbers.now ≤ MOST_PAIRS) }
+pub(crate) fn has_few_pairs(lists: &[List<u32>], list_of: &[u32]) -> bool
+    ensures { IsTrue result ↔ (pairs_of lists.now list_of.now ≤ MOST_PAIRS) }
 {
     let mut left = MOST_PAIRS;
-    for number in numbers {
+    for number in list_of {
         let length = row_at(lists, *number).len();
         if length > left {
             return false;
@@ -129,10 +129,10 @@ fn are_rows(bins: usize, lists: &[List<u32>]) -> bool
 }
 
 /// Whether each list of these numbers is.
-fn are_rows_at(bins: usize, lists: &[List<u32>], numbers: &[u32]) -> bool
-    ensures { IsTrue result ↔ All (IsRow bins) (map (row_at lists.now) numbers.now) }
+fn are_rows_at(bins: usize, lists: &[List<u32>], list_of: &[u32]) -> bool
+    ensures { IsTrue result ↔ All (IsRow bins) (map (row_at lists.now) list_of.now) }
 {
-    for number in numbers {
+    for number in list_of {
         if !is_row(bins, row_at(lists, *number)) {
             return false;
         }

@@ -52,6 +52,14 @@ is_reached_at rows place number = option_map_or (λ row. answer_in row number) (
 abbrev pub row_as : ℕ → List ReachRule → List ReachRow → ℕ → List ℕ → ReachRow
 row_as id rules rows place numbers = record { id = id; rules = rules; reached = map (is_reached_at rows place) numbers }
 
+-- what the collector at a place reaches. Where there is none it is nothing
+abbrev pub reached_in : List ReachRow → ℕ → List Bool
+reached_in rows place = option_map_or (λ row. row.reached) (slice_get rows place) []
+
+-- the row of a collector that reaches what the one at a place of these rows does
+abbrev pub row_like : ℕ → List ReachRule → List ReachRow → ℕ → ReachRow
+row_like id rules rows place = record { id = id; rules = rules; reached = reached_in rows place }
+
 -- ---- how the rows are kept
 
 abbrev pub shown : Row → ReachRow

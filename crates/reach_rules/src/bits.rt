@@ -84,6 +84,17 @@ impl BitRow {
         self.count = count;
     }
 
+    /// The same bits.
+    pub(crate) fn copy(&self) -> Result<BitRow, AllocError>
+        ensures { IfOk result (λ row. row.bits ≡ self.now.bits) }
+    {
+        let words = Vec::from_slice(*self.words.allocator(), self.words.as_slice())?;
+        Ok(BitRow {
+            words,
+            count: self.count,
+        })
+    }
+
     /// The bit of a number. Past the last it is false.
     pub(crate) fn has(&self, number: usize) -> bool
         ensures { result ≡ slice_index_or self.now.bits number false }

@@ -1,6 +1,6 @@
 //! Which of the collectors that joined reach which of the targets that appeared, as a table of bits.
 ghost use Rattle.std.specs.Prelude.{◌≡◌, ◌<◌, ◌≤◌, ◌==◌, ◌++◌, ◌∷◌, [], not, filter, length, map, IfOk, OnOk, OnErr};
-ghost use Rattle.reach_rules.specs.Table.{answered, is_reached, is_reached_at, row_as, row_of, rows_without, shown, spare_in};
+ghost use Rattle.reach_rules.specs.Table.{answered, is_reached, is_reached_at, reached_in, row_as, row_like, row_of, rows_without, shown, spare_in};
 ghost use Rattle.reach_rules.specs.declared.row.Row.{Row};
 
 use crate::bits::BitRow;
@@ -90,6 +90,17 @@ impl ReachTable {
         Ok(())
     }
 
+    /// A collector joins, and its rules are not asked: it reaches what the collector at a place does, in order of joining.
+    pub fn join_like(&mut self, id: u32, reach: &Reach, place: usize) -> Result<(), AllocError>
+        ensures ok { OnOk result (self.new.rows ≡ self.old.rows ++ row_like id reach.now self.old.rows place ∷ []) }
+        ensures err { OnErr result (self.new.rows ≡ self.old.rows) }
+    {
+        let reached = reached_like(self.alloc, self.rows.as_slice(), place)?;
+        let row = row_with(id, reach, reached)?;
+        self.rows.push(row)?;
+        Ok(())
+    }
+
     /// A collector leaves, and its row is given up. It takes no memory.
     pub fn leave(&mut self, id: u32)
         ensures { self.new.rows ≡ rows_without self.old.rows id }
@@ -136,6 +147,16 @@ fn push_reached(reached: &mut BitRow, table: &ReachTable, place: usize, numbers:
 {
     for number in numbers {
         reached.push_reserved(table.reaches_at(place, *number));
+    }
+}
+
+/// What the collector at a place reaches. Where there is none it is nothing.
+fn reached_like(alloc: Global, rows: &[Row], place: usize) -> Result<BitRow, AllocError>
+    ensures { IfOk result (λ reached. reached.bits ≡ reached_in (map shown rows.now) place) }
+{
+    match rows.get(place) {
+        Some(row) => row.reached.copy(),
+        None => Ok(BitRow::new(alloc)),
     }
 }
 

@@ -66,14 +66,14 @@ fn shared_rows(rows: Rows) -> Option<Rows>
     None
 }
 
-fn may_share(rows: &[List<u32>], numbers: &[u32]) -> bool
-    ensures { result ≡ may_share rows.now numbers.now }
+fn may_share(rows: &[List<u32>], list_of: &[u32]) -> bool
+    ensures { result ≡ may_share rows.now list_of.now }
 {
-    are_numbers(rows.len(), numbers) && numbers.len() <= MOST_ITEMS && has_few_pairs(rows, numbers)
+    are_numbers(rows.len(), list_of) && list_of.len() <= MOST_ITEMS && has_few_pairs(rows, list_of)
 }
 
-fn are_numbers(count: usize, numbers: &[u32]) -> bool
-    ensures { result ≡ list_all (λ number. nat_lt number count) numbers.now }
+fn are_numbers(count: usize, list_of: &[u32]) -> bool
+    ensures { result ≡ list_all (λ number. nat_lt number count) list_of.now }
 {
-    numbers.iter().all(|number| (*number as usize) < count)
+    list_of.iter().all(|number| (*number as usize) < count)
 }

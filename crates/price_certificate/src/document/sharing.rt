@@ -18,7 +18,7 @@ pub(crate) const MOST_SHARED: usize = 512;
 #[derive(Drop)]
 struct Sharing {
     firsts: Vec<u32>,
-    numbers: Vec<u32>,
+    list_of: Vec<u32>,
 }
 
 /// The lists, each once, and for each item the number of its list.
@@ -46,11 +46,11 @@ fn put_members(
     members: &mut Map<String, Value>,
 ) -> Result<(), AllocError>
     requires { members_view members.old.entries ≡ no_members }
-    ensures form { OnOk result (object (members_view members.new.entries) ≡ shared_data instance.now (record { firsts = sharing.now.firsts.items; numbers = sharing.now.numbers.items })) }
-    ensures reads_back { OnOk result (rows_in (object (members_view members.new.entries)) ≡ shared_rows (map (row_of instance.now) sharing.now.firsts.items) sharing.now.numbers.items) }
+    ensures form { OnOk result (object (members_view members.new.entries) ≡ shared_data instance.now (record { firsts = sharing.now.firsts.items; list_of = sharing.now.list_of.items })) }
+    ensures reads_back { OnOk result (rows_in (object (members_view members.new.entries)) ≡ shared_rows (map (row_of instance.now) sharing.now.firsts.items) sharing.now.list_of.items) }
 {
-    let numbers = array_of(alloc, sharing.numbers.as_slice())?;
-    put(members, alloc, "row_of", numbers)?;
+    let list_of = array_of(alloc, sharing.list_of.as_slice())?;
+    put(members, alloc, "row_of", list_of)?;
     let rows = rows_of(alloc, instance, sharing.firsts.as_slice())?;
     put(members, alloc, "rows", rows)
 }
@@ -68,20 +68,20 @@ fn rows_of(alloc: Global, instance: &Instance, items: &[u32]) -> Result<Value, A
 }
 
 fn sharing_of(alloc: Global, instance: &Instance) -> Result<Sharing, AllocError>
-    ensures { IfOk result (λ s. record { firsts = s.firsts.items; numbers = s.numbers.items } ≡ sharing_of instance.now) }
+    ensures { IfOk result (λ s. record { firsts = s.firsts.items; list_of = s.list_of.items } ≡ sharing_of instance.now) }
 {
     let mut firsts = Vec::new(alloc);
-    let mut numbers = Vec::with_capacity(alloc, instance.items())?;
+    let mut list_of = Vec::with_capacity(alloc, instance.items())?;
     for item in 0..instance.items() {
         match place_of(instance, firsts.as_slice(), item) {
-            Some(number) => numbers.push(number)?,
+            Some(number) => list_of.push(number)?,
             None => {
-                numbers.push(firsts.len() as u32)?;
+                list_of.push(firsts.len() as u32)?;
                 firsts.push(item as u32)?;
             }
         }
     }
-    Ok(Sharing { firsts, numbers })
+    Ok(Sharing { firsts, list_of })
 }
 
 /// The number of a list that is the item's, if one of the first is.

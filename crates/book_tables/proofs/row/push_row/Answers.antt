@@ -18,6 +18,6 @@ returns c =
     let t3 = string_bytes c.push_sums.new.text in
     three c.push_sums.result t0 t1 t2 t3
     (place_text c.args.file (target_text known.target)) (compact_text (string (job_name c.args.jobs.now known.job))) (sums_text c.args.number (page_of c.args.books.now c.args.number))
-    (c.in_ok-push_place.ensures ∙ ap (λ (group : List ℕ). t0 ++ place_text c.args.file group) c.text.ensures)
+    (c.in_ok-push_place.ensures ∙ ap (λ (group : List ℕ). t0 ++ place_text c.args.file group) c.text.ensures.text)
     (c.in_ok-push_job.ensures ∙ ap (λ (name : List ℕ). t1 ++ compact_text (string name)) c.job_name.ensures)
     (subst (λ (page : Page). OnOk c.push_sums.result (t3 ≡ t2 ++ sums_text c.args.number page)) c.page.ensures c.push_sums.ensures)

@@ -1,6 +1,6 @@
-use Rattle.std.proofs.Common.{◌≡◌, List, [], ◌∷◌, ◌++◌, ap, ap₂, ◌∙◌, subst, rules}
+use Rattle.std.proofs.Common.{◌≡◌, [], ◌∷◌, ◌++◌, ap, ap₂, ◌∙◌, subst, rules}
 use Rattle.std.specs.Prelude.{IsUtf8}
-use Rattle.json.specs.Print.{print, token_text}
+use Rattle.json.specs.Print.{print}
 use Rattle.json.specs.Token.{key}
 use Rattle.serde_json.specs.Written.{comma_if}
 use Rattle.json_pieces.proofs.Steps.{name_alone}

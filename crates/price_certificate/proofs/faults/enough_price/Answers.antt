@@ -2,7 +2,7 @@ use Rattle.std.proofs.Common.{◌+◌, ◌≤◌, get_or, subst, take, arith}
 use Rattle.std.proofs.lemmas.List.{take_all}
 use Rattle.std.proofs.lemmas.List.Elements.{All-more}
 use Rattle.price_certificate.specs.Faults.{IsEnough}
-use Rattle.price_certificate.specs.Problem.{worth_at}
+use Rattle.price_certificate.specs.Problem.{bin_worth}
 use Rattle.price_certificate.proofs.RowLemmas.{enough_more}
 use Rattle.price_certificate.proofs.faults.enough_price.Goals as goal
 use Rattle.price_certificate.proofs.faults.enough_price.Goals.{then-lack-price, else-lack-price}
@@ -14,7 +14,7 @@ loop-bin-preserved c =
       | then-lack-price w ↦ (omega (arith, w.price-is), omega (arith, w.price-is))
       | else-lack-price w ↦ (omega (arith, w.price-is), omega (arith, w.price-is))
     ] in
-    All-more (λ bin. worth_at c.args.instance.now bin ≤ price + get_or c.args.bin_prices.now bin 0) c.args.row.now c.loop-bin.bin-index 0 c.loop-bin-test.true
+    All-more (λ bin. bin_worth c.args.instance.now bin ≤ price + get_or c.args.bin_prices.now bin 0) c.args.row.now c.loop-bin.bin-index 0 c.loop-bin-test.true
     (enough_more c.args.instance.now c.args.bin_prices.now c.loop-bin.price price (take c.loop-bin.bin-index c.args.row.now) least.0 c.loop-bin.invariant)
     (omega (arith, least.1, c.lack-lack.ensures))
 

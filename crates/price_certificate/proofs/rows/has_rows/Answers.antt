@@ -12,6 +12,6 @@ returns-then-are_rows c = (
 pub returns-else-are_rows : goal.returns-else-are_rows
 returns-else-are_rows c =
     let lists = c.as_slice-else-are_rows.ensures in
-    let numbers = c.as_slice-else-are_rows-2.ensures in
+    let list_of = c.as_slice-else-are_rows-2.ensures in
     let is = c.are_rows_at.ensures in
-    rw numbers at (rw lists at is)
+    rw list_of at (rw lists at is)
