@@ -62,6 +62,11 @@ impl TaggedText {
         }
     }
 
+    /// Whether its tag was made.
+    pub fn is_tagged(&self) -> bool {
+        self.tag.is_some()
+    }
+
     /// The bytes of the text.
     pub fn as_slice(&self) -> &[u8]
         ensures { result.now ≡ self.now }

@@ -4,7 +4,7 @@ use bytes::Bytes;
 use entity_tags::TaggedText;
 use fleet_events::{Answer, Refusal};
 use lists::Text;
-use sd_routes::{ListHead, Notice, Place, RequestError, Said};
+use sd_routes::{ListHead, Notice, Place, RequestError, Said, WrittenHead};
 use std::alloc::{AllocError, Global};
 
 /// What a text says: `answer ANSWER`, `refused NAME`, `page TEXT`, `nothing`, `taken HEAD GROUPS`, `served LEFT HEAD GROUPS`, `metrics TEXT`, `document TEXT`,
@@ -35,6 +35,7 @@ fn served(alloc: Global, text: &str) -> Result<Said, AllocError> {
 
 fn list(alloc: Global, left_out: Option<u32>, text: &str) -> Result<Said, AllocError> {
     let (head, groups) = head(left_out, text);
+    let head = WrittenHead::new(alloc, head)?;
     let groups = Bytes::from_string(String::from_str(alloc, groups)?)?;
     let groups = TaggedText::untagged(groups);
     Ok(Said::List { head, groups })

@@ -81,7 +81,7 @@ impl Manner {
     {
         match said {
             Said::List { head, groups } if !self.is_yaml => {
-                Ok(Some(list_tag(alloc, tags, head, groups)?))
+                Ok(Some(list_tag(alloc, tags, &head.told(), groups)?))
             }
             _ => Ok(None),
         }

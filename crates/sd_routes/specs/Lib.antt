@@ -21,3 +21,4 @@ pub mod FoundPages
 pub mod AllocationPages
 pub mod BooksPages
 pub mod Acknowledging
+pub mod Fields

@@ -1,6 +1,5 @@
 -- What a response says.
 use Rattle.std.specs.Prelude.{◌≡◌, ℕ, ◌==◌, List, [], ◌∷◌, ◌++◌, length, codes, Bool, true, false, Option, Some, None, if◌then◌else◌}
-use Rattle.std.specs.Fmt.{decimal}
 use Rattle.http_header.specs.FieldValue.{FieldValue, plain_value}
 use Rattle.http_header.specs.HeaderMap.{Entries, insert}
 use Rattle.http.specs.declared.response.Response.{Response}
@@ -15,9 +14,9 @@ use Rattle.fleet_events.specs.declared.refusal.Refusal.{Refusal}
 use Rattle.fleet_events.specs.declared.refusal.Refusal.TheVariants.{UnknownJob, UnknownCollector}
 use Rattle.sd_routes.specs.AnswerTexts.{answer_text, answers_text}
 use Rattle.sd_routes.specs.Errors.{status_of, name_of}
+use Rattle.sd_routes.specs.Fields.{document_headers, json_headers, list_headers, media_headers, page_headers, with_no_other}
 use Rattle.sd_routes.specs.Notices.{status_noticed, text_noticed}
 use Rattle.sd_routes.specs.Places.{allowed_at}
-use Rattle.sd_routes.specs.declared.list_head.ListHead.{ListHead}
 use Rattle.sd_routes.specs.declared.request_error.RequestError.{RequestError}
 use Rattle.sd_routes.specs.declared.request_error.RequestError.TheVariants.{Method, Token}
 use Rattle.sd_routes.specs.declared.responding.Said.{Said}
@@ -35,54 +34,6 @@ pub record IsResponse (code : ℕ) (fields : Entries FieldValue) (bytes : List �
   pub body : (body_of response).buf ≡ (if length bytes == 0 then None else Some bytes)
 
 -- ---- headers
-
--- the media type is the one that is told (Fetch Standard, section 3.6), and what follows
-abbrev pub with_no_other : Entries FieldValue → Entries FieldValue
-with_no_other fields = (codes "x-content-type-options", plain_value (codes "nosniff") ∷ []) ∷ fields
-
-abbrev pub media_headers : List ℕ → Entries FieldValue
-media_headers media = (codes "content-type", plain_value media ∷ []) ∷ with_no_other []
-
--- what is told has the form that is accepted (RFC 9110, section 12.5.5)
-abbrev pub with_accept : Entries FieldValue → Entries FieldValue
-with_accept fields = insert fields (codes "vary") (plain_value (codes "accept"))
-
--- a page for people: what it may load, and whom its form asks (Content Security Policy Level 3)
-abbrev pub document_headers : Entries FieldValue
-document_headers =
-    with_accept ((codes "content-type", plain_value (codes "text/html; charset=utf-8") ∷ [])
-    ∷ with_no_other ((codes "content-security-policy", plain_value (codes "default-src 'none'; style-src 'unsafe-inline'; form-action 'self'; frame-ancestors 'none'") ∷ []) ∷ []))
-
-abbrev pub json_headers : Entries FieldValue
-json_headers = media_headers (codes "application/json")
-
--- a page or a list in JSON
-abbrev pub page_headers : Entries FieldValue
-page_headers = with_accept json_headers
-
--- a number in decimal under this name, behind the others
-abbrev pub with_number : List ℕ → ℕ → Entries FieldValue → Entries FieldValue
-with_number name number fields = insert fields name (plain_value (decimal number))
-
--- the number of the allocation, and the round that was open
-abbrev pub with_allocation : ListHead → Entries FieldValue → Entries FieldValue
-with_allocation head fields = with_number (codes "x-scrape-round") head.round (with_number (codes "x-allocation-number") head.allocation fields)
-
--- how many targets the list leaves out, where that is told
-abbrev pub with_left_out : Option ℕ → Entries FieldValue → Entries FieldValue
-with_left_out None fields = fields
-with_left_out (Some count) fields = with_number (codes "x-left-out") count fields
-
--- the collector's number, and the epoch
-abbrev pub with_collector : ListHead → Entries FieldValue → Entries FieldValue
-with_collector head fields = with_number (codes "x-allocator-epoch") head.epoch (with_number (codes "x-collector") head.collector fields)
-
--- for how long the round is open, and how long a round is
-abbrev pub with_times : ListHead → Entries FieldValue → Entries FieldValue
-with_times head fields = with_number (codes "x-scrape-round-length") head.length (with_number (codes "x-scrape-round-age") head.age fields)
-
-abbrev pub list_headers : ListHead → Entries FieldValue
-list_headers head = with_times head (with_collector head (with_left_out head.left_out (with_allocation head page_headers)))
 
 -- where the path has other methods, these (RFC 9110, section 15.5.6); where a token is needed, how one is shown (section 11.6.1)
 abbrev pub refused_headers : RequestError → Entries FieldValue

@@ -35,6 +35,7 @@ mod routes;
 mod routing;
 mod segment;
 mod which_collector;
+mod written_head;
 
 pub use access::Access;
 pub use acknowledgement::Acknowledgement;
@@ -59,3 +60,4 @@ pub use responding::{Said, answer};
 pub use routes::Routes;
 pub use routing::route;
 pub use which_collector::WhichCollector;
+pub use written_head::WrittenHead;

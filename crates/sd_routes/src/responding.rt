@@ -1,32 +1,37 @@
 //! How an answer is written.
-ghost use Rattle.std.specs.Prelude.{◌≡◌, IfOk, IsOk, OnOk, IsTrue, true, string_bytes};
+ghost use Rattle.std.specs.Prelude.{◌≡◌, [], IfOk, IsOk, OnOk, IsTrue, true, string_bytes};
 ghost use Rattle.http.specs.Response.{head_of, body_of};
 ghost use Rattle.serde_json.specs.Written.{compact_text};
 ghost use Rattle.http_header.specs.FieldValue.{is_visible_text};
 ghost use Rattle.sd_routes.specs.Errors.{status_of};
-ghost use Rattle.sd_routes.specs.Responses.{IsResponse, IsHead, closing, json_headers, media_headers, misshapen_data, page_headers, document_headers, list_headers, with_accept, with_allocation, with_collector, with_left_out, with_number, with_times, refused_headers, refused_text, status_answered, status_said, headers_said, body_said};
+ghost use Rattle.sd_routes.specs.Fields.{document_headers, json_headers, list_headers, media_headers, page_headers, with_accept};
+ghost use Rattle.sd_routes.specs.Responses.{IsResponse, IsHead, closing, misshapen_data, refused_headers, refused_text, status_answered, status_said, headers_said, body_said};
 
 use crate::answers_text::{answer_text, answers_text};
-use crate::list_head::ListHead;
 use crate::misshapen::misshapen_page;
 use crate::notice::Notice;
 use crate::request_error::RequestError;
+use crate::written_head::WrittenHead;
 use bytes::Bytes;
 use entity_tags::TaggedText;
 use fleet_events::{Answer, Refusal, Round};
 use http::header::{
-    ALLOW, CONNECTION, CONTENT_SECURITY_POLICY, CONTENT_TYPE, HeaderName, HeaderValue, VARY,
-    WWW_AUTHENTICATE, X_CONTENT_TYPE_OPTIONS,
+    ALLOW, CONNECTION, CONTENT_SECURITY_POLICY, CONTENT_TYPE, HeaderValue, VARY, WWW_AUTHENTICATE,
+    X_CONTENT_TYPE_OPTIONS,
 };
 use http::response::Parts;
 use http::{Response, StatusCode};
 use http_body_util::Full;
+use http_header::HeaderMap;
 use lists::{List, Text};
 use std::alloc::{AllocError, Global};
 
 /// What a page for people may load (Content Security Policy Level 3): nothing but the style in it. Its form asks the service itself.
 const POLICY: &str =
     "default-src 'none'; style-src 'unsafe-inline'; form-action 'self'; frame-ancestors 'none'";
+
+/// How many fields a response has at most: those of a list, its entity tag and the end of the connection.
+const MOST_FIELDS: usize = 12;
 
 /// What a request is answered with.
 #[derive(Drop)]
@@ -42,7 +47,7 @@ pub enum Said {
     Page(Text),
     /// The list of a job that a collector has.
     List {
-        head: ListHead,
+        head: WrittenHead,
         /// The list of groups, as its JSON text.
         groups: TaggedText,
     },
@@ -106,7 +111,7 @@ fn response_of(alloc: Global, said: Said) -> Result<Response<Full<Bytes>>, Alloc
             response(json_head(alloc, StatusCode::OK), text)
         }
         Said::Page(text) => response(page_head(alloc), Ok(text.into_string())),
-        Said::List { head, groups } => list_response(list_parts(alloc, &head), groups),
+        Said::List { head, groups } => list_response(list_parts(alloc, head), groups),
         Said::Nothing => response(page_head(alloc), String::from_str(alloc, "[]")),
         Said::Refused(error) => {
             let text = refused_text(alloc, error.name());
@@ -214,39 +219,70 @@ fn head_with(alloc: Global, status: StatusCode, media: &'static str) -> Result<P
     requires { IsTrue (is_visible_text media.now) }
     ensures { IfOk result (IsHead status (media_headers media.now)) }
 {
+    let fields = media_fields(alloc, media)?;
+    Ok(head_of_fields(alloc, status, fields))
+}
+
+/// A head with these fields.
+fn head_of_fields(alloc: Global, status: StatusCode, fields: HeaderMap) -> Parts
+    ensures { IsHead status fields result }
+{
     let mut head = Parts::new(alloc);
     head.status = status;
+    head.headers = fields;
+    head
+}
+
+/// The fields that tell a media type. There is room for those of a list.
+fn media_fields(alloc: Global, media: &'static str) -> Result<HeaderMap, AllocError>
+    requires { IsTrue (is_visible_text media.now) }
+    ensures { IfOk result (λ fields. fields ≡ media_headers media.now) }
+{
+    let mut fields = room(alloc)?;
     let media = HeaderValue::from_static(media);
-    if head.headers.insert(CONTENT_TYPE, media).is_err() {
+    if fields.insert(CONTENT_TYPE, media).is_err() {
         return Err(AllocError);
     }
     let no_other = HeaderValue::from_static("nosniff");
-    if head
-        .headers
-        .insert(X_CONTENT_TYPE_OPTIONS, no_other)
-        .is_err()
-    {
+    if fields.insert(X_CONTENT_TYPE_OPTIONS, no_other).is_err() {
         return Err(AllocError);
     }
-    Ok(head)
+    Ok(fields)
+}
+
+/// Room for the fields of a list.
+fn room(alloc: Global) -> Result<HeaderMap, AllocError>
+    ensures { IfOk result (λ fields. fields ≡ []) }
+{
+    match HeaderMap::with_capacity(alloc, MOST_FIELDS) {
+        Ok(fields) => Ok(fields),
+        Err(_) => Err(AllocError),
+    }
 }
 
 /// The head of a page or a list in JSON.
 fn page_head(alloc: Global) -> Result<Parts, AllocError>
     ensures { IfOk result (IsHead 200 page_headers) }
 {
-    let mut head = json_head(alloc, StatusCode::OK)?;
-    push_accept(&mut head)?;
-    Ok(head)
+    let fields = page_fields(alloc)?;
+    Ok(head_of_fields(alloc, StatusCode::OK, fields))
+}
+
+/// The fields of a page or a list in JSON.
+pub(crate) fn page_fields(alloc: Global) -> Result<HeaderMap, AllocError>
+    ensures { IfOk result (λ fields. fields ≡ page_headers) }
+{
+    let mut fields = media_fields(alloc, "application/json")?;
+    push_accept(&mut fields)?;
+    Ok(fields)
 }
 
 /// What is told has the form that is accepted (RFC 9110, section 12.5.5).
-fn push_accept(head: &mut Parts) -> Result<(), AllocError>
-    ensures status { OnOk result (head.new.status ≡ head.old.status) }
-    ensures headers { OnOk result (head.new.headers ≡ with_accept head.old.headers) }
+fn push_accept(fields: &mut HeaderMap) -> Result<(), AllocError>
+    ensures { OnOk result (fields.new ≡ with_accept fields.old) }
 {
     let accept = HeaderValue::from_static("accept");
-    match head.headers.insert(VARY, accept) {
+    match fields.insert(VARY, accept) {
         Ok(_) => Ok(()),
         Err(_) => Err(AllocError),
     }
@@ -265,7 +301,7 @@ fn document_head(alloc: Global) -> Result<Parts, AllocError>
     {
         return Err(AllocError);
     }
-    push_accept(&mut head)?;
+    push_accept(&mut head.headers)?;
     Ok(head)
 }
 
@@ -292,76 +328,11 @@ fn refused_head(alloc: Global, error: RequestError) -> Result<Parts, AllocError>
 }
 
 /// The head of the response that gives a list.
-fn list_parts(alloc: Global, told: &ListHead) -> Result<Parts, AllocError>
-    ensures { IfOk result (IsHead 200 (list_headers told.now)) }
+fn list_parts(alloc: Global, head: WrittenHead) -> Result<Parts, AllocError>
+    ensures { IfOk result (IsHead 200 (list_headers head)) }
 {
-    let mut head = page_head(alloc)?;
-    push_allocation(alloc, &mut head, told)?;
-    push_left_out(alloc, &mut head, told.left_out)?;
-    push_collector(alloc, &mut head, told)?;
-    push_times(alloc, &mut head, told)?;
-    Ok(head)
-}
-
-fn push_allocation(alloc: Global, head: &mut Parts, told: &ListHead) -> Result<(), AllocError>
-    ensures status { OnOk result (head.new.status ≡ head.old.status) }
-    ensures headers { OnOk result (head.new.headers ≡ with_allocation told.now head.old.headers) }
-{
-    let allocation = u64::from(told.allocation);
-    let name = HeaderName::from_static("x-allocation-number");
-    push_number(alloc, head, name, allocation)?;
-    let name = HeaderName::from_static("x-scrape-round");
-    push_number(alloc, head, name, u64::from(told.round))
-}
-
-fn push_left_out(alloc: Global, head: &mut Parts, left_out: Option<u32>) -> Result<(), AllocError>
-    ensures status { OnOk result (head.new.status ≡ head.old.status) }
-    ensures headers { OnOk result (head.new.headers ≡ with_left_out left_out head.old.headers) }
-{
-    match left_out {
-        Some(left_out) => {
-            let name = HeaderName::from_static("x-left-out");
-            push_number(alloc, head, name, u64::from(left_out))
-        }
-        None => Ok(()),
-    }
-}
-
-fn push_collector(alloc: Global, head: &mut Parts, told: &ListHead) -> Result<(), AllocError>
-    ensures status { OnOk result (head.new.status ≡ head.old.status) }
-    ensures headers { OnOk result (head.new.headers ≡ with_collector told.now head.old.headers) }
-{
-    let name = HeaderName::from_static("x-collector");
-    push_number(alloc, head, name, u64::from(told.collector))?;
-    let name = HeaderName::from_static("x-allocator-epoch");
-    push_number(alloc, head, name, told.epoch)
-}
-
-fn push_times(alloc: Global, head: &mut Parts, told: &ListHead) -> Result<(), AllocError>
-    ensures status { OnOk result (head.new.status ≡ head.old.status) }
-    ensures headers { OnOk result (head.new.headers ≡ with_times told.now head.old.headers) }
-{
-    let name = HeaderName::from_static("x-scrape-round-age");
-    push_number(alloc, head, name, told.age)?;
-    let name = HeaderName::from_static("x-scrape-round-length");
-    push_number(alloc, head, name, told.length)
-}
-
-/// A number in decimal goes under a name.
-fn push_number(
-    alloc: Global,
-    head: &mut Parts,
-    name: HeaderName,
-    number: u64,
-) -> Result<(), AllocError>
-    ensures status { OnOk result (head.new.status ≡ head.old.status) }
-    ensures headers { OnOk result (head.new.headers ≡ with_number name number head.old.headers) }
-{
-    let number = HeaderValue::from_u64(alloc, number)?;
-    match head.headers.insert(name, number) {
-        Ok(_) => Ok(()),
-        Err(_) => Err(AllocError),
-    }
+    let fields = head.into_fields(alloc)?;
+    Ok(head_of_fields(alloc, StatusCode::OK, fields))
 }
 
 /// The object that tells a refusal.

@@ -25,7 +25,7 @@ use fleet_events::{AllocationNumber, CollectorId, Round, TargetId};
 use kept_journal::JournalName;
 use lists::{List, Plain, Text};
 use reach_rules::CollectorName;
-use sd_routes::{ListHead, RequestError, Said, acknowledged_list, targets_page};
+use sd_routes::{ListHead, RequestError, Said, WrittenHead, acknowledged_list, targets_page};
 use std::alloc::AllocError;
 use std::sync::ledger::Ledger;
 use std::sync::{Arc, Wait};
@@ -393,7 +393,13 @@ impl<R: Wait + Clock + Copy, L: Ledger, B: Ledger, N: JournalName> Handler<R, L,
         ensures moves { Moves seen.old seen.new }
     {
         match self.text_of_list(seen, at, job, place, &head, targets) {
-            Ok(groups) => Said::List { head, groups },
+            Ok(groups) => match WrittenHead::new(self.alloc, head) {
+                Ok(head) => Said::List { head, groups },
+                Err(_) => {
+                    drop(groups);
+                    Said::Refused(RequestError::Memory)
+                }
+            },
             Err(_) => Said::Refused(RequestError::Memory),
         }
     }

@@ -9,7 +9,7 @@ use std::time::{Clock, Instant};
 #[derive(Drop)]
 pub(crate) struct Counter<R> {
     pub(crate) rt: R,
-    pub(crate) state: Arc<ServiceState>,
+    pub(crate) state: Arc<Arc<ServiceState>>,
     pub(crate) route: Route,
     /// When it began, where a clock tells.
     pub(crate) begun: Option<Instant>,

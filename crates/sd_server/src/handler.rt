@@ -10,6 +10,8 @@ use crate::counter::Counter;
 use crate::entry::{Entry, Reload};
 use crate::handler_parts::HandlerParts;
 use crate::list_texts::ListTexts;
+use crate::own_list::OwnList;
+use crate::own_loop::OwnLoop;
 use crate::seen::Seen;
 use admission::Admission;
 use alloc_desk::{Desk, Pass, shared_desk};
@@ -36,7 +38,8 @@ pub struct Handler<R, L: Ledger, B: Ledger, N: JournalName> {
     pub desk: Arc<Desk<L, B, N>>,
     pub pass: Arc<Mutex<Pass<L, B, N>>>,
     pub pages: Arc<ConfigPages>,
-    pub state: Arc<ServiceState>,
+    /// The handlers of a loop have a reference of their own, so that loops do not count one together.
+    pub state: Arc<Arc<ServiceState>>,
     /// How much of the journal is kept, where it is to be kept before an answer is given.
     pub kept: Option<Arc<Kept<N>>>,
     /// What changes with each renewal and each new journal. A report that names another one is refused.
@@ -47,10 +50,10 @@ pub struct Handler<R, L: Ledger, B: Ledger, N: JournalName> {
     pub doors: Arc<Admission>,
     /// Who asks, where that is known.
     pub peer: Option<SocketAddr>,
-    /// The timers of the loop, where something may be waited for.
-    pub time: Option<Handle>,
-    /// How many connections there are, where somebody tells.
-    pub gate: Option<Arc<Gate>>,
+    /// What it has of its loop, where it is one's.
+    pub(crate) own_loop: Option<Arc<OwnLoop>>,
+    /// A list that this connection was told, where it is kept.
+    pub(crate) last: Mutex<Option<OwnList<N>>>,
     ghost named: { AreNamed (arc_value pages).names N.opening.fleet.jobs },
 }
 
@@ -66,6 +69,13 @@ impl<R: Copy, L: Ledger, B: Ledger, N: JournalName> Handler<R, L, B, N> {
         requires { AreNamed (arc_value parts.pages).names N.opening.fleet.jobs }
         ensures { IfOk result (λ h. h.kept ≡ parts.kept) }
     {
+        let state = match shared_state(alloc, &parts.state) {
+            Ok(state) => state,
+            Err(error) => {
+                drop((parts, desk, pass));
+                return Err(error);
+            }
+        };
         match shared_desk(alloc, desk, pass) {
             Ok((desk, pass)) => Ok(Handler {
                 rt,
@@ -73,17 +83,17 @@ impl<R: Copy, L: Ledger, B: Ledger, N: JournalName> Handler<R, L, B, N> {
                 desk,
                 pass,
                 pages: parts.pages,
-                state: parts.state,
+                state,
                 kept: parts.kept,
                 epoch: parts.epoch,
                 texts: parts.texts,
                 doors: parts.doors,
                 peer: None,
-                time: None,
-                gate: None,
+                own_loop: None,
+                last: Mutex::new(None),
             }),
             Err(error) => {
-                drop(parts);
+                drop((parts, state));
                 Err(error)
             }
         }
@@ -96,36 +106,29 @@ impl<R: Wait + Clock + Copy, L: Ledger, B: Ledger, N: JournalName> Handler<R, L,
         ensures same { IfOk result (λ h. (arc_value h.pages ≡ arc_value self.now.pages) × (IsSome self.now.kept → IsSome h.kept)) }
         ensures epoch { IfOk result (λ h. h.epoch ≡ self.now.epoch) }
     {
-        let time = self.timers()?;
-        match self.same_gate() {
-            Ok(gate) => self.with(time, gate),
+        let state = Arc::try_clone(&self.state)?;
+        match self.same_loop() {
+            Ok(own_loop) => self.with(state, own_loop),
             Err(error) => {
-                drop(time);
+                drop(state);
                 Err(error)
             }
         }
     }
 
-    /// Another for the same desk and the same pass, with these timers and this gate.
+    /// Another for the same desk and the same pass, with these of a loop.
     fn with(
         &self,
-        time: Option<Handle>,
-        gate: Option<Arc<Gate>>,
+        state: Arc<Arc<ServiceState>>,
+        own_loop: Option<Arc<OwnLoop>>,
     ) -> Result<Handler<R, L, B, N>, AllocError>
         ensures same { IfOk result (λ h. (arc_value h.pages ≡ arc_value self.now.pages) × (IsSome self.now.kept → IsSome h.kept)) }
         ensures epoch { IfOk result (λ h. h.epoch ≡ self.now.epoch) }
     {
-        let (desk, pass) = match self.same_desk() {
+        let (desk, pass, pages) = match self.same_desk() {
             Ok(same) => same,
             Err(error) => {
-                drop((time, gate));
-                return Err(error);
-            }
-        };
-        let (pages, state) = match self.same_pages() {
-            Ok(same) => same,
-            Err(error) => {
-                drop((time, gate, desk, pass));
+                drop((state, own_loop));
                 return Err(error);
             }
         };
@@ -142,35 +145,40 @@ impl<R: Wait + Clock + Copy, L: Ledger, B: Ledger, N: JournalName> Handler<R, L,
                 texts,
                 doors,
                 peer: self.peer,
-                time,
-                gate,
+                own_loop,
+                last: Mutex::new(None),
             }),
             Err(error) => {
-                drop((time, gate, desk, pass, pages, state));
+                drop((state, own_loop, desk, pass, pages));
                 Err(error)
             }
         }
     }
 
-    fn same_desk(&self) -> Result<(Arc<Desk<L, B, N>>, Arc<Mutex<Pass<L, B, N>>>), AllocError> {
+    fn same_desk(
+        &self,
+    ) -> Result<
+        (
+            Arc<Desk<L, B, N>>,
+            Arc<Mutex<Pass<L, B, N>>>,
+            Arc<ConfigPages>,
+        ),
+        AllocError,
+    >
+        ensures { IfOk result (λ r. arc_value r.2 ≡ arc_value self.now.pages) }
+    {
         let desk = Arc::try_clone(&self.desk)?;
-        match Arc::try_clone(&self.pass) {
-            Ok(pass) => Ok((desk, pass)),
+        let pass = match Arc::try_clone(&self.pass) {
+            Ok(pass) => pass,
             Err(error) => {
                 drop(desk);
-                Err(error)
+                return Err(error);
             }
-        }
-    }
-
-    fn same_pages(&self) -> Result<(Arc<ConfigPages>, Arc<ServiceState>), AllocError>
-        ensures { IfOk result (λ r. arc_value r.0 ≡ arc_value self.now.pages) }
-    {
-        let pages = Arc::try_clone(&self.pages)?;
-        match Arc::try_clone(&self.state) {
-            Ok(state) => Ok((pages, state)),
+        };
+        match Arc::try_clone(&self.pages) {
+            Ok(pages) => Ok((desk, pass, pages)),
             Err(error) => {
-                drop(pages);
+                drop((desk, pass));
                 Err(error)
             }
         }
@@ -207,28 +215,20 @@ impl<R: Wait + Clock + Copy, L: Ledger, B: Ledger, N: JournalName> Handler<R, L,
         ensures same { IfOk result (λ h. (arc_value h.pages ≡ arc_value self.now.pages) × (IsSome self.now.kept → IsSome h.kept)) }
         ensures epoch { IfOk result (λ h. h.epoch ≡ self.now.epoch) }
     {
-        let time = time.clone()?;
-        match Arc::try_clone(gate) {
-            Ok(gate) => self.with(Some(time), Some(gate)),
+        let state = shared_state(self.alloc, &*self.state)?;
+        match OwnLoop::shared(self.alloc, time, gate) {
+            Ok(own_loop) => self.with(state, Some(own_loop)),
             Err(error) => {
-                drop(time);
+                drop(state);
                 Err(error)
             }
         }
     }
 
-    /// The gate once more, where there is one.
-    fn same_gate(&self) -> Result<Option<Arc<Gate>>, AllocError> {
-        match &self.gate {
-            Some(gate) => Ok(Some(Arc::try_clone(gate)?)),
-            None => Ok(None),
-        }
-    }
-
-    /// The timers once more, where there are some.
-    fn timers(&self) -> Result<Option<Handle>, AllocError> {
-        match &self.time {
-            Some(time) => Ok(Some(time.clone()?)),
+    /// What it has of its loop once more, where it is one's.
+    fn same_loop(&self) -> Result<Option<Arc<OwnLoop>>, AllocError> {
+        match &self.own_loop {
+            Some(own_loop) => Ok(Some(Arc::try_clone(own_loop)?)),
             None => Ok(None),
         }
     }
@@ -249,8 +249,16 @@ impl<R: Wait + Clock + Copy, L: Ledger, B: Ledger, N: JournalName> Handler<R, L,
         })
     }
 
-    /// The entity tags that are known.
-    pub(crate) fn tags(&self) -> Option<ListTags<R>> {
+    /// The entity tags that are known, where what is said may be a list whose tag was not made.
+    pub(crate) fn tags_for(&self, entry: &Entry<N>) -> Option<ListTags<R>> {
+        match entry {
+            Entry::Now(Said::List { groups, .. }) if !groups.is_tagged() => self.tags(),
+            Entry::Later(_) => self.tags(),
+            Entry::Now(_) | Entry::Reload(_) => None,
+        }
+    }
+
+    fn tags(&self) -> Option<ListTags<R>> {
         let known = self.texts.tags()?;
         Some(ListTags { rt: self.rt, known })
     }
@@ -398,4 +406,13 @@ fn copied(text: &Text) -> Said
         Ok(text) => Said::Page(text),
         Err(_) => Said::Refused(RequestError::Memory),
     }
+}
+
+/// The state for the handlers of a loop, with a reference that they share.
+fn shared_state(
+    alloc: Global,
+    state: &Arc<ServiceState>,
+) -> Result<Arc<Arc<ServiceState>>, AllocError> {
+    let state = Arc::try_clone(state)?;
+    Ok(Arc::new(alloc, state)?)
 }

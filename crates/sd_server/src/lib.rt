@@ -25,6 +25,8 @@ mod look;
 mod named;
 mod once_kept;
 mod one_by_one;
+mod own_list;
+mod own_loop;
 mod own_pages;
 mod reply;
 mod reported;

@@ -85,8 +85,8 @@ impl<R: Wait + Clock + Copy, L: Ledger, B: Ledger, N: JournalName> Handler<R, L,
     /// What waits for it, where there are timers, and for how long at most.
     fn waiting(&self, told: Receiver<Durable<N>>) -> Option<Timeout<Receiver<Durable<N>>>> {
         let longest = Duration::from_millis(LONGEST_WAIT_MILLIS);
-        match &self.time {
-            Some(time) => time.timeout(&self.rt, longest, told).ok(),
+        match &self.own_loop {
+            Some(own_loop) => own_loop.time.timeout(&self.rt, longest, told).ok(),
             None => None,
         }
     }

@@ -70,7 +70,7 @@ impl<R: Wait + Clock + Copy, L: Ledger, B: Ledger, N: JournalName> Handler<R, L,
     fn metrics_text(&self) -> Result<Text, AllocError> {
         self.count_connections();
         let (figures, notes) = self.figures_and_notes()?;
-        let page = metrics_page(self.alloc, &figures, &notes, &self.state);
+        let page = metrics_page(self.alloc, &figures, &notes, &**self.state);
         drop((figures, notes));
         page
     }
@@ -118,7 +118,8 @@ impl<R: Wait + Clock + Copy, L: Ledger, B: Ledger, N: JournalName> Handler<R, L,
 
     /// Notes how many connections there are.
     fn count_connections(&self) {
-        if let Some(gate) = &self.gate {
+        if let Some(own_loop) = &self.own_loop {
+            let gate = &own_loop.gate;
             self.state.set_connections(gate.taken(), gate.most());
         }
     }

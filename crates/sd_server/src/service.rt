@@ -33,7 +33,7 @@ use std::alloc::{AllocError, Global};
 use std::net::SocketAddr;
 use std::sync::ledger::Ledger;
 use std::sync::{Arc, Wait};
-use std::time::Clock;
+use std::time::{Clock, Instant};
 use tokio::time::Handle;
 
 /// Answers requests with what a desk says.
@@ -140,6 +140,24 @@ impl<R: Wait + Clock + Copy, L: Ledger, B: Ledger, N: JournalName> AllocatorServ
         )
     }
 
+    /// Of a request of a route that came then, and to which this is told or will be.
+    fn told<I: Drop>(
+        &self,
+        begun: Option<Instant>,
+        manner: Manner,
+        seen: Seen<N>,
+        entry: Entry<N>,
+        route: Route,
+    ) -> Reply<R, L, B, N, I>
+        ensures can_read { CanRead result }
+        ensures stage { result.stage ≡ stage.Told entry }
+        ensures seen { result.seen ≡ seen }
+    {
+        let counter = self.handler.counter(route, begun);
+        let tags = self.handler.tags_for(&entry);
+        Reply::of(self.handler.alloc, counter, tags, seen, entry, manner)
+    }
+
     fn begin_with(&self, seen: &mut Seen<N>, ask: Ask, for_people: bool) -> Begun<N>
         ensures begins { BeginsWith self.now.handler.kept N.keeps seen.new (arc_value self.now.handler.pages) ask result }
         ensures moves { Moves seen.old seen.new }
@@ -189,17 +207,9 @@ impl<R: Wait + Clock + Copy + Drop, L: Ledger, B: Ledger, N: JournalName, I: Dro
         let mut seen = self.handler.seen();
         match self.begin(&mut seen, &head) {
             Begun::Told(entry, route) => {
-                let counter = self.handler.counter(route, begun);
                 let manner = Manner::of(&head.headers);
                 drop((head, body));
-                Reply::of(
-                    self.handler.alloc,
-                    counter,
-                    self.handler.tags(),
-                    seen,
-                    entry,
-                    manner,
-                )
+                self.told(begun, manner, seen, entry, route)
             }
             Begun::Reads(ask) => {
                 drop(head);

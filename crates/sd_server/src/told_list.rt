@@ -1,5 +1,5 @@
 //! A list as a collector was told it.
-ghost use Rattle.std.specs.Prelude.{◌≡◌, None, IfOk, IfSome, IsTrue, true};
+ghost use Rattle.std.specs.Prelude.{◌≡◌, None, IfSome, IsTrue, true};
 ghost use Rattle.sd_routes.specs.declared.responding.Said.TheVariants as said;
 ghost use Rattle.sd_server.specs.Says.{SaysHeld};
 
@@ -59,7 +59,7 @@ impl<N: DeskName> ToldList<N> {
                     place,
                     job,
                     name,
-                    head: *head,
+                    head: head.told(),
                     groups,
                     front,
                 }))
@@ -69,24 +69,35 @@ impl<N: DeskName> ToldList<N> {
     }
 
     /// The head as it was told.
-    pub(crate) fn head(&self) -> ListHead {
+    pub(crate) fn head(&self) -> ListHead
+        ensures { result ≡ self.now.head }
+    {
         self.head
     }
 
-    /// The list, where it is told again: of the same job under the same name, and where what was seen now is what had been seen then.
+    /// How many bytes the text has.
+    pub(crate) fn len(&self) -> usize {
+        self.groups.as_slice().len()
+    }
+
+    /// The text, where the list is told again: of the same job under the same name, and where what was seen now is what had been seen then. None
+    /// without memory, too.
     pub(crate) fn again(
         &self,
         seen: &Seen<N>,
         place: usize,
         job: &str,
         name: &str,
-    ) -> Result<Option<(ListHead, TaggedText)>, AllocError>
-        ensures { IfOk result (λ told. IfSome told (λ l. SaysHeld seen.now None place job.now name.now true (said.List l.0 l.1))) }
+    ) -> Option<TaggedText>
+        ensures { IfSome result (λ groups. SaysHeld seen.now None place job.now name.now true (said.List self.now.head groups)) }
     {
         if !self.is_of(place, job, name) || !self.is_of_now(seen.now()) {
-            return Ok(None);
+            return None;
         }
-        Ok(Some((self.head, self.groups.again()?)))
+        match self.groups.again() {
+            Ok(groups) => Some(groups),
+            Err(_) => None,
+        }
     }
 
     fn is_of(&self, place: usize, job: &str, name: &str) -> bool

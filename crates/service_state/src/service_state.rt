@@ -62,7 +62,8 @@ pub struct ServiceState {
     turned_away: AtomicU64,
     /// How many lines the log lost, where it may lose some.
     lost_lines: Option<Arc<AtomicU64>>,
-    notes: Mutex<Notes>,
+    /// They are much, and who lets go of a state should not have them in hand.
+    notes: Box<Mutex<Notes>>,
     changes: Mutex<Changes>,
     /// The names under which lists were asked for.
     names: Mutex<Names>,
@@ -77,8 +78,13 @@ pub struct ServiceState {
 
 impl ServiceState {
     /// The state of a service that has tried none of so many sources.
-    pub fn new(alloc: Global, lifecycle: Lifecycle, sources: u64) -> ServiceState {
-        ServiceState {
+    pub fn new(
+        alloc: Global,
+        lifecycle: Lifecycle,
+        sources: u64,
+    ) -> Result<ServiceState, AllocError> {
+        let notes = Box::new(alloc, Mutex::new(Notes::new(alloc)))?;
+        Ok(ServiceState {
             lifecycle,
             version: "",
             is_leading: false,
@@ -101,14 +107,14 @@ impl ServiceState {
             failed_accepts: AtomicU64::new(0),
             turned_away: AtomicU64::new(0),
             lost_lines: None,
-            notes: Mutex::new(Notes::new(alloc)),
+            notes,
             changes: Mutex::new(Changes::new(alloc)),
             names: Mutex::new(Names::new(alloc)),
             takers: Mutex::new(Takers::new(alloc)),
             followed: Mutex::new(Followed::new(alloc)),
             round: Mutex::new(OpenRound::unknown()),
             handing_over_since: AtomicU64::new(0),
-        }
+        })
     }
 
     /// Whether each source was tried once, what they list was given out, and what is submitted is kept in time.

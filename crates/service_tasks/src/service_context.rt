@@ -266,7 +266,7 @@ fn state_of<R: Clock>(
         alloc,
         service.settings.lifecycle,
         service.sources.len() as u64,
-    );
+    )?;
     if let Ok(since) = rt.since_1970() {
         state.set_started(since.as_secs());
     }

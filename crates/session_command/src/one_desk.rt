@@ -200,7 +200,7 @@ fn own_parts<N: JournalName>(
         reload: false,
         quit: false,
     };
-    let state = shared(alloc, ServiceState::new(alloc, lifecycle, 0))?;
+    let state = shared(alloc, ServiceState::new(alloc, lifecycle, 0)?)?;
     let texts = ListTexts::shared(alloc)?;
     let doors = shared(alloc, Admission::open())?;
     Ok((state, texts, doors))

@@ -13,8 +13,8 @@ pub returns-in-Told-clause-called : goal.returns-in-Told-clause-called
 returns-in-Told-clause-called g c =
     let handler = c.args.self.now.handler in
     let began = rw c.into_parts-head.ensures at c.in-Told.ensures.begins in (
-      ap (λ (s : Span). s.opening) c.of.ensures.seen ∙ (c.begin.ensures.moves.opening ∙ c.seen-seen.ensures.opening),
-      told_to g.N.JournalName.keeps handler.kept (arc_value handler.pages) _ c.begin.new.seen c.of.result.seen c.in-Told.entry c.of.result.stage c.of.ensures.stage c.of.ensures.seen began,
+      ap (λ (s : Span). s.opening) c.told.ensures.seen ∙ (c.begin.ensures.moves.opening ∙ c.seen-seen.ensures.opening),
+      told_to g.N.JournalName.keeps handler.kept (arc_value handler.pages) _ c.begin.new.seen c.told.result.seen c.in-Told.entry c.told.result.stage c.told.ensures.stage c.told.ensures.seen began,
     )
 
 pub returns-in-Ok-clause-called : goal.returns-in-Ok-clause-called

@@ -1,6 +1,7 @@
 use Rattle.std.proofs.Common.{ℕ, List, true, refl, ap, sym, subst, ◌∙◌}
 use Rattle.std.specs.Prelude.{None}
 use Rattle.allocation_core.specs.State.{State}
+use Rattle.sd_routes.specs.declared.list_head.ListHead.{ListHead}
 use Rattle.sd_routes.specs.declared.responding.Said.TheVariants as said
 use Rattle.sd_server.specs.Says.{SaysHeld}
 use Rattle.sd_server.specs.Spans.{at_once}
@@ -8,8 +9,8 @@ use Rattle.sd_server.specs.Telling.{Telling}
 use Rattle.sd_server.proofs.TellingLemmas.{told_now}
 use Rattle.sd_server.proofs.told_list.ToldList.again.Goals as goal
 
-pub returns : goal.returns
-returns g c =
+pub returns-in-Ok : goal.returns-in-Ok
+returns-in-Ok g c =
     let l = c.self.inside in
     let told : Telling = record { place = l.place; job = l.job; name = l.name; head = l.head; groups = l.groups; seen = l.front } in
     let is = c.self.view_is in
@@ -24,4 +25,5 @@ returns g c =
     (subst Opened (sym c.now.ensures.opening) c.self.invariant)
     in
     let Groups : List ℕ → Type 0 = λ groups. SaysHeld c.args.seen.now None c.args.place c.args.job.now c.args.name.now true (said.List l.head groups) in
-    subst Groups (sym c.in_ok-again.ensures) again
+    let Heads : ListHead → Type 0 = λ head. SaysHeld c.args.seen.now None c.args.place c.args.job.now c.args.name.now true (said.List head c.in-Ok.groups) in
+    subst Heads (ap (λ (t : Telling). t.head) is) (subst Groups (sym c.in-Ok.ensures) again)
