@@ -3,7 +3,7 @@
 
 Where it listens and keeps its journal, each job's own rules, reloads with more sources, other orders and too many jobs, who is uncovered,
 names as text, the pages, their links and their form, since when targets are held, what is counted, how long it took, what strangers send and don't send, answers to the byte, rounds over renewals and
-starts, sources that fall silent beside others, YAML, lists of reports, entity tags, lists that are acknowledged, loads that are made even, sources by name, files of targets. It needs
+starts, lists that change all the time, sources that fall silent beside others, YAML, lists of reports, entity tags, lists that are acknowledged, loads that are made even, sources by name, files of targets. It needs
 Linux and the program (ALLOCD_PROGRAM, or dist/allocd)."""
 
 import collections
@@ -1187,6 +1187,21 @@ def beside_silent(folder, silent):
     return took, max(gaps, default=60), figures
 
 
+def changing_lists(folder):
+    """The journal has each list of a source that changes all the time, and a target that stays is in memory once."""
+    addresses = lambda first: [f"10.0.{i // 250}.{i % 250}:9100" for i in range(first, first + 2_048)]
+    Source.lists["/changing"] = addresses(0)
+    service = started(folder, [{"job_name": "n", "http_sd_configs": [url("/changing", "100ms")]}])
+    memory = []
+    for turn in range(30):
+        Source.lists["/changing"] = addresses(turn)
+        has(service, "allocd_allocation", turn + 1)
+        memory.append(service.memory())
+    more = memory[-1] - memory[5]
+    tell("a target that stays is in memory once, however many lists have it", more < 20_000, f"{more} KB more for 24 lists of 2,048")
+    ends(service)
+
+
 def silences(folder):
     for silent in (1, 6):
         took, gap, figures = beside_silent(folder, silent)
@@ -1689,5 +1704,5 @@ def files(folder):
 SOURCE = http.server.ThreadingHTTPServer(("127.0.0.1", 0), Source)
 SOURCE.daemon_threads = True
 threading.Thread(target=SOURCE.serve_forever, daemon=True).start()
-PARTS = (settings, relabels, reloads, uncovered, texts, page, job_pages, collector_pages, searches, since, series, figures, every_figure, turned_away, process, takes, talks, requests, lifecycles, held_rows, stalls, settles, absent_over_reloads, many_ids, rounds, rounds_kept, silences, yaml, lists_of_reports, round_books, entity_tags, asked_again, acknowledge, spreads, moves, spreads_by_job, evens, evens_in_turn, names, files)
+PARTS = (settings, relabels, reloads, uncovered, texts, page, job_pages, collector_pages, searches, since, series, figures, every_figure, turned_away, process, takes, talks, requests, lifecycles, held_rows, stalls, settles, absent_over_reloads, many_ids, rounds, rounds_kept, changing_lists, silences, yaml, lists_of_reports, round_books, entity_tags, asked_again, acknowledge, spreads, moves, spreads_by_job, evens, evens_in_turn, names, files)
 run_parts(PARTS, sys.argv[1:])

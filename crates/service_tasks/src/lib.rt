@@ -21,6 +21,7 @@ mod handovers;
 mod journal;
 mod journal_device;
 mod keeping;
+mod last_list;
 mod last_seen;
 mod letting_go;
 mod logging;

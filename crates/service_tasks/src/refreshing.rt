@@ -1,5 +1,6 @@
 //! The thread that refreshes what discovery sources list.
 use crate::answers::{Came, Failure, fault_in, list_in_files, list_in_reply};
+use crate::last_list::{LastList, targets_in};
 use crate::logging::{log_warning, log_warning_of};
 use crate::shared::Shared;
 use crate::source::{Listed, Source};
@@ -368,14 +369,17 @@ impl<R: Wait + Clock + Eprint + Copy, L: Ledger, B: Ledger, N: JournalName> Shar
             drop((text, event));
             return true;
         }
-        self.listed.fetch_add(targets_in(&event), Ordering::SeqCst);
+        let count = targets_in(&event).len() as u64;
+        self.listed.fetch_add(count, Ordering::SeqCst);
+        let event = listed.shared_by(self.alloc, event);
+        let list = LastList::of(self.alloc, text, &event);
         match self.enter_list(pass, source, event) {
             Some(is_refused) => {
-                listed.submitted(text, is_refused);
+                listed.submitted(list, is_refused);
                 true
             }
             None => {
-                drop(text);
+                drop(list);
                 false
             }
         }
@@ -412,18 +416,10 @@ fn url_of(job: &Job, number: u32) -> &str {
 fn counts_in(list: &Result<Listing, Failure>) -> Option<ListCounts> {
     match list {
         Ok(listing) => Some(ListCounts {
-            targets: targets_in(&listing.event),
+            targets: targets_in(&listing.event).len() as u64,
             dropped: listing.dropped as u64,
             without_address: listing.no_address as u64,
         }),
         Err(_) => None,
-    }
-}
-
-/// How many targets an event lists.
-fn targets_in(event: &Event) -> u64 {
-    match event {
-        Event::Discover { targets, .. } => targets.len() as u64,
-        _ => 0,
     }
 }

@@ -1,8 +1,12 @@
 //! A discovery source as it is watched.
+ghost use Rattle.std.specs.Prelude.{◌≡◌};
+
+use crate::last_list::LastList;
 use crate::service::SourceSettings;
+use fleet_events::Event;
 use http_get::Reply;
-use lists::Text;
 use service_state::ListCounts;
+use std::alloc::Global;
 use std::time::{Duration, Instant};
 
 /// After how many refreshes a list that was refused is submitted again, as long as it is the same.
@@ -29,8 +33,8 @@ pub(crate) struct Source {
 /// What a source listed last.
 #[derive(Drop)]
 pub(crate) struct Listed {
-    /// The text of the list that was submitted last.
-    last: Option<Text>,
+    /// The list that was submitted last.
+    last: Option<LastList>,
     /// How many refreshes from now on the same list is not submitted again, where it was refused.
     refused_for: Option<u32>,
     /// The answer that has this list, and what is counted of it.
@@ -129,7 +133,7 @@ impl Listed {
     /// Whether a list of this text is to be submitted: it is another one than the last, or its refusal was long ago.
     pub(crate) fn is_news(&mut self, text: &str) -> bool {
         let is_last = match &self.last {
-            Some(last) => last.as_str() == text,
+            Some(last) => last.is(text),
             None => false,
         };
         !is_last || self.is_due_again()
@@ -147,9 +151,19 @@ impl Listed {
         }
     }
 
-    /// A list of this text was submitted.
-    pub(crate) fn submitted(&mut self, text: Text, is_refused: bool) {
-        drop(std::mem::replace(&mut self.last, Some(text)));
+    /// The same event, with what it shares with the list that was submitted last.
+    pub(crate) fn shared_by(&self, alloc: Global, event: Event) -> Event
+        ensures { result ≡ event }
+    {
+        match &self.last {
+            Some(last) => last.shared_by(alloc, event),
+            None => event,
+        }
+    }
+
+    /// This list was submitted.
+    pub(crate) fn submitted(&mut self, list: LastList, is_refused: bool) {
+        drop(std::mem::replace(&mut self.last, Some(list)));
         self.refused_for = is_refused.then_some(REFUSED_AGAIN);
         drop(std::mem::replace(&mut self.reply, None));
     }
