@@ -3,7 +3,7 @@
 
 16,384 targets of 16 jobs come from sources over HTTP, and in each second of the day one of them goes and another one comes. 256 collectors, with three rules
 each, ask for their list of each job each 30 seconds, and report each target that they hold once a minute (collectors.cpp). The service has a journal. Told are
-the renewals, the most bytes of the journal's file, the memory, and how long a request took, each by itself. As docs/operate/SERVE.md has it, the service is run
+the renewals, the most bytes of the journal's file, the memory, of a long run each four hours, too, and how long a request took, each by itself. As docs/operate/SERVE.md has it, the service is run
 with one arena of the C library. It needs the program (ALLOCD_PROGRAM, or dist/allocd) and g++."""
 
 import http.server
@@ -23,6 +23,8 @@ from allocd_service import Service, comes
 MINUTES = int(sys.argv[1]) if len(sys.argv) > 1 else 60
 SPEED = float(sys.argv[2]) if len(sys.argv) > 2 else 10
 COLLECTORS, JOBS, TARGETS = 256, 16, 16_384
+# After so many hours each a longer run tells its memory.
+EACH_HOURS = 4
 EACH = TARGETS // JOBS
 REACH = [
     {"allow": False, "test": "equals", "label": "zone", "value": "z9"},
@@ -87,6 +89,11 @@ def megabytes(pid, what):
         return next(int(line.split()[1]) // 1024 for line in file if line.startswith(what))
 
 
+def renewals_in(log):
+    with open(log) as file:
+        return sum('the allocator is renewed"' in line for line in file)
+
+
 def main():
     sources = Sources()
     configs = [
@@ -112,9 +119,15 @@ def main():
         clients = subprocess.Popen([collectors_program, str(service.port), str(MINUTES), str(SPEED), str(COLLECTORS), str(JOBS)], stdout=subprocess.PIPE, text=True)
         churn = threading.Thread(target=sources.churn, args=(until,))
         churn.start()
-        most = 0
+        most, told_at = 0, EACH_HOURS * 3_600
+        if MINUTES >= 60 * EACH_HOURS:
+            print("| hours | renewals | MB of the journal, most | MB now | MB at the most |\n|---|---|---|---|---|", flush=True)
         while time.monotonic() < until:
             most = max(most, os.path.getsize(f"{top}/journal"))
+            if sources.changes >= told_at:
+                cells = [told_at // 3_600, renewals_in(f"{top}/log"), f"{most / 1e6:.1f}", megabytes(service.it.pid, "VmRSS"), megabytes(service.it.pid, "VmHWM")]
+                print("| " + " | ".join(str(it) for it in cells) + " |", flush=True)
+                told_at += EACH_HOURS * 3_600
             time.sleep(0.05)
         churn.join()
         told = clients.communicate()[0].split()
@@ -122,7 +135,7 @@ def main():
             lines = log.read()
         print("| minutes | changes | lists | reports | booked | refused | cut | allocations | renewals | MB of the journal, most | MB now | MB at the most | 50 %, ms | 99 % | 99.9 % | longest | behind, ms |")
         print("|" + "---|" * 17)
-        row = [MINUTES, sources.changes, *told[:5], lines.count("allocation published"), lines.count('the allocator is renewed"'), f"{most / 1e6:.1f}"]
+        row = [MINUTES, sources.changes, *told[:5], lines.count("allocation published"), renewals_in(f"{top}/log"), f"{most / 1e6:.1f}"]
         row += [megabytes(service.it.pid, "VmRSS"), megabytes(service.it.pid, "VmHWM"), *told[5:]]
         print("| " + " | ".join(str(it) for it in row) + " |", flush=True)
         service.it.kill()

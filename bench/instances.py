@@ -22,6 +22,7 @@ Families that are hard for one search after another:
   flat          stairs of 2,047 bins, all rows filled up to one length by full bins whose items cannot move
   ladder        170 full chains of 1 to 170 bins, each with a new item at its foot, so no two ways out are of one length
   sparse-before sparse where each item was in one of its bins
+  sparse-2      sparse with two random bins an item, and so on up to sparse-7; sparse-2-before: with
   sparse-long   the same with some 256 random bins an item, nothing before; sparse-long-before: with
 
 Families of version 2 alone, in which a quarter of the bins drain:
@@ -44,6 +45,8 @@ import random
 import sys
 
 ITEMS, BINS = 16384, 256
+# So few bins an item has in the sparsest families.
+FEW = range(2, 8)
 
 
 def ring(limit):
@@ -186,6 +189,8 @@ def main():
         "flat": lambda: flat(2047),
         "ladder": lambda: ladder(170, 250),
         "sparse-before": lambda: sparse(8, True, seed),
+        **{f"sparse-{count}": lambda count=count: sparse(count, False, seed) for count in FEW},
+        **{f"sparse-{count}-before": lambda count=count: sparse(count, True, seed) for count in FEW},
         "sparse-long": lambda: sparse(256, False, seed),
         "sparse-long-before": lambda: sparse(256, True, seed),
         "draining": lambda: draining(4, 86),
