@@ -2,6 +2,7 @@
 ghost use Rattle.std.specs.Prelude.{IfOk};
 
 use crate::answering::{Answering, Wire};
+use crate::boxed::Boxed;
 use crate::connections::Connections;
 use crate::door::Serving;
 use crate::exchange_service::ExchangeService;
@@ -14,7 +15,7 @@ use bytes::Bytes;
 use http_body_util::Full;
 use hyper::rt::TokioTimer;
 use hyper::server::conn::http1;
-use std::alloc::AllocError;
+use std::alloc::{AllocError, Global};
 use std::io;
 use std::net::SocketAddr;
 use std::rc::Rc;
@@ -27,6 +28,7 @@ use tokio::time::Handle;
 #[derive(Drop)]
 pub(crate) struct Host<'a, R, A: Answering<R>> {
     pub(crate) rt: R,
+    pub(crate) alloc: Global,
     pub(crate) gate: &'a Gate,
     pub(crate) answering: &'a A,
     pub(crate) of_loop: A::OfLoop,
@@ -128,9 +130,11 @@ impl<R: Clock + Copy + Drop, A: Answering<R>> Host<'_, R, A> {
 }
 
 impl<R: Clock + Copy + Drop, A: Answering<R>> Serving for Host<'_, R, A> {
-    type Conn = Timed<
-        http1::Connection<Wire<R>, ExchangeService<A::Service>, Full<Bytes>, TokioTimer<R>>,
-        R,
+    type Conn = Boxed<
+        Timed<
+            http1::Connection<Wire<R>, ExchangeService<A::Service>, Full<Bytes>, TokioTimer<R>>,
+            R,
+        >,
     >;
 
     fn serve(
@@ -157,10 +161,13 @@ impl<R: Clock + Copy + Drop, A: Answering<R>> Serving for Host<'_, R, A> {
         let ends = self.ends(socket, from, &exchanges);
         drop(exchanges);
         match ends {
-            Ok((wire, service)) => Ok(Timed {
-                conn: self.http.serve_connection(wire, service),
-                limits,
-            }),
+            Ok((wire, service)) => {
+                let conn = self.http.serve_connection(wire, service);
+                match Boxed::new(self.alloc, Timed { conn, limits }) {
+                    Ok(conn) => Ok(conn),
+                    Err(error) => Err(error.into()),
+                }
+            }
             Err(error) => {
                 drop(limits);
                 Err(error)

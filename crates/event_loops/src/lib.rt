@@ -5,6 +5,7 @@
 #![tactic(auto)]
 
 mod answering;
+mod boxed;
 mod connections;
 mod door;
 mod exchange_service;

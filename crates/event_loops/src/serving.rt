@@ -91,6 +91,7 @@ where
     match connecting(rt, time) {
         Ok((http, time, connections)) => Ok(Host {
             rt: *rt,
+            alloc: rt.alloc(),
             gate,
             answering,
             of_loop,
